@@ -1,4 +1,5 @@
--- Purged cells: what is later of one cell joined to what is left of another, and cells that are purged twice.
+-- Purged cells: what is later of one cell joined to what is left of another, and cells that are
+-- purged twice.
 use Rattle.std.proofs.Common.{◌≡◌, ℕ, Bool, true, false, not, List, ◌++◌, Option, Some, None, sym, ap, ◌∙◌, arith}
 use Rattle.std.specs.Prelude.{if◌then◌else◌}
 use Rattle.std.specs.FinMap.{get}
@@ -131,7 +132,8 @@ merged_marks t c d m n =
     ∙ ap (maybe later (mark_after_clear e (left t m))) back ∙ sym (kept-later e (left t m) y) ∙ ap (mark_after_clear e) (sym (left-later t m n))
     ∙ sym (left-kept t e (maybe later m y))
 
--- what is left of the marks of one history, with what is later of those of another that it knows up to t
+-- what is left of the marks of one history, with what is later of those of another that it knows up
+-- to t
 pub merged_cells : (t : Stamp) (x y : List AttrMark) → KnowsUpTo t x y
     → join_cells (purged_cell t (cell_of x)) (after_cell t (cell_of y)) ≡ purged_cell t (cell_of (x ++ y))
 merged_cells t x y known =

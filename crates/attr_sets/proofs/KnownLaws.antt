@@ -1,5 +1,5 @@
--- What the items of a list have, joined to what those of another have that has each early item of it: only what is late
--- is taken in. Of any items, and of any joins that know early values.
+-- What the items of a list have, joined to what those of another have that has each early item of
+-- it: only what is late is taken in. Of any items, and of any joins that know early values.
 use Rattle.std.proofs.Common.{◌≡◌, Bool, true, false, List, [], ◌∷◌, Option, Some, None, refl, sym, ap, ◌∙◌}
 use Rattle.std.specs.Prelude.{if◌then◌else◌}
 use Rattle.std.specs.Option.{option_and_then}
@@ -22,7 +22,7 @@ module _ {A X : Type 0} {f : X → X → X} (s : IsSemilattice f) (g : A → Opt
   abbrev pub late : Option X → Option X
   late = option_and_then (λ x. if early x then None else Some x)
 
-  -- each early item of xs stands in ys
+  -- each early item of xs is in ys
   abbrev pub Knows : List A → List A → Type 0
   Knows ys xs = (a : A) → Contains xs a → (x : X) → g a ≡ Some x → early x ≡ true → Contains ys a
 

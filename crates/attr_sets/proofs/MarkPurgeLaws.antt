@@ -1,4 +1,5 @@
--- What is left of marks and clears up to a stamp, and what of them is later: over any order, and then at stamps.
+-- What is left of marks and clears up to a stamp, and what of them is later: over any order, and
+-- then at stamps.
 use Rattle.std.proofs.Common.{◌≡◌, Bool, true, false, not, Option, Some, None, refl, sym, ap, ◌∙◌, arith}
 use Rattle.std.specs.Prelude.{◌||◌, if◌then◌else◌}
 use Rattle.std.specs.Option.{option_and_then}

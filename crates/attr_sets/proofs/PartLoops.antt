@@ -1,5 +1,6 @@
--- Loops that put a part of one map into another, of each entry what g gives at its key, if anything; and loops that ask
--- whether g gives each value whole, or whether each value is valid. Of any keys in an exact total order and any values.
+-- Loops that put a part of one map into another, of each entry what g gives at its key, if
+-- anything; and loops that ask whether g gives each value whole, or whether each value is valid. Of
+-- any keys in an exact total order and any values.
 use Rattle.std.proofs.Common.{◌≡◌, ◌↔◌, Bool, true, false, cond, List, [], ◌∷◌, Option, Some, None, refl, sym, ap, subst, ◌∙◌}
 use Rattle.std.specs.Prelude.{IfSome, if◌then◌else◌}
 use Rattle.std.specs.declared.cmp.Ordering.{Ordering}

@@ -1,4 +1,5 @@
--- The values that are present in maps of marks: maps with the same present marks show the same values, as a purged cell does.
+-- The values that are present in maps of marks: maps with the same present marks show the same
+-- values, as a purged cell does.
 use Rattle.std.proofs.Common.{◌≡◌, ℕ, Bool, true, false, List, Option, Some, None, sym, ap, ◌∙◌}
 use Rattle.std.specs.Prelude.{◌||◌, not, if◌then◌else◌}
 use Rattle.std.specs.FinMap.{get, entries}

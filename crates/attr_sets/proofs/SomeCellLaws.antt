@@ -1,4 +1,5 @@
--- Cells that have a clear or a value, as entries hold them: the laws of purged cells, where a cell may be missing.
+-- Cells that have a clear or a value, as entries hold them: the laws of purged cells, where a cell
+-- may be missing.
 use Rattle.std.proofs.Common.{◌≡◌, Bool, true, false, List, [], ◌∷◌, ◌++◌, Option, Some, None, refl, sym, ap, subst, ◌∙◌, ◌⊎◌, inl, inr, ⊎_elim}
 use Rattle.std.proofs.Common.{is_eq, arith}
 use Rattle.std.specs.Prelude.{◌≢◌, not, IfSome, if◌then◌else◌}
@@ -257,7 +258,8 @@ pub cell_after-left_by : (s : Option Stamp) (t : Stamp) (a : AttrCell) → maybe
 cell_after-left_by None t a order = cell_after-some t a
 cell_after-left_by (Some s) t a order = ap (option_and_then (cell_after t)) (cell_left-some s a) ∙ cell_after-left s t a (not_later s t order)
 
--- what is left of the marks of one history, with what is later of those of another that it knows up to t
+-- what is left of the marks of one history, with what is later of those of another that it knows up
+-- to t
 pub merged_some : (s : Option Stamp) (t : Stamp) (x y : List AttrMark) → maybe later_stamp s (Some t) ≡ Some t → KnowsUpTo t x y
     → maybe join_cells (option_and_then (cell_left t) (some_cell (cell_of x))) (option_and_then (cell_after t) (left_by s (some_cell (cell_of y))))
     ≡ option_and_then (cell_left t) (some_cell (cell_of (x ++ y)))

@@ -187,7 +187,7 @@ both_ways : {A B C : Type 0} → A ↔ B → B ↔ C → A ↔ C
 both_ways p q = (λ a. q.0 (p.0 a), λ c. p.1 (q.1 c))
 
 module _ (h : List AttrMark) (v : List ℕ) (s : Stamp) (before : IsBefore h s) (w : List ℕ) where
-  -- behind an addition the value shows, and what showed
+  -- after an addition the value shows, and what showed
   pub shown_values-added : Contains (shown_values (h ++ Marked v (record { present = true; stamp = s }) ∷ [])) w ↔ ((w ≡ v) ⊎ Contains (shown_values h) w)
   shown_values-added =
       both_ways (shown_values-are (h ++ Marked v (record { present = true; stamp = s }) ∷ []) w)
@@ -197,17 +197,17 @@ module _ (h : List AttrMark) (v : List ℕ) (s : Stamp) (before : IsBefore h s) 
         ⊎_elim inl (λ shown. inr ((shown_values-are h w).0 shown)),
       ))
 
-  -- behind a removal the value does not show
+  -- after a removal the value does not show
   pub shown_values-removed : Contains (shown_values (h ++ Marked v
       (record { present = false; stamp = s }) ∷ [])) w ↔ (((w ≡ v) → ⊥) × Contains (shown_values h) w)
   shown_values-removed =
       both_ways (shown_values-are (h ++ Marked v (record { present = false; stamp = s }) ∷ []) w)
       (both_ways (shown_removed h v s before w) (λ p. (p.0, (shown_values-are h w).1 p.1), λ p. (p.0, (shown_values-are h w).0 p.1)))
 
-  -- behind a put the value shows alone
+  -- after a put the value shows alone
   pub shown_values-put : Contains (shown_values (h ++ Cleared s ∷ Marked v (record { present = true; stamp = s }) ∷ [])) w ↔ (w ≡ v)
   shown_values-put = both_ways (shown_values-are (h ++ Cleared s ∷ Marked v (record { present = true; stamp = s }) ∷ []) w) (shown_put h v s before w)
 
-  -- behind a clear nothing shows
+  -- after a clear nothing shows
   pub shown_values-cleared : Contains (shown_values (h ++ Cleared s ∷ [])) w → ⊥
   shown_values-cleared c = shown_cleared h v s before w ((shown_values-are (h ++ Cleared s ∷ []) w).0 c)

@@ -1,4 +1,5 @@
--- What is known of one attribute of one entry, the cell that it makes, and the values that show (own, after C705, attributes and their timestamps).
+-- What is known of one attribute of one entry, the cell that it makes, and the values that show
+-- (own, after C705, attributes and their timestamps).
 use Rattle.std.specs.Prelude.{[], ◌∷◌, ◌≡◌, ◌≢◌, ℕ, List, Option, Some, None, if◌then◌else◌, refl}
 use Rattle.std.specs.FinMap.{FinMap, get, empty, entries, code}
 use Rattle.std.specs.Coded.{Coded, code_by, coded×, coded_option}
@@ -54,7 +55,8 @@ abbrev pub present_in : List (List ℕ × ValueMark) → List (List ℕ)
 present_in [] = []
 present_in (e ∷ es) = if e.1.present then e.0 ∷ present_in es else present_in es
 
--- the values that show, ascending: those whose greatest mark is present and not earlier than any clear (own, after C705, present and absent values)
+-- the values that show, ascending: those whose greatest mark is present and not earlier than any
+-- clear (own, after C705, present and absent values)
 abbrev pub shown_values : List AttrMark → List (List ℕ)
 shown_values h = present_in (entries (marks_kept h))
 
@@ -80,7 +82,8 @@ join_cells a b =
 abbrev pub IsValidCell : AttrCell → Type 0
 IsValidCell a = (v : List ℕ) → mark_after_clear a.cleared (get a.values v) ≡ get a.values v
 
--- n is a, valid or not, with b joined in: where the clear of a stays its own marks stay too, and a later clear leaves the join (own)
+-- n is a, valid or not, with b joined in: where the clear of a stays its own marks stay too, and a
+-- later clear leaves the join (own)
 abbrev pub TakesCell : AttrCell → AttrCell → AttrCell → Type 0
 TakesCell a b n =
     let c = maybe later_stamp a.cleared b.cleared in

@@ -14,7 +14,8 @@ change_marks (Remove v) s = Marked v.now (absent_at s) ∷ []
 change_marks (Put v) s = Cleared s ∷ Marked v.now (present_at s) ∷ []
 change_marks Clear s = Cleared s ∷ []
 
--- n is a, valid or not, with a change of this stamp: one mark more, unless it is earlier than the clear; or the join with a clear (own)
+-- n is a, valid or not, with a change of this stamp: one mark more, unless it is earlier than the
+-- clear; or the join with a clear (own)
 abbrev pub ChangesCell : CellChange → Stamp → AttrCell → AttrCell → Type 0
 ChangesCell (Add v) s a n = (n.cleared ≡ a.cleared) × RaisesKept a.cleared a.values n.values v.now (present_at s)
 ChangesCell (Remove v) s a n = (n.cleared ≡ a.cleared) × RaisesKept a.cleared a.values n.values v.now (absent_at s)

@@ -1,4 +1,5 @@
--- What is left of a cell when deletions up to a stamp are dropped, and what of it is later than the stamp (own, after C705, skulks and AllUpTo).
+-- What is left of a cell when deletions up to a stamp are dropped, and what of it is later than the
+-- stamp (own, after C705, skulks and AllUpTo).
 use Rattle.std.specs.Prelude.{Bool, true, not, ◌&&◌, ◌||◌, ◌==◌, Option, Some, None, is_none, IfSome, if◌then◌else◌, ◌≡◌}
 use Rattle.std.specs.FinMap.{len}
 use Rattle.std.specs.Option.{option_and_then}

@@ -1,4 +1,5 @@
--- Which values of an attribute show, said of the marks of its history one by one (own, after C705, present and absent values).
+-- Which values of an attribute show, said of the marks of its history one by one (own, after C705,
+-- present and absent values).
 use Rattle.std.specs.Prelude.{◌≡◌, ℕ, true, false, List}
 use Rattle.std.specs.List.{Contains}
 use Rattle.std.specs.Ordering.{is_lt}
@@ -17,7 +18,8 @@ pub record IsGreatestMark (h : List AttrMark) (v : List ℕ) (m : ValueMark) : T
 abbrev pub IsUncleared : List AttrMark → Stamp → Type 0
 IsUncleared h s = (c : Stamp) → Contains h (Cleared c) → is_earlier s c ≡ false
 
--- the greatest mark of the value is present, and not earlier than any clear (own, after C705, present and absent values)
+-- the greatest mark of the value is present, and not earlier than any clear (own, after C705,
+-- present and absent values)
 pub record IsShown (h : List AttrMark) (v : List ℕ) : Type 0 where
   pub mark : ValueMark
   pub greatest : IsGreatestMark h v mark

@@ -1,4 +1,5 @@
--- Octets that are values of attributes, and the fault of those that are none (own, after C705, attribute values).
+-- Octets that are values of attributes, and the fault of those that are none (own, after C705,
+-- attribute values).
 use Rattle.std.specs.Prelude.{ℕ, ◌||◌, ◌==◌, nat_lt, List, length, Option, Some, None, if◌then◌else◌}
 use Rattle.attr_sets.specs.declared.value.ValueFault.{ValueFault}
 use Rattle.attr_sets.specs.declared.value.ValueFault.TheVariants.{BadSize}

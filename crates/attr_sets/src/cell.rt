@@ -118,7 +118,8 @@ impl AttrCell {
         )
     }
 
-    /// Adds a clear and a present mark of a value with one stamp, in place: the value alone is left of what was before.
+    /// Adds a clear and a present mark of a value with one stamp, in place: the value alone is left
+    /// of what was before.
     pub fn put(&mut self, alloc: Global, value: &Value, stamp: Stamp) -> Result<(), AllocError>
         ensures ok { OnOk result
             (self.new ≡ join_cells self.old
@@ -173,8 +174,8 @@ impl AttrCell {
         Ok(cell)
     }
 
-    /// Whether joining another cell in changes nothing, where this one is valid. It takes no memory. Where it is false, the
-    /// join may change nothing all the same.
+    /// Whether joining another cell in changes nothing, where this one is valid. It takes no
+    /// memory. Where it is false, the join may change nothing all the same.
     pub fn outdates(&self, other: &AttrCell) -> bool
         ensures { IsTrue result → IsValidCell self.now → join_cells self.now other.now ≡ self.now }
     {
@@ -184,8 +185,8 @@ impl AttrCell {
         false
     }
 
-    /// Joins another cell in. What takes it back. A later clear has no cell to be put back into: then the old cell is
-    /// kept whole, and the marks that the clear leaves of it are copied.
+    /// Joins another cell in. What takes it back. A later clear has no cell to be put back into:
+    /// then the old cell is kept whole, and the marks that the clear leaves of it are copied.
     pub fn join_logged(&mut self, alloc: Global, other: &AttrCell) -> Result<CellUndo, AllocError>
         ensures ok { OnOk result (IsValidCell self.old → self.new ≡ join_cells self.old other.now) }
         ensures any { OnOk result (TakesCell self.old other.now self.new) }
@@ -220,7 +221,8 @@ impl AttrCell {
         }
     }
 
-    /// Drops the clear and the absent marks that are stamped at most t, in place and with no memory.
+    /// Drops the clear and the absent marks that are stamped at most t, in place and with no
+    /// memory.
     pub fn drop_up_to(&mut self, t: Stamp)
         ensures { self.new ≡ purged_cell t self.old }
     {

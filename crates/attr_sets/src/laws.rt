@@ -23,7 +23,8 @@ pub fn cells_are_valid()
     ensures { (h : List AttrMark) → IsValidCell (cell_of h) }
 {}
 
-/// A cell has neither a clear nor a mark exactly where it is the empty one, which is that of no history.
+/// A cell has neither a clear nor a mark exactly where it is the empty one, which is that of no
+/// history.
 pub fn empty_cells_are_one()
     ensures one { (a : AttrCell) → IsTrue (is_empty_cell a) ↔ (a ≡ empty_cell) }
     ensures of_nothing { cell_of [] ≡ empty_cell }
@@ -39,8 +40,9 @@ pub fn shown_values_ascend()
     ensures { (h : List AttrMark) → IsStrictlySortedBy octets_cmp (shown_values h) }
 {}
 
-/// An update that is later than all before shows at once: an added value shows, a removed one doesn't, a put one shows
-/// alone, and after a clear none does. The other values show as before an addition and a removal.
+/// An update that is later than all before shows at once: an added value shows, a removed one
+/// doesn't, a put one shows alone, and after a clear none does. The other values show as before an
+/// addition and a removal.
 pub fn later_updates_show()
     ensures added { (h : List AttrMark) (v : List ℕ) (s : Stamp) → IsBefore h s →
         (w : List ℕ)
@@ -57,8 +59,8 @@ pub fn later_updates_show()
         → ¬ Contains (shown_values (h ++ Cleared s ∷ [])) w }
 {}
 
-/// What is left of a cell up to t, joined with what is later of the cell of a history of which it has all marks up to t,
-/// is what is left of the cell of both histories.
+/// What is left of a cell up to t, joined with what is later of the cell of a history of which it
+/// has all marks up to t, is what is left of the cell of both histories.
 pub fn purged_cells_merge()
     ensures { (t : Stamp) (g h : List AttrMark)
         → ((m : AttrMark) → Contains h m → is_up_to t (attr_stamp m) ≡ true → Contains g m) →

@@ -45,7 +45,8 @@ impl Model for ValueMap {
     ghost view = { λ m. map.from_entries m.marks };
 }
 
-/// What takes changes of a map of marks back: each value that was changed, and the mark that it had, if any.
+/// What takes changes of a map of marks back: each value that was changed, and the mark that it
+/// had, if any.
 #[derive(Drop)]
 pub struct MarkLog {
     changes: Vec<(Value, Option<ValueMark>)>,
@@ -241,7 +242,8 @@ impl ValueMap {
         self.outdates(value, mark)
     }
 
-    /// Whether joining the marks of another map in that are not earlier than the clear changes nothing.
+    /// Whether joining the marks of another map in that are not earlier than the clear changes
+    /// nothing.
     pub(crate) fn outdates_all(&self, other: &ValueMap, clear: &Option<Stamp>) -> bool
         ensures { IsTrue result → JoinsKept clear.now self.now self.now other.now }
     {
@@ -276,7 +278,8 @@ impl ValueMap {
         Ok(())
     }
 
-    /// Joins the marks of another map in that are not earlier than the clear, each logged before the next one.
+    /// Joins the marks of another map in that are not earlier than the clear, each logged before
+    /// the next one.
     fn raise_all_logged(
         &mut self,
         alloc: Global,
@@ -293,8 +296,8 @@ impl ValueMap {
         Ok(())
     }
 
-    /// Joins the marks of another map in that are not earlier than the clear. For a map that is let go after an Err,
-    /// since it keeps what was joined till then.
+    /// Joins the marks of another map in that are not earlier than the clear. For a map that is let
+    /// go after an Err, since it keeps what was joined till then.
     pub(crate) fn raise_all(
         &mut self,
         alloc: Global,
@@ -328,7 +331,8 @@ impl ValueMap {
         Ok(MarkLog { changes })
     }
 
-    /// Joins the marks of another map in that are not earlier than the clear; of one mark with no log.
+    /// Joins the marks of another map in that are not earlier than the clear; of one mark with no
+    /// log.
     pub(crate) fn join(
         &mut self,
         alloc: Global,

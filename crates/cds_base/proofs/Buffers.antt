@@ -6,7 +6,7 @@ use Rattle.std.proofs.Math.Seq.{take-add, take-nil}
 abbrev between : List ℕ → ℕ → ℕ → List ℕ
 between xs a b = take (b - a) (drop a xs)
 
--- what stands before end is the same
+-- what is before end is the same
 pub between_kept : (old new : List ℕ) (start end : ℕ) → start ≤ end → take end new ≡ take end old → between new start end ≡ between old start end
 between_kept old new start end le same =
     let k = end - start in
@@ -14,7 +14,7 @@ between_kept old new start end le same =
     let P : ℕ → Type 0 = λ e. take e new ≡ take e old in
     sym (drop-take start k new) ∙ ap (drop start) (subst P (sym sum) same) ∙ drop-take start k old
 
--- n more behind the end
+-- n more after the end
 pub between_more : (old new : List ℕ) (start end n : ℕ) → start ≤ end → take end new ≡ take end old
     → between new start (end + n) ≡ between old start end ++ between new end (end + n)
 between_more old new start end n le same =
@@ -28,7 +28,7 @@ between_more old new start end n le same =
     ∙ ap (λ (l : List ℕ). between old start end ++ take n l) (drop-drop k start new ∙ ap (λ (i : ℕ). drop i new) seam)
     ∙ ap (λ (i : ℕ). between old start end ++ take i (drop end new)) near
 
--- what is between the places behind the first n
+-- what is between the places after the first n
 pub between_behind : (xs : List ℕ) (start end n : ℕ) → between xs (start + n) end ≡ drop n (between xs start end)
 between_behind xs start end n = ap (λ (l : List ℕ). take (end - (start + n)) l) (sym (drop-drop n start xs))
     ∙ behind n (end - start) (end - (start + n)) (drop start xs) (omega arith)

@@ -20,12 +20,12 @@ keeps_more (Some p) (Some q) (Some r) first second = second ∙ first
 
 -- ---- octets written
 
--- what is known of a sink is itself with no octets more behind it
+-- what is known of a sink is itself with no octets more after it
 pub appends_none : (known : Option (List ℕ)) → Appends known known []
 appends_none None = tt
 appends_none (Some xs) = sym (append-nil xs)
 
--- what a sink takes in two turns stands in it one behind the other
+-- what a sink takes in two turns is in it one after the other
 pub appends_more : (a b c : Option (List ℕ)) (xs ys : List ℕ) → Appends a b xs → Appends b c ys → Appends a c (xs ++ ys)
 appends_more None b c xs ys first second = tt
 appends_more (Some p) None c xs ys first second = absurd first
@@ -56,7 +56,7 @@ pub consumes_self : (known : Option (List ℕ)) → Consumes known known []
 consumes_self None = tt
 consumes_self (Some xs) = refl
 
--- what is read of a source in two turns stood at its front one behind the other
+-- what is read of a source in two turns stood at its front one after the other
 pub consumes_more : (a b c : Option (List ℕ)) (xs ys : List ℕ) → Consumes a b xs → Consumes b c ys → Consumes a c (xs ++ ys)
 consumes_more None b c xs ys first second = tt
 consumes_more (Some p) None c xs ys first second = absurd first
@@ -103,7 +103,7 @@ grows_more a b c xs ys zs first second = record {
   grown = second.grown ∙ ap (λ (l : List ℕ). l ++ second.read) first.grown ∙ append_assoc xs first.read second.read;
 }
 
--- what stands in front and is taken off was the front of what was held and what was left
+-- what is in front and is taken off was the front of what was held and what was left
 pub grows_consumes : (left left' : Option (List ℕ)) (held held' front : List ℕ) → GrowsByReading left left' held (front ++ held')
     → Consumes (prepend_known held left) (prepend_known held' left') front
 grows_consumes None left' held held' front grows = tt

@@ -65,7 +65,7 @@ clean_front number place (suc k) (b ∷ bs) front few room =
     let here = sound number place b passes (omega arith) (few (omega arith)) in
     (here.0, here.1, clean_front number (place + 1) k bs more (λ _. few (omega arith)) (omega arith))
 
--- octets that come behind make no fewer printable ones stand in front
+-- octets that come after make no fewer printable ones stand in front
 pub prefix_len-grows : (xs ys : List ℕ) → prefix_len is_printable xs ≤ prefix_len is_printable (xs ++ ys)
 prefix_len-grows [] ys = omega arith
 prefix_len-grows (b ∷ bs) ys =
@@ -114,7 +114,7 @@ pub few_when_some : (n number : ℕ) → (0 < n × number ≤ 16777216) ⊎ (n �
 few_when_some n number (inl both) some = both.1
 few_when_some n number (inr none) some = absurd (omega arith)
 
--- the octets before k, the one there and those behind it
+-- the octets before k, the one there and those after it
 split_at : (xs : List ℕ) (k : ℕ) → k < length xs → xs ≡ take k xs ++ get_or xs k 0 ∷ drop (k + 1) xs
 split_at xs k lt = sym (take-append-drop k xs) ∙ ap (λ (l : List ℕ). take k xs ++ l) (drop_more xs k 0 lt)
 
@@ -157,7 +157,7 @@ module _ (number : ℕ) (xs : List ℕ) where
       take_whole (suc n) [] e = absurd (omega arith)
       take_whole (suc n) (b ∷ bs) e = ap (λ (l : List ℕ). b ∷ l) (take_whole n bs (omega arith))
 
-  -- behind the printable front stands one that is not
+  -- after the printable front is one that is not
   module _ (n : ℕ) (is : n ≡ prefix_len is_printable xs) (within : n < length xs) (short : n ≤ 4096) (few : 0 < n → number ≤ 16777216) where
     front_clean : AreClean number 1 (take n xs)
     front_clean = clean_front number 1 n xs (omega arith) few (omega arith)
@@ -171,12 +171,12 @@ module _ (number : ℕ) (xs : List ℕ) where
         let none : n ≡ 0 = elim (zero_or n) [ inl z ↦ z | inr some ↦ absurd (omega (arith, few some, many)) ] in
         shows 0 (TooManyLines number 1) (omega arith) tt (ap (fault_at number 1) (ap (λ (k : ℕ). get_or xs k 0) (sym none) ∙ end) ∙ too_many_ends number 1 many)
 
-    -- a line end behind printable octets
+    -- a line end after printable octets
     pub sees_line : get_or xs n 0 ≡ 10 → number ≤ 16777216 → BeginsWithLine number (take n xs) (drop (n + 1) xs) xs
     sees_line end ok =
         (split_at xs n within ∙ ap (λ (b : ℕ). take n xs ++ b ∷ drop (n + 1) xs) end, (front_clean, ends_here number (length (take n xs) + 1) ok))
 
-    -- the octet behind the longest line is no line end
+    -- the octet after the longest line is no line end
     pub sees_too_long : n ≡ 4096 → get_or xs n 0 ≢ 10 → ShowsFault number (LineTooLong number 4097) xs
     sees_too_long at ne =
         let place : n + 1 ≡ 4097 = omega (arith, at) in

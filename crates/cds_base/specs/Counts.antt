@@ -6,11 +6,12 @@ use Rattle.std.specs.declared.result.Result.{Result}
 abbrev pub next_count : ℕ → ℕ
 next_count count = min (count + 1) (2 ^ 64 - 1)
 
--- the count rose, or stands at the greatest u64, where it can't rise
+-- the count rose, or is at the greatest u64, where it can't rise
 abbrev pub Rose : ℕ → ℕ → Type 0
 Rose before now = next_count before ≤ now
 
--- a call's error comes only where the count of failures rose, and its answer leaves that count as it was
+-- a call's error comes only where the count of failures rose, and its answer leaves that count as
+-- it was
 pub record HasCause {T E : Type 0} (before now : ℕ) (result : Result T E) : Type 0 where
   pub later : before ≤ now
   pub answered : OnOk result (now ≡ before)

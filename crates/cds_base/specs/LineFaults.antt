@@ -1,5 +1,5 @@
--- Lines of a script, and the faults that octets show in them. Own.
--- A line is at most 4,096 octets from 0x20 to 0x7E and its end 0x0A; there are at most 16,777,216 lines.
+-- Lines of a script, and the faults that octets show in them. Own. A line is at most 4,096 octets
+-- from 0x20 to 0x7E and its end 0x0A; there are at most 16,777,216 lines.
 use Rattle.std.specs.Prelude.{◌≡◌, ◌≢◌, ℕ, ◌+◌, ◌≤◌, ◌<◌, List, [], ◌∷◌, ◌++◌, length, Bool, nat_lt}
 use Rattle.std.specs.Prelude.{◌==◌, ◌&&◌, if◌then◌else◌, None, Some, take, drop}
 use Rattle.std.specs.declared.option.Option.{Option}
@@ -30,7 +30,7 @@ AreClean number place (octet ∷ octets) = (octet ≢ 10) × (fault_at number pl
 abbrev pub IsLine : ℕ → List ℕ → Type 0
 IsLine number octets = AreClean number 1 octets × (fault_at number (length octets + 1) 10 ≡ None)
 
--- the octets show this fault: clean octets come first, and the one behind them is at fault
+-- the octets show this fault: clean octets come first, and the one after them is at fault
 pub record ShowsFault (number : ℕ) (fault : LineFault) (octets : List ℕ) : Type 0 where
   pub front : List ℕ
   pub octet : ℕ
@@ -43,7 +43,7 @@ pub record ShowsFault (number : ℕ) (fault : LineFault) (octets : List ℕ) : T
 abbrev pub BeginsWithLine : ℕ → List ℕ → List ℕ → List ℕ → Type 0
 BeginsWithLine number line rest octets = (octets ≡ line ++ 10 ∷ rest) × IsLine number line
 
--- a line end or a fault stands among the first octets of line number
+-- a line end or a fault is among the first octets of line number
 abbrev pub ShowsAnswer : ℕ → List ℕ → Type 0
 ShowsAnswer number octets = ¬ (AreClean number 1 octets)
 

@@ -39,7 +39,8 @@ pub record IsFresh (lines : Lines) : Type 0 where
   pub number : lines_so_far lines ≡ 0
   pub fault : fault_of_lines lines ≡ None
 
--- the next answer is known without the source: a fault is kept, or the octets held show a line or a fault
+-- the next answer is known without the source: a fault is kept, or the octets held show a line or a
+-- fault
 abbrev pub IsReady : Lines → Type 0
 IsReady lines = IsSome (fault_of_lines lines) ⊎ ShowsAnswer (lines_so_far lines + 1) (octets_ahead lines)
 
@@ -53,8 +54,8 @@ HasFault number octets left (NoLineEnd n place) =
     IsAtEnd left × AreClean number 1 octets × (0 < length octets) × (n ≡ number) × (place ≡ length octets + 1)
 HasFault number octets left fault = ShowsFault number fault octets
 
--- the answer about line number, by the octets held and left before and after it: a line and its end are
--- taken off in front; nothing is left; or there is a fault
+-- the answer about line number, by the octets held and left before and after it: a line and its end
+-- are taken off in front; nothing is left; or there is a fault
 abbrev pub Answers : ℕ → Option (List ℕ) → Option (List ℕ) → List ℕ → List ℕ → Result (Option (ℕ × List ℕ)) LineFault → Type 0
 Answers number left left' octets octets' (Ok (Some line)) =
     (line.0 ≡ number) × IsLine number line.1 × GrowsByReading left left' octets ((line.1 ++ 10 ∷ []) ++ octets')
@@ -73,7 +74,7 @@ given_after number (Ok (Some line)) = number + 1
 given_after number (Ok None) = number
 given_after number (Err fault) = number
 
--- the fault that is kept behind a call (own)
+-- the fault that is kept after a call
 abbrev pub kept_after : Result (Option (ℕ × List ℕ)) LineFault → Option LineFault
 kept_after (Ok value) = None
 kept_after (Err fault) = Some fault
@@ -86,13 +87,15 @@ pub record IsNext (left left' : Option (List ℕ)) (old new : Lines) (result : R
 
 -- ---- the search for the next line
 
--- what is found of line number in the octets held: the length of a whole line, none at the end, or a fault
+-- what is found of line number in the octets held: the length of a whole line, none at the end, or
+-- a fault
 abbrev pub FindsLine : ℕ → List ℕ → Option (List ℕ) → Result (Option ℕ) LineFault → Type 0
 FindsLine number octets left (Ok (Some n)) = (n < length octets) × BeginsWithLine number (take n octets) (drop (n + 1) octets) octets
 FindsLine number octets left (Ok None) = (octets ≡ []) × IsAtEnd left
 FindsLine number octets left (Err fault) = HasFault number octets left fault
 
--- what is found where the input ends and the octets held are clean: nothing, or a line without its end
+-- what is found where the input ends and the octets held are clean: nothing, or a line without its
+-- end
 abbrev pub EndsInput : ℕ → List ℕ → Result (Option ℕ) LineFault → Type 0
 EndsInput number octets (Ok (Some n)) = ⊥
 EndsInput number octets (Ok None) = octets ≡ []

@@ -1,8 +1,8 @@
 -- What a source and a sink over memory are to their callers. Own.
 use Rattle.std.specs.Prelude.{ℕ, List}
 
--- a source over memory: the octets still to come, the numbers of the calls that fail, counted from 1,
--- the most octets that one read gives, the calls so far, and how many of them failed
+-- a source over memory: the octets still to come, the numbers of the calls that fail, counted from
+-- 1, the most octets that one read gives, the calls so far, and how many of them failed
 pub record MemorySource : Type 0 where
   pub left : List ℕ
   pub failing : List ℕ

@@ -82,7 +82,7 @@ impl Buffer {
         self.start += n;
     }
 
-    // Moves the octets to the front, where there is no room behind them.
+    // Moves the octets to the front, where there is no room after them.
     fn make_room(&mut self)
         requires { length (octets_in self.old) < room_of self.old }
         ensures same { octets_in self.new ≡ octets_in self.old }

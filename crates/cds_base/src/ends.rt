@@ -20,8 +20,8 @@ pub trait Source {
     /// How often it has failed.
     ghost faults: { Self → ℕ };
 
-    /// Puts the next octets into the front of `buf`, and answers how many. 0 for a `buf` that is not
-    /// empty is the end of the input. A read that failed took no octet.
+    /// Puts the next octets into the front of `buf`, and answers how many. 0 for a `buf` that is
+    /// not empty is the end of the input. A read that failed took no octet.
     fn read(&mut self, buf: &mut [u8]) -> Result<usize, Failed>
         ensures bound { ReadsAtMost result buf.new }
         ensures bytes { ReadConsumes (left self.old) (left self.new) result buf.new }

@@ -3,7 +3,8 @@ ghost use Rattle.std.specs.Prelude.{◌≡◌};
 
 use crate::{LONGEST_LINE, MOST_HELD, MOST_LINES};
 
-/// The limits of lines: octets of the longest line, lines, and octets held of lines that were not given yet.
+/// The limits of lines: octets of the longest line, lines, and octets held of lines that were not
+/// given yet.
 pub fn limits_of_lines()
     ensures longest { LONGEST_LINE ≡ 4096 }
     ensures most { MOST_LINES ≡ 16777216 }

@@ -1,5 +1,5 @@
-//! What a program reads from and writes to, each with a count of its failures, readers over it (lines, and a window of octets),
-//! and the words of its command line.
+//! What a program reads from and writes to, each with a count of its failures, readers over it
+//! (lines, and a window of octets), and the words of its command line.
 #![tactic(auto)]
 
 mod buffer;

@@ -78,7 +78,8 @@ impl Lines {
         scan(self.number + 1, self.buffer.octets(), self.printable)
     }
 
-    /// The next line, or nothing at the end of the input. After a fault each later call answers it again.
+    /// The next line, or nothing at the end of the input. After a fault each later call answers it
+    /// again.
     pub fn next<S: Source>(&mut self, source: &mut S) -> Result<Option<Line<'_>>, LineFault>
         ensures* after { sem 𝓛 (LeavesNext S.left S.faults self.entry source.old source.new
             (seen_line result)) }

@@ -33,8 +33,8 @@ impl Model for MemSource {
 }
 
 impl MemSource {
-    /// A source that gives these octets, at most `most` of them a read. Its calls are counted from 1, and
-    /// those whose numbers are in `failing` fail.
+    /// A source that gives these octets, at most `most` of them a read. Its calls are counted from
+    /// 1, and those whose numbers are in `failing` fail.
     pub fn new(octets: Vec<u8>, failing: Vec<u64>, most: usize) -> Self
         requires { 0 < most }
         ensures { result ≡ record { left = octets.items; failing = failing.items; most = most; calls = 0; faults = 0 } }
@@ -114,8 +114,9 @@ impl Model for MemSink {
 }
 
 impl MemSink {
-    /// A sink with room for this many octets, which takes at most `most` of them a write. Its calls are
-    /// counted from 1, and those whose numbers are in `failing` fail. All its memory is taken here.
+    /// A sink with room for this many octets, which takes at most `most` of them a write. Its calls
+    /// are counted from 1, and those whose numbers are in `failing` fail. All its memory is taken
+    /// here.
     pub fn new(
         alloc: Global,
         room: usize,

@@ -15,8 +15,8 @@ pub const MOST_LINES: u32 = 16_777_216;
 // Octets that are looked at together.
 const STRIDE: usize = 16;
 
-/// Why there is no next line: the number of the line that is at fault, and the place of the octet at
-/// fault in it, both counted from 1.
+/// Why there is no next line: the number of the line that is at fault, and the place of the octet
+/// at fault in it, both counted from 1.
 #[derive(Clone, Copy, Debug, PartialEq, Eq, Error)]
 pub enum LineFault {
     /// Octet 4,097 of a line is no line end.
@@ -25,7 +25,7 @@ pub enum LineFault {
     /// An octet among the first 4,096 is outside 0x20 to 0x7E and no line end.
     #[error("line {0} is not ASCII at octet {1}")]
     NotAscii(u32, usize),
-    /// The input ends within a line: the place is the one behind its last octet.
+    /// The input ends within a line: the place is the one after its last octet.
     #[error("line {0} has no line end at octet {1}")]
     NoLineEnd(u32, usize),
     /// Line 16,777,217 has an octet.
@@ -51,8 +51,8 @@ fn may_stand(octet: u8) -> bool
     matches!(octet, b' '..=b'~')
 }
 
-// Whether the printable octets in front go on through the next STRIDE ones. No octet ends the loop, so several are looked at
-// together.
+// Whether the printable octets in front go on through the next STRIDE ones. No octet ends the loop,
+// so several are looked at together.
 fn goes_on(octets: &[u8], len: usize) -> bool
     requires front { len ≤ prefix_len is_printable octets.now }
     requires room { len + STRIDE ≤ length octets.now }
@@ -80,7 +80,7 @@ pub(crate) fn printable_len(octets: &[u8], known: usize) -> usize
     len
 }
 
-/// Looks for the end or the first fault of line `number`, behind its printable octets.
+/// Looks for the end or the first fault of line `number`, after its printable octets.
 pub(crate) fn scan(number: u32, octets: &[u8], printable: usize) -> Seen
     requires { printable ≡ prefix_len is_printable octets.now }
     ensures { Sees number octets.now result }

@@ -52,8 +52,8 @@ impl<R: Read> Source for StdSource<R> {
     }
 }
 
-/// A writer as a sink. It tells the octets written where the writer does. A write that takes no octet
-/// of a piece that is not empty is a failure.
+/// A writer as a sink. It tells the octets written where the writer does. A write that takes no
+/// octet of a piece that is not empty is a failure.
 #[derive(Drop)]
 pub struct StdSink<W: Write> {
     writer: W,

@@ -25,7 +25,8 @@ impl Model for Window {
 }
 
 impl Window {
-    /// An empty window with room for this many octets, from 1 to 2^24 + 1. All its memory is taken here.
+    /// An empty window with room for this many octets, from 1 to 2^24 + 1. All its memory is taken
+    /// here.
     pub fn new(alloc: Global, room: usize) -> Result<Window, AllocError>
         requires some { 1 ≤ room }
         requires few { room ≤ 16777217 }
@@ -36,9 +37,9 @@ impl Window {
         })
     }
 
-    /// Reads until the window is full or the input ends, and answers whether it ended. After a failed
-    /// read the octets that came before it are held, and the next call goes on behind them. A window
-    /// that is full is not read into.
+    /// Reads until the window is full or the input ends, and answers whether it ended. After a
+    /// failed read the octets that came before it are held, and the next call goes on after them. A
+    /// window that is full is not read into.
     pub fn fill<S: Source>(&mut self, source: &mut S) -> Result<bool, Failed>
         ensures reads { GrowsByReading (S.left source.old)
             (S.left source.new) self.old.octets self.new.octets }

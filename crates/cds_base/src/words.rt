@@ -39,7 +39,7 @@ fn kept(words: Result<Vec<String>, AllocError>) -> Result<Vec<String>, WordsFaul
     }
 }
 
-/// The words behind the program's name. No clause can say what they are; the program's cases do.
+/// The words after the program's name. No clause can say what they are; the program's cases do.
 pub fn words_of(rt: &(impl Env + Alloc<A = Global>)) -> Result<Vec<String>, WordsFault> {
     let args = match env::args(rt) {
         Ok(args) => args,

@@ -54,7 +54,8 @@ accepting_counts (u ∷ us) g h d =
 
 -- ---- commands
 
--- the commands of these updates lead from a cell to that of w, are all stamped, and post its messages
+-- the commands of these updates lead from a cell to that of w, are all stamped, and post its
+-- messages
 pub record AreCommands (g : Cell) (h d : ℕ) (us : List Change) (w : Accepting) : Type 0 where
   pub cells : w.cell ≡ replay_from g (map (command.Accept h d) us)
   pub stamped : AllByRecursion IsStamped (answers_from g (map (command.Accept h d) us))

@@ -54,7 +54,7 @@ use Rattle.cds_cell.proofs.Serials.{TellsOwn, accept_tells, skulk_tells, take_te
 
 -- ---- commands that nothing was said against
 
--- the first test does not hold, and so none of those behind it
+-- the first test does not hold, and so none of those after it
 first_passed : (a : Bool) (r : command.Refusal) (ts : List (Bool × command.Refusal)) → (if a then Some r else first_refusal ts) ≡ None
     → (a ≡ false) × (first_refusal ts ≡ None)
 first_passed true r ts none = absurd (cc)

@@ -16,12 +16,12 @@ abbrev pub Rises : List ℕ → Type 0
 Rises [] = Unit {0}
 Rises (x ∷ xs) = AllByRecursion (λ y. x ≤ y) xs × Rises xs
 
--- how often a number stands
+-- how often a number is
 abbrev pub one_if : Bool → ℕ
 one_if true = 1
 one_if false = 0
 
--- how often a number stands in a list
+-- how often a number is in a list
 unfoldable pub times : ℕ → List ℕ → ℕ
 times z [] = 0
 times z (x ∷ xs) = one_if (x == z) + times z xs
@@ -44,7 +44,7 @@ stands_once : (x : ℕ) (xs : List ℕ) → 0 < times x (x ∷ xs)
 unfolding times
 stands_once x xs = let on : (x == x) ≡ true = grind (arith, nat_tests) in rw on (omega arith)
 
--- ascending lists in which each number stands as often are equal
+-- ascending lists in which each number is as often are equal
 pub one_order : (xs ys : List ℕ) → Rises xs → Rises ys → ((z : ℕ) → times z xs ≡ times z ys) → xs ≡ ys
 unfolding times
 one_order [] [] p q same = refl
@@ -97,7 +97,7 @@ times_inserted z x (y ∷ ys) = go (nat_lt y x) (times_inserted z x ys)
     go true rest = omega (arith, rest)
     go false rest = refl
 
--- and each stands as often as before
+-- and each is as often as before
 pub ascending_times : (z : ℕ) (xs : List ℕ) → times z (sorted_houses xs) ≡ times z xs
 unfolding times
 ascending_times z [] = refl
@@ -140,7 +140,7 @@ twice_inserted x (y ∷ ys) = go (nat_lt y x) (twice_inserted x ys) (has_inserte
     go true rest there = rw (rest, there, flip) (mix (x == y) (has y ys) (has x ys) (stands_twice ys))
     go false rest there = refl
 
--- a house stands twice in ascending order exactly where it did before
+-- a house is there twice in ascending order exactly where it did before
 pub twice_ascending : (xs : List ℕ) → stands_twice (sorted_houses xs) ≡ stands_twice xs
 twice_ascending [] = refl
 twice_ascending (x ∷ xs) = twice_inserted x (sorted_houses xs) ∙ ap (λ (b : Bool). b || stands_twice (sorted_houses xs)) (has_ascending x xs)

@@ -1,4 +1,5 @@
--- Bags: what is posted comes behind all that was, and what a bag stands for after that and after a loss.
+-- Bags: what is posted comes after all that was, and what a bag stands for after that and after a
+-- loss.
 use Rattle.std.proofs.Common.{◌≡◌, ◌≢◌, ℕ, zero, suc, ◌+◌, ◌-◌, ◌≤◌, ◌<◌, Bool, true, false, cond, List, [], ◌∷◌, ◌++◌, length, Option, Some, None}
 use Rattle.std.proofs.Common.{Result, Ok, Err, refl, sym, ap, subst, ◌∙◌, append_assoc, append-nil, arith, inl, inr}
 use Rattle.std.specs.Prelude.{◌==◌, ◌||◌, if◌then◌else◌, slice_get, IfSome, ◌⊎◌}
@@ -142,7 +143,7 @@ numbers_both n (p ∷ ps) qs =
     let e : n + 1 + length ps ≡ n + suc (length ps) = omega arith in
     ap (λ ns. (n + 1) ∷ ns) (numbers_both (n + 1) ps qs ∙ ap (λ k. numbers_behind (n + 1) ps ++ numbers_behind k qs) e)
 
--- an item of two lists stands in the first, or in the second at a place behind
+-- an item of two lists is in the first, or in the second at a place after
 in_both : {X : Type 0} (ps qs : List X) (i : ℕ) → i < length ps → slice_get (ps ++ qs) i ≡ slice_get ps i
 in_both [] qs i lt = absurd (omega arith)
 in_both (p ∷ ps) qs zero lt = refl
@@ -157,7 +158,7 @@ item_at [] i lt = absurd (omega arith)
 item_at (x ∷ xs) zero lt = (x, refl)
 item_at (x ∷ xs) (suc i) lt = item_at xs i (omega arith)
 
--- what was posted first, and then what was posted behind that, is all that was posted
+-- what was posted first, and then what was posted after that, is all that was posted
 pub posted_both : (a b c : Bag) (s t u : List ℕ) (ps qs : List Posted) → Posts a b s t ps → Posts b c t u qs → Posts a c s u (ps ++ qs)
 posted_both a b c s t u ps qs one two = record {
   posted = let x = one.posted in let y = two.posted in omega (arith, length-append ps qs);
@@ -259,7 +260,7 @@ body_valid (body.Join ms r) model.Leave h = elim h [ ]
 
 -- ---- bags
 
--- behind all that was posted there is no message
+-- after all that was posted there is no message
 none_behind : (g : model.Cell) (n : ℕ) → length g.bag < n → message_at g n ≡ None
 none_behind g n lt = by ((n == 0) || has n g.lost)
   where
@@ -397,7 +398,7 @@ module _ (b c : Bag) (g h : model.Cell) (before after : List ℕ) (ps : List Pos
 
 -- ---- losses
 
--- where there is a letter there is a message, for which it stands
+-- where there is a letter there is a message, for which it is
 pub letter_there : (b : Bag) (g : model.Cell) (n : ℕ) (l : Letter) → StandsBag b g → letter_at b n ≡ Some l
     → (m : model.Message) × (message_at g n ≡ Some m) × StandsLetter l m
 letter_there b g n l stands is = by (message_at g n) refl (subst (λ o. MaybeStandsLetter o (message_at g n)) is (stands.letters n))

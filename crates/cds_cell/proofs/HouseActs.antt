@@ -1,4 +1,5 @@
--- What the act of a house leaves of its cell: it stands for the cell of the model after the house's step.
+-- What the act of a house leaves of its cell: it stands for the cell of the model after the house's
+-- step.
 use Rattle.std.proofs.Common.{Global, ◌≡◌, ◌≢◌, ℕ, zero, suc, ◌+◌, ◌<◌, ◌≤◌, List, [], ◌∷◌, ◌++◌}
 use Rattle.std.proofs.Common.{Bool, true, false, length, subst, refl, sym, ◌∙◌, ap, arith}
 use Rattle.std.specs.Prelude.{Option, Some, None, Result, Ok, Err, OnErr, max, if◌then◌else◌, ◌==◌, slice_get, slice_set}
@@ -43,7 +44,7 @@ use Rattle.cds_cell.proofs.Vecs.{written}
 
 -- ---- what the console knows
 
--- a listing stands where the console of the model knows the same of its directory
+-- a listing is where the console of the model knows the same of its directory
 pub listing_kept : (o : Option Listing) (g g' : model.Cell) (d : ℕ) → g'.top d ≡ g.top d → g'.present d ≡ g.present d → StandsListing o g d
     → StandsListing o g' d
 listing_kept None g g' d top present stands = top ∙ stands
@@ -51,7 +52,7 @@ listing_kept (Some l) g g' d top present stands = (stands.0, top ∙ stands.1, p
 
 -- ---- a house changes
 
--- the cell stands for one of the model after another house stands at its place in both, if its bag does
+-- the cell stands for one of the model after another house is at its place in both, if its bag does
 pub placed_stands : (c c' : Cell) (g g' : model.Cell) (x at : ℕ) (is : CellHouse) → StandsAs c g → IsPlaceOf c.houses.items x at → is.house.0 ≡ x
     → c'.houses.items ≡ slice_set c.houses.items at is → KeepsRest c c' → StandsAtHouse is (g'.house x) → ((y : ℕ) → y ≢ x → g'.house y ≡ g.house y)
     → Rest g g' → StandsBag c'.bag g' → StandsAs c' g'
@@ -97,7 +98,8 @@ listing_changed (k ∷ ls) (suc i) (suc j) l less =
     next_alike i j true on = grind (arith, nat_tests, on)
     next_alike i j false off = grind (arith, nat_tests, off)
 
--- all but the bag of a cell stands for that of one of the model which has the same houses, and of which the console knows the same
+-- all but the bag of a cell stands for that of one of the model which has the same houses, and of
+-- which the console knows the same
 pub rest_stands : (c c' : Cell) (g g' : model.Cell) → StandsAs c g → c'.houses ≡ c.houses → KeepsRest c c' → ((x : ℕ) → g'.house x ≡ g.house x)
     → Rest g g' → StandsBag c'.bag g' → StandsAs c' g'
 rest_stands c c' g g' s houses kept same rest bag = record {
@@ -125,7 +127,8 @@ lost_elsewhere c d g n s houses rest bag = record {
   usable = rest.spent ∙ s.usable;
 }
 
--- the cell in which the console knows a directory's epoch and list, where the model's knows the same
+-- the cell in which the console knows a directory's epoch and list, where the model's knows the
+-- same
 pub noted_stands : (c c' : Cell) (g : model.Cell) (d i k : ℕ) (ms : List Member) (l : Listing) → StandsAs c g → d ≡ i + 1 → i < length c.directories.items
     → c'.houses ≡ c.houses → c'.directories.items ≡ slice_set c.directories.items i l → c'.bag ≡ c.bag → c'.spent ≡ c.spent
     → 1 ≤ l.epoch.0 → l.epoch.0 ≡ k → members_of l.members ≡ ms → StandsAs c' (note_epoch g d k ms)
@@ -201,7 +204,7 @@ module _ (c c' : Cell) (g : model.Cell) (x at : ℕ) (before after : List ℕ) (
 
 -- ---- a call of a house, and what is posted for it
 
--- a call of the house at a place, and what was posted behind it, are an act
+-- a call of the house at a place, and what was posted after it, are an act
 pub acts_at : (c d e : Cell) (at : ℕ) (h k : CellHouse) (before after : List ℕ) (Answers : command.Answer → Type 0) (now : model.House)
     (step : ℕ → HouseStep) (posted : CellHouse → List Posted) → at < length c.houses.items → h ≡ get_or c.houses.items at h
     → d.houses.items ≡ slice_set c.houses.items at k → d.directories ≡ c.directories → d.spent ≡ c.spent → d.bag ≡ c.bag → IsSameHouse h k

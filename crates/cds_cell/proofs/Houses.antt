@@ -188,7 +188,7 @@ pub found_is : (hs : List CellHouse) (x : ℕ) (r : Option ℕ) → MatchOption 
 found_is hs x None found = ap is_some (sym found)
 found_is hs x (Some i) found = let at = house_at hs x i found in ap is_some (sym at.1)
 
--- the house that stands at the place of a number is that of the number
+-- the house that is at the place of a number is that of the number
 pub house_of_place : (hs : List CellHouse) (x i : ℕ) (h : CellHouse) → IsPlaceOf hs x i → slice_get hs i ≡ Some h → (house_of hs x ≡ Some h) × (h.house.0 ≡ x)
 house_of_place [] x i h there is = absurd there
 house_of_place (k ∷ hs) x zero h there is =

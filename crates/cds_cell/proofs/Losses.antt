@@ -1,4 +1,4 @@
--- Messages that are lost behind the first ones, and the commands that lose them.
+-- Messages that are lost after the first ones, and the commands that lose them.
 use Rattle.std.proofs.Common.{◌≡◌, ◌≢◌, ℕ, ◌+◌, ◌-◌, ◌≤◌, ◌<◌, Bool, true, false, List, [], ◌∷◌, ◌++◌, map, length, refl, sym, ap, subst, ◌∙◌, arith}
 use Rattle.std.specs.Prelude.{Option, Some, None, max, if◌then◌else◌, ◌==◌}
 use Rattle.std.specs.List.{range_with_len}
@@ -38,7 +38,8 @@ unlost_stands b c g n s none posted letters = record {
         rw (is, same, none) tt
     by q false off is h = subst (λ o. MaybeStandsLetter o (message_at g q)) (sym is) h
 
--- a bag that a message was taken out of is that of the model after its loss, whether it was there or not
+-- a bag that a message was taken out of is that of the model after its loss, whether it was there
+-- or not
 pub lost_one : (c d : Cell) (g : model.Cell) (n : ℕ) → Stands c g → d.houses ≡ c.houses → KeepsRest c d → d.bag.posted ≡ c.bag.posted
     → ((q : ℕ) → letter_at d.bag q ≡ (if q == n then None else letter_at c.bag q)) → Stands d (outcome g (command.Lose n)).cell
 lost_one c d g n s houses rest posted letters = record {
@@ -54,7 +55,7 @@ lost_one c d g n s houses rest posted letters = record {
     by (Some m) is =
         rw is (lost_elsewhere c d g n s.stands houses rest (lost_stands c.bag d.bag g n m s.stands.bag is posted letters))
 
--- ---- those behind the first ones
+-- ---- those after the first ones
 
 -- the messages of numbers above `kept` are lost, up to number n
 pub record AreLost (old now : Cell) (kept n : ℕ) : Type 0 where

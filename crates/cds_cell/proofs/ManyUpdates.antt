@@ -37,8 +37,8 @@ place_kept (h ∷ hs) x (suc i) w number place = (place.0, place_kept hs x i w n
 
 -- ---- on the way
 
--- of all these updates so many were accepted, which posted these messages, and the cell stands for the model's behind them; the rest is
--- to come
+-- of all these updates so many were accepted, which posted these messages, and the cell stands for
+-- the model's after them; the rest is to come
 pub record Midway (c : Cell) (g : model.Cell) (x at d n : ℕ) (ns : List ℕ) (all rest : List Change) : Type 0 where
   pub cell : model.Cell
   pub stands : Stands c cell
@@ -55,7 +55,7 @@ none_done c g x at d all stands place up =
     behind_none : (w : Accepting) → w ≡ behind 0 [] w
     behind_none w = ap (λ n. record w { count = n }) (sym (zero-add w.count))
 
--- behind the last
+-- after the last
 pub all_done : (c : Cell) (g : model.Cell) (x at d n : ℕ) (ns : List ℕ) (all : List Change) (a : AcceptedAll) → Midway c g x at d n ns all []
     → a.count ≡ n → a.posted ≡ ns → a.refused ≡ None → IsAccepting a c (accept_in_turn g x d all)
 all_done c g x at d n ns all a m count posted refused =

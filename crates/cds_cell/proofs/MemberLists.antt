@@ -1,4 +1,5 @@
--- Member lists as a console names them: where they have no fault, and what the loops that make them have so far.
+-- Member lists as a console names them: where they have no fault, and what the loops that make them
+-- have so far.
 use Rattle.std.proofs.Common.{◌≡◌, ℕ, suc, add-one, get_or, ◌+◌, ◌≤◌, ◌<◌, Bool, true, false, cond, eqb, List, [], ◌∷◌, ◌++◌}
 use Rattle.std.proofs.Common.{length, map, drop, Some, None, refl, sym, ◌∙◌, ap, arith, append_assoc, append-nil}
 use Rattle.std.specs.Prelude.{nat_lt, is_some, ◌==◌, ◌&&◌, ◌||◌, if◌then◌else◌}
@@ -20,12 +21,12 @@ use Rattle.cds_cell.proofs.Ascending.{Rises, above_all, all_from_zero, ascending
 
 -- ---- tests
 
--- a house stands among others exactly where its number does
+-- a house is among others exactly where its number does
 pub contains_number : (x : ℕ) (hs : List HouseNo) → list_any (λ (h : HouseNo). eqb h.0 x) hs ≡ has x (numbers_of hs)
 contains_number x [] = refl
 contains_number x (h ∷ hs) = let flip : eqb h.0 x ≡ (x == h.0) = grind (arith, nat_tests) in cc (flip, contains_number x hs)
 
--- a house is a secondary one of a list exactly where its number stands among theirs
+-- a house is a secondary one of a list exactly where its number is among theirs
 pub secondary_number : (x : ℕ) (ls : List Listed) → list_any (λ (l : Listed). l.secondary && eqb l.house.0 x) ls ≡ has x (numbers_of (secondaries_in ls))
 secondary_number x [] = refl
 secondary_number x (l ∷ ls) = by_kind l.secondary (secondary_number x ls)
@@ -46,7 +47,7 @@ listed_by_place x i (m ∷ ms) = go (m.house == x) (listed_by_place x (i + 1) ms
     go true rest = refl
     go false rest = rest
 
--- a house stands twice where it stands behind its place, or where one behind it does
+-- a house is there twice where it is after its place, or where one after it does
 pub twice_behind : (h : HouseNo) (behind : List HouseNo) (b : Bool) → b ≡ list_any (λ (x : HouseNo). eqb x.0 h.0) behind
     → stands_twice (numbers_of (h ∷ behind)) ≡ (b || stands_twice (numbers_of behind))
 twice_behind h behind b is = ap (λ (x : Bool). x || stands_twice (numbers_of behind)) (sym (is ∙ contains_number h.0 behind))
@@ -62,7 +63,7 @@ bad_by_number m hs many =
     either true = refl
     either false = refl
 
--- with no more than that, it is where a house stands twice
+-- with no more than that, it is where a house is there twice
 pub bad_by_houses : (m : ℕ) (hs : List HouseNo) (b : Bool) → length hs < most_members → b ≡ list_any (λ (x : HouseNo). eqb x.0 m) hs
     → is_bad_list (m ∷ numbers_of hs) ≡ (b || stands_twice (numbers_of hs))
 bad_by_houses m hs b few is =

@@ -37,7 +37,7 @@ acted_step d g k (Ok a) reached none comes =
       };
     }
 
--- the cell behind it stands for the model's
+-- the cell after it stands for the model's
 pub acted_stands : (d : Cell) (g : model.Cell) (k : command.Command) (a : Answer) → IsReached g → first_refusal (refusals_of g k) ≡ None
     → IsStepAs a d (effect g k) → Stands d (outcome g k).cell
 acted_stands d g k a reached none comes = (acted_step d g k (Ok a) reached none comes).stands

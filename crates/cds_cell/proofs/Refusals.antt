@@ -32,11 +32,11 @@ pub known_by : (o : Option Listing) (g : model.Cell) (d : ℕ) → StandsListing
 known_by None g d stands = rw stands refl
 known_by (Some l) g d stands = let some = stands.0 in let top = stands.1 in grind (arith, nat_tests, some, top)
 
--- the directory of a number stands one place before it
+-- the directory of a number is one place before it
 pub directory_at : (ls : List Listing) (d i : ℕ) → d ≡ i + 1 → directory_of ls d ≡ slice_get ls i
 directory_at ls d i is = let next : d ≡ suc i = omega (arith, is) in ap (directory_of ls) next
 
--- what an index reads within a list stands there
+-- what an index reads within a list is there
 pub read_there : {A : Type 0} (xs : List A) (i : ℕ) (x : A) → i < length xs → x ≡ get_or xs i x → slice_get xs i ≡ Some x
 read_there [] i x less is = absurd (omega (arith, less))
 read_there (y ∷ ys) zero x less is = ap Some (sym is)

@@ -9,7 +9,7 @@ use Rattle.cds_stamps.specs.declared.numbers.HouseNo.{HouseNo}
 use Rattle.house_directory.specs.HouseMessages.{numbers_of}
 use Rattle.cds_cell.proofs.Ascending.{Rises, times, one_if}
 
--- how often a number stands among houses
+-- how often a number is among houses
 times_summed : (z : ℕ) (hs : List HouseNo) → times z (numbers_of hs) ≡ sum_by (λ (h : HouseNo). one_if (h.0 == z)) hs
 unfolding times
 times_summed z [] = refl

@@ -1,4 +1,5 @@
--- A house of the cell, by itself, after what it does in a command: its image is that of the model's house.
+-- A house of the cell, by itself, after what it does in a command: its image is that of the model's
+-- house.
 use Rattle.std.proofs.Common.{◌≡◌, ◌≢◌, ℕ, zero, suc, ◌+◌, ◌<◌, Bool, true, false, not, List, [], ◌∷◌, map, ◌∙◌, Option, Some, None, Result, Ok, Err, refl, sym, ap, subst, arith, inl, inr}
 use Rattle.std.specs.Prelude.{length, is_ok, is_some, if◌then◌else◌, ◌==◌, ◌||◌}
 use Rattle.std.specs.List.{list_any}

@@ -19,8 +19,8 @@ use Rattle.cell_model.proofs.Numbers.{numbers_lem}
 use Rattle.cell_model.proofs.Standing.{on_reached, reached_lem}
 use Rattle.cell_model.proofs.Views.{put_same}
 
--- what comes of an update: it is refused, since the house holds no such directory, by what it holds, or for want of a stamp; or it is
--- stamped
+-- what comes of an update: it is refused, since the house holds no such directory, by what it
+-- holds, or for want of a stamp; or it is stamped
 pub data UpdateComes (g : Cell) (h d : ℕ) (u : Change) : HouseStep → Type 0 where
   lacks : ((r : Replica) → IsHeld g h d r → ⊥) → UpdateComes g h d u (turns.refuses NoReplica)
   refuses : (r : Replica) (q : UpdateRefusal) → IsHeld g h d r → update_refusal h u r ≡ Some q → UpdateComes g h d u (turns.refuses q)

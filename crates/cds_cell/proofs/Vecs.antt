@@ -7,7 +7,7 @@ use Rattle.std.proofs.Math.ListN.{get_or, set}
 use denote.Struct.Props.{props}
 use Rattle.std.proofs.lemmas.List.{set-get_or}
 
--- what was written stands there
+-- what was written is there
 pub written : {X : Type 0} (xs : List X) (i : ℕ) (x : X) → i < length xs → slice_get (slice_set xs i x) i ≡ Some x
 written [] i x less = absurd (omega (arith, less))
 written (y ∷ ys) zero x less = refl

@@ -19,7 +19,8 @@ seen_there (Object house) = Some (house, Some kind.Object)
 seen_there (Link house target) = Some (house, Some kind.Link)
 seen_there (Child house child) = Some (house, Some kind.Child)
 
--- Q says something of a house, a directory, a name and the kind of its entry, if there is one; it holds where that is seen
+-- Q says something of a house, a directory, a name and the kind of its entry, if there is one; it
+-- holds where that is seen
 module _ (reader : Reader) (Q : ℕ → ℕ → List ℕ → Option Kind → Type 0)
     (each : (at : Pointer) (n : List ℕ) (h : ℕ) (k : Option Kind) → seen_there (reader.sees at n) ≡ Some (h, k) → Q h at.dir n k) where
   -- it holds of what is found, and of the place of what is missing

@@ -20,8 +20,8 @@ pub record Asked : Type 0 where
   pub house : ℕ
   pub view : View
 
--- a house answers with what it shows; at high confidence only where it is the master by its own member list (own, after C705,
--- confidence of lookups)
+-- a house answers with what it shows; at high confidence only where it is the master by its own
+-- member list (own, after C705, confidence of lookups)
 abbrev pub answers_with : (high : Bool) → (x : ℕ) → View → Option Asked
 answers_with high x v = if not high || (master_of v.members == x) then Some (record { house = x; view = v }) else None
 
@@ -34,10 +34,12 @@ abbrev pub preferred_first : Option ℕ → List ℕ → List ℕ
 preferred_first None houses = houses
 preferred_first (Some x) houses = if has x houses then x ∷ houses else houses
 
--- the order in which the listed houses are asked: no house is preferred at high confidence (own, after C705, confidence of lookups)
+-- the order in which the listed houses are asked: no house is preferred at high confidence (own,
+-- after C705, confidence of lookups)
 abbrev pub in_turn : (prefer : Option ℕ) → (high : Bool) → List ℕ → List ℕ
 in_turn prefer high houses = if high then houses else preferred_first prefer houses
 
--- of the listed houses of a directory, the one that is asked: the first that answers (own, after C705, confidence of lookups)
+-- of the listed houses of a directory, the one that is asked: the first that answers (own, after
+-- C705, confidence of lookups)
 abbrev pub house_to_ask : Views → (d : ℕ) → (prefer : Option ℕ) → (high : Bool) → List ℕ → Option Asked
 house_to_ask views d prefer high houses = first_some (answer_of_house views high d) (in_turn prefer high houses)

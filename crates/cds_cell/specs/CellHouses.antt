@@ -23,7 +23,8 @@ pub record StandsUp (x : HouseNo) (c : Clearinghouse) (now : model.House) : Type
   pub lawful : IsLawful c
   pub usable : c.spent ≡ false
 
--- a house that is up is a clearinghouse that stands for it, and the octets of one that is down are the image of such a clearinghouse (own)
+-- a house that is up is a clearinghouse that stands for it, and the octets of one that is down are
+-- the image of such a clearinghouse (own)
 abbrev pub StandsState : (x : HouseNo) → HouseState → model.House → Type 0
 StandsState x (state.Up c) now = (now.up ≡ true) × StandsUp x c now
 StandsState x (state.Down octets) now = (now.up ≡ false) × ((c : Clearinghouse) × KeepsImage octets c × StandsUp x c now)
@@ -34,7 +35,8 @@ is_up_state None = false
 is_up_state (Some (state.Up c)) = true
 is_up_state (Some (state.Down octets)) = false
 
--- a house of the cell stands for one of the model: its node, its clock, and what there is of it (own)
+-- a house of the cell stands for one of the model: its node, its clock, and what there is of it
+-- (own)
 pub record StandsAtHouse (h : CellHouse) (now : model.House) : Type 0 where
   pub node : now.node ≡ h.node
   pub clock : now.clock ≡ h.clock

@@ -1,5 +1,5 @@
--- Which houses act in a command, what it makes of their images, and what a house loses that crashes behind one (own, after C705,
--- clearinghouses).
+-- Which houses act in a command, what it makes of their images, and what a house loses that crashes
+-- after one (own, after C705, clearinghouses).
 use Rattle.std.specs.Prelude.{ℕ, ◌+◌, ◌-◌, if◌then◌else◌, List, [], ◌∷◌, ◌++◌, map, length, Option, Some, None}
 use Rattle.std.specs.List.{range_with_len}
 use Rattle.std.specs.Str.{bytes_eq}
@@ -19,7 +19,8 @@ abbrev pub receivers_of : Option Message → List ℕ
 receivers_of None = []
 receivers_of (Some m) = m.receiver ∷ []
 
--- the houses that act in a command: what a house is that crashes, starts or has its clock set, stays in its image (own)
+-- the houses that act in a command: what a house is that crashes, starts or has its clock set,
+-- stays in its image (own)
 abbrev pub actors : Cell → Command → List ℕ
 actors g (command.House h node) = h ∷ []
 actors g (command.Clock h time) = []

@@ -1,4 +1,5 @@
--- Which cell of the model a cell of the program stands for (own, after C705, clearinghouses and replica sets).
+-- Which cell of the model a cell of the program stands for (own, after C705, clearinghouses and
+-- replica sets).
 use Rattle.std.specs.Prelude.{◌≡◌, ℕ, zero, suc, ◌+◌, ◌-◌, ◌*◌, ◌≤◌, ◌<◌, ◌^◌, ◌==◌, if◌then◌else◌, max, false, List, [], ◌∷◌, map, length, slice_get}
 use Rattle.std.specs.Prelude.{Option, Some, None, Result, is_err, IfOk}
 use Rattle.std.specs.declared.alloc.AllocError.{AllocError}
@@ -43,8 +44,9 @@ StandsListing (Some l) g d = (1 ≤ l.epoch.0) × (g.top d ≡ l.epoch.0) × (g.
 
 -- ---- cells
 
--- the cell has the model's houses, in the order in which they were made; its console knows the directories 1, 2, 3 and so on as the
--- model's does; its bag has the model's messages; and it is not spent (own)
+-- the cell has the model's houses, in the order in which they were made; its console knows the
+-- directories 1, 2, 3 and so on as the model's does; its bag has the model's messages; and it is
+-- not spent (own)
 pub record StandsAs (c : Cell) (g : model.Cell) : Type 0 where
   pub made : g.made ≡ numbers_of (map (λ h. h.house) c.houses.items)
   pub once : stands_twice g.made ≡ false
@@ -77,7 +79,8 @@ UnlessDone (answer.Stale t r) P = P
 UnlessDone answer.NoReplica P = P
 UnlessDone _ P = Unit {0}
 
--- a cell is spent exactly after want of memory, and a cell that is spent answers nothing (own)
+-- a cell is spent exactly after it ran out of memory, and a cell that is spent answers nothing
+-- (own)
 pub record IsCall {T : Type 0} (old new : Cell) (result : Result T AllocError) : Type 0 where
   pub spent : new.spent ≡ is_err result
   pub usable : IfOk result (λ _. old.spent ≡ false)
@@ -89,7 +92,8 @@ abbrev pub greatest_epoch : List Listing → ℕ
 greatest_epoch [] = 0
 greatest_epoch (l ∷ ls) = max l.epoch.0 (greatest_epoch ls)
 
--- how many directories a cell of the model has: none before its root, and then one for each number that was given (own)
+-- how many directories a cell of the model has: none before its root, and then one for each number
+-- that was given (own)
 abbrev pub directory_count : model.Cell → ℕ
 directory_count g = if is_unknown g root_dir then 0 else g.next_dir - 1
 
@@ -98,7 +102,8 @@ pub record IsGreatestEpoch (g : model.Cell) (n : ℕ) : Type 0 where
   pub given : (d : ℕ) × (g.top d ≡ n)
   pub greatest : (d : ℕ) → g.top d ≤ n
 
--- there is room for a step: for the serial numbers of its messages, a directory and an epoch more (own)
+-- there is room for a step: for the serial numbers of its messages, a directory and an epoch more
+-- (own)
 pub record HasRoom (c : Cell) : Type 0 where
   pub messages : c.bag.posted ≤ 2 ^ 62
   pub directories : length c.directories.items + 1 < 2 ^ 32

@@ -4,12 +4,12 @@ use Rattle.cds_cell.specs.declared.bag.Bag.{Bag}
 use Rattle.cds_cell.specs.declared.bag.Letter.{Letter}
 use Rattle.cds_cell.specs.Bags.{letter_at}
 
--- nothing was posted (own)
+-- nothing was posted
 pub record IsEmptyBag (b : Bag) : Type 0 where
   pub posted : b.posted ≡ 0
   pub letters : (n : ℕ) → letter_at b n ≡ None
 
--- one letter was posted behind all others, and its number was told behind those of others (own)
+-- one letter was posted after all others, and its number was told after those of others
 pub record PostsOne (old new : Bag) (before after : List ℕ) (l : Letter) : Type 0 where
   pub posted : new.posted ≡ old.posted + 1
   pub told : after ≡ before ++ (old.posted + 1) ∷ []

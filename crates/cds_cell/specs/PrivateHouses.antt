@@ -1,4 +1,5 @@
--- Words of private functions alone: what a house does when it is asked (own, after C705, clearinghouses).
+-- Words of private functions alone: what a house does when it is asked (own, after C705,
+-- clearinghouses).
 use Rattle.std.specs.Prelude.{◌≡◌, ◌<◌, ℕ, List, [], Option}
 use Rattle.cds_stamps.specs.declared.numbers.DirId.{DirId}
 use Rattle.cds_stamps.specs.declared.numbers.EpochNo.{EpochNo}
@@ -59,7 +60,8 @@ pub record IsTurnAt (turn : Turn) (new : CellHouse) (posted : List Posted) : Typ
   pub stands : StandsAtHouse new turn.house
   pub each : StandEach posted turn.posts
 
--- a call is a step of the house: what it answers passes the test, and all stays as it was and nothing is posted, or it is the turn (own)
+-- a call is a step of the house: what it answers passes the test, and all stays as it was and
+-- nothing is posted, or it is the turn (own)
 abbrev pub Asks : (command.Answer → Type 0) → HouseStep → (old new : CellHouse) → List Posted → Type 0
 Asks Answers (Stays answer) old new posted = Answers answer × (new ≡ old) × (posted ≡ [])
 Asks Answers (Turns turn) old new posted = ((ns : List ℕ) → Answers (turn.answer ns)) × IsTurnAt turn new posted

@@ -17,13 +17,13 @@ use Rattle.cds_cell.specs.declared.step.Step.TheVariants as step
 use Rattle.cds_cell.specs.Scripted.{answer_of, refusal_of}
 use Rattle.cds_cell.specs.ModelCells.{GrowsBy, StandsAs, UnlessDone}
 
--- the house of a number stands at this place, and none before it (own)
+-- the house of a number is at this place, and none before it
 abbrev pub IsPlaceOf : List CellHouse → ℕ → ℕ → Type 0
 IsPlaceOf [] x i = ⊥
 IsPlaceOf (h ∷ hs) x zero = h.house.0 ≡ x
 IsPlaceOf (h ∷ hs) x (suc i) = (h.house.0 ≢ x) × IsPlaceOf hs x i
 
--- the command of the model that a step of the program is (own)
+-- the command of the model that a step of the program is
 abbrev pub step_meant : Step → command.Command
 step_meant (step.House h node) = command.House h.0 node
 step_meant (step.Clock h time) = command.Clock h.0 time
@@ -38,22 +38,23 @@ step_meant (step.Lose n) = command.Lose n
 step_meant (step.Crash h) = command.Crash h.0
 step_meant (step.Start h) = command.Start h.0
 
--- a step is allowed by these tests, or the first refusal is told whose test holds (own)
+-- a step is allowed by these tests, or the first refusal is told whose test holds
 abbrev pub IsAllowed : {T : Type 0} → Result T ScriptRefusal → List (Bool × command.Refusal) → Type 0
 IsAllowed result tests = result_err result ≡ option_map refusal_of (first_refusal tests)
 
--- an answer and a cell are those of a step of the model; it is not said that a list of commands leads there (own)
+-- an answer and a cell are those of a step of the model; it is not said that a list of commands
+-- leads there
 pub record IsStepAs (a : Answer) (c : Cell) (o : Outcome) : Type 0 where
   pub answer : answer_of o.answer ≡ Some a
   pub stands : StandsAs c o.cell
 
--- what an act leaves, whichever cell it stands for: it spends nothing, grows the cell by a step at most, and changes nothing where its
--- answer says so (own)
+-- what an act leaves, whichever cell it stands for: it spends nothing, grows the cell by a step at
+-- most, and changes nothing where its answer says so
 pub record Leaves (old new : Cell) (result : Result Answer AllocError) : Type 0 where
   pub spent : new.spent ≡ old.spent
   pub grows : OnOk result (GrowsBy old new)
   pub same : IfOk result (λ a. UnlessDone a (new ≡ old))
 
--- what comes of an act is this outcome, or memory ran out (own)
+-- what comes of an act is this outcome, or memory ran out
 abbrev pub ComesTo : Result Answer AllocError → Cell → Outcome → Type 0
 ComesTo result c o = IfOk result (λ a. IsStepAs a c o)

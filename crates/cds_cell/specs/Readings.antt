@@ -23,8 +23,8 @@ pointer_to d members = record { dir = d; master = master_of members; others = ot
 abbrev pub root_pointer : Cell → Option Pointer
 root_pointer g = if g.top root_dir == 0 then None else Some (pointer_to root_dir (g.present root_dir))
 
--- a link and a child that a house shows, where the value reads as a full name, and as a pointer (own, after C705, soft
--- links and child pointers)
+-- a link and a child that a house shows, where the value reads as a full name, and as a pointer
+-- (own, after C705, soft links and child pointers)
 abbrev pub link_sight : (house : ℕ) → List ℕ → Sight
 link_sight house v = if is_full_name v then Link house (components_of v) else Absent house
 
@@ -33,8 +33,8 @@ abbrev pub child_sight : (house : ℕ) → Option Pointer → Sight
 child_sight house None = Absent house
 child_sight house (Some p) = Child house p
 
--- what a house shows of an entry: an object; or where its one readable value leads, and no entry where there is not
--- exactly one (own, after C705, object entries, soft links and child pointers)
+-- what a house shows of an entry: an object; or where its one readable value leads, and no entry
+-- where there is not exactly one (own, after C705, object entries, soft links and child pointers)
 abbrev pub led_sight : Kind → (house : ℕ) → Option (List ℕ) → Sight
 led_sight kind.Object house lead = Object house
 led_sight kind.Link house None = Absent house
@@ -62,8 +62,8 @@ abbrev pub values_at : Found → List ℕ → Option View → List (List ℕ)
 values_at at attr None = []
 values_at at attr (Some v) = values_of attr (v.shows at.name)
 
--- a reader that prefers a house, or none, and trusts any replica or the master's alone, by where the root directory is and what each
--- house shows (own)
+-- a reader that prefers a house, or none, and trusts any replica or the master's alone, by where
+-- the root directory is and what each house shows (own)
 abbrev pub reader_of : Option Pointer → Views → (prefer : Option ℕ) → (high : Bool) → Reader
 reader_of root views prefer high = record {
   root = root;
@@ -95,6 +95,7 @@ objects_in x d slot.Absent = []
 objects_in x d (slot.Gone e) = []
 objects_in x d (slot.Held r) = map (λ m. object_found d x (name_in m)) r.history
 
--- objects, all that a cell shows among them: those of each house that was made and each directory number so far (own)
+-- objects, all that a cell shows among them: those of each house that was made and each directory
+-- number so far (own)
 abbrev pub objects_of : Cell → List Found
 objects_of g = flat_map (λ x. flat_map (λ d. objects_in x d ((g.house x).slots d)) (range_with_len 0 g.next_dir)) g.made

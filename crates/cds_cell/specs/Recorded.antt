@@ -1,4 +1,5 @@
--- The messages and the images of a cell of the model, as records (own, after C705, updates, skulks and new epochs).
+-- The messages and the images of a cell of the model, as records (own, after C705, updates, skulks
+-- and new epochs).
 use Rattle.std.specs.Prelude.{ℕ, List, [], ◌∷◌, map, Option, Some, None}
 use Rattle.std.specs.List.{range_with_len}
 use Rattle.std.specs.Option.{option_map}
@@ -51,7 +52,8 @@ message_of m =
 abbrev pub octets_of : model.Message → Option (List ℕ)
 octets_of m = option_map message_octets (message_of m)
 
--- what an image keeps of what a house has of a directory: nothing of one that it never had, and no skulk (own)
+-- what an image keeps of what a house has of a directory: nothing of one that it never had, and no
+-- skulk (own)
 abbrev pub kept_in : model.Slot → Option ImageDir
 kept_in model.Absent = None
 kept_in (model.Gone e) = Some (kept.Gone (record { 0 = e }))

@@ -1,4 +1,4 @@
--- The commands and answers of the script, as steps and answers of a cell of the model (own).
+-- The commands and answers of the script, as steps and answers of a cell of the model.
 use Rattle.std.specs.Prelude.{[], Option, Some, None}
 use Rattle.directory.specs.declared.update.UpdateRefusal.{UpdateRefusal}
 use Rattle.directory.specs.declared.update.UpdateRefusal.TheVariants as update
@@ -13,7 +13,7 @@ use Rattle.script_answers.specs.declared.answer.ScriptRefusal.{ScriptRefusal}
 use Rattle.script_answers.specs.declared.answer.ScriptRefusal.TheVariants as why
 use Rattle.house_directory.specs.HouseMessages.{numbers_of}
 
--- the step of the cell that a command is (own)
+-- the step of the cell that a command is
 abbrev pub step_of : Command → model.Command
 step_of (command.House h node) = model.House h.0 node
 step_of (command.Clock h time) = model.Clock h.0 time
@@ -34,7 +34,7 @@ step_of (command.Lose n) = model.Lose n
 step_of (command.Crash h) = model.Crash h.0
 step_of (command.Start h) = model.Start h.0
 
--- why the script says that an update is refused (own)
+-- why the script says that an update is refused
 abbrev pub update_refusal_of : UpdateRefusal → ScriptRefusal
 update_refusal_of update.NoReplica = why.NoReplica
 update_refusal_of update.NotMaster = why.NotMaster
@@ -43,7 +43,7 @@ update_refusal_of update.EntryExists = why.EntryExists
 update_refusal_of update.WrongKind = why.WrongKind
 update_refusal_of update.StampsSpent = why.StampsSpent None []
 
--- why the script says that a command is refused (own)
+-- why the script says that a command is refused
 abbrev pub refusal_of : model.Refusal → ScriptRefusal
 refusal_of model.HouseExists = why.HouseExists
 refusal_of model.NoHouse = why.NoHouse
@@ -57,7 +57,8 @@ refusal_of model.NoMessage = why.NoMessage
 refusal_of (model.Update r) = update_refusal_of r
 refusal_of (model.NotJoined held since) = why.NotJoined (record { 0 = held }) (record { 0 = since })
 
--- the answer of the script to a command. Foreign has no text, and never comes: no message of a cell is from a house that is no member (own)
+-- the answer of the script to a command. Foreign has no text, and never comes: no message of a cell
+-- is from a house that is no member
 abbrev pub answer_of : model.Answer → Option Answer
 answer_of model.Done = Some answer.Done
 answer_of (model.Posted ns) = Some (answer.Posted ns)

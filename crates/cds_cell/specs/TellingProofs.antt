@@ -1,4 +1,5 @@
--- Proofs alone: what a cell of the program tells a reader ascends, and it shows no objects but those of the list.
+-- Proofs alone: what a cell of the program tells a reader ascends, and it shows no objects but
+-- those of the list.
 use Rattle.std.specs.Prelude.{◌≡◌, ℕ, Bool, true, false, ◌&&◌, ◌||◌, ◌==◌, if◌then◌else◌, List, [], ◌∷◌}
 use Rattle.std.specs.Prelude.{Option, Some, None, is_some, is_none, refl}
 use Rattle.std.specs.FinMap.{FinMap, IsAntisymmetric, get, keys, contains_key-keys}

@@ -83,7 +83,8 @@ impl Cell {
         }
     }
 
-    /// An update of a directory at the house of this place. The numbers of the messages that it posts come behind others.
+    /// An update of a directory at the house of this place. The numbers of the messages that it
+    /// posts come after others.
     pub(crate) fn accept_at(
         &mut self,
         alloc: Global,
@@ -107,7 +108,8 @@ impl Cell {
         Ok(turn.answer)
     }
 
-    /// Posts what the house of this place has to post about a directory, if anything. The numbers of these messages come behind others.
+    /// Posts what the house of this place has to post about a directory, if anything. The numbers
+    /// of these messages come after others.
     pub(crate) fn post(
         &mut self,
         alloc: Global,
@@ -215,7 +217,8 @@ impl Cell {
         }
     }
 
-    // A new epoch of a directory at the house of this place, its master, which tells it to the other members and to the houses that left.
+    // A new epoch of a directory at the house of this place, its master, which tells it to the
+    // other members and to the houses that left.
     fn enter_at(
         &mut self,
         alloc: Global,

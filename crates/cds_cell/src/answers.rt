@@ -44,7 +44,8 @@ pub(crate) fn begun_in_script(
     }
 }
 
-/// Why a new epoch is refused. A console gives each epoch a number above all that its directory had, so none is stale.
+/// Why a new epoch is refused. A console gives each epoch a number above all that its directory
+/// had, so none is stale.
 pub(crate) fn epoch_refusal_in_script(refusal: EpochRefusal) -> ScriptRefusal
     ensures { (k : ℕ) (a : command.Answer) → IsEpochAnswer k (Some refusal) a
         → answer_of a ≡ Some (answer.Refused result) }
@@ -56,7 +57,8 @@ pub(crate) fn epoch_refusal_in_script(refusal: EpochRefusal) -> ScriptRefusal
     }
 }
 
-/// What comes of a message, and the messages that were posted for it. No message of a cell is from a house that is no member.
+/// What comes of a message, and the messages that were posted for it. No message of a cell is from
+/// a house that is no member.
 pub(crate) fn taken_in_script(taken: Taken, posted: Serials) -> Answer
     ensures same { (old new : Cell) → UnlessTaken taken (new ≡ old)
         → UnlessDone result (new ≡ old) }

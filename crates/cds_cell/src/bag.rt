@@ -14,14 +14,16 @@ use script_answers::Serials;
 use std::alloc::{AllocError, Global};
 use std::rc::RcSlice;
 
-/// A message that was posted: the house that it is for, and its octets. All receivers of a message share them.
+/// A message that was posted: the house that it is for, and its octets. All receivers of a message
+/// share them.
 #[derive(Drop)]
 pub(crate) struct Letter {
     pub(crate) to: HouseNo,
     pub(crate) shared: RcSlice<u8>,
 }
 
-/// Messages by their serial numbers, which are 1, 2, 3 and so on in the order in which they are posted. None is given twice.
+/// Messages by their serial numbers, which are 1, 2, 3 and so on in the order in which they are
+/// posted. None is given twice.
 #[derive(Drop)]
 pub(crate) struct Bag {
     letters: IndexMap<u64, Letter>,
@@ -61,7 +63,8 @@ impl Bag {
         self.letters.get(&serial)
     }
 
-    /// Posts the same octets to each receiver, and adds the serial numbers of these messages behind others.
+    /// Posts the same octets to each receiver, and adds the serial numbers of these messages after
+    /// others.
     pub(crate) fn post(&mut self, letters: Letters, serials: &mut Serials) -> Result<(), AllocError>
         requires room { self.old.posted + length letters.receivers.items ≤ 2 ^ 63 }
         ensures { (ps : List Posted) → AreLetters letters ps
@@ -79,7 +82,7 @@ impl Bag {
         Ok(())
     }
 
-    /// Posts a message, and adds its serial number behind others.
+    /// Posts a message, and adds its serial number after others.
     fn post_one(&mut self, letter: Letter, serials: &mut Serials) -> Result<(), AllocError>
         requires room { self.old.posted < 2 ^ 63 }
         ensures { OnOk result (PostsOne self.old self.new serials.old serials.new letter) }

@@ -26,8 +26,8 @@ use directory::Update;
 use script_answers::Answer;
 use std::alloc::{AllocError, Global};
 
-/// A cell: its houses in the order in which they were made, what its console knows of the directories 1, 2, 3 and so on, and
-/// the messages that were posted.
+/// A cell: its houses in the order in which they were made, what its console knows of the
+/// directories 1, 2, 3 and so on, and the messages that were posted.
 #[derive(Drop)]
 pub struct Cell {
     pub(crate) houses: Vec<CellHouse>,
@@ -98,7 +98,8 @@ impl Cell {
         Some(self.bag.letter(serial)?.octets())
     }
 
-    /// The house that the message of a serial number is for, if it was posted and not lost. Takes no memory.
+    /// The house that the message of a serial number is for, if it was posted and not lost. Takes
+    /// no memory.
     pub fn receiver(&self, serial: u64) -> Option<HouseNo>
         ensures found { result ≡ option_map (λ l. l.to) (letter_at self.now.bag serial) }
         ensures model { (g : model.Cell) → Stands self.now g
@@ -122,8 +123,8 @@ impl Cell {
         self.position(house).is_some()
     }
 
-    /// What a command does to the cell, and what it answers. After want of memory the cell is spent: each further step answers
-    /// want of memory.
+    /// What a command does to the cell, and what it answers. After it ran out of memory the cell is
+    /// spent: each further step answers out of memory.
     pub fn step(&mut self, alloc: Global, command: Command) -> Result<Answer, AllocError>
         requires room { HasRoom self.old }
         ensures call { IsCall self.old self.new result }
@@ -138,8 +139,9 @@ impl Cell {
         done
     }
 
-    /// Updates of a directory at a house that is up, in order up to the first that is refused. A house that holds no such directory
-    /// refuses the first. After want of memory the cell is spent, as after a step.
+    /// Updates of a directory at a house that is up, in order up to the first that is refused. A
+    /// house that holds no such directory refuses the first. After it ran out of memory the cell is
+    /// spent, as after a step.
     pub fn accept_all(
         &mut self,
         alloc: Global,
@@ -192,7 +194,7 @@ impl Cell {
         }
     }
 
-    // Where a house stands in the list.
+    // Where a house is in the list.
     pub(crate) fn position(&self, house: HouseNo) -> Option<usize>
         ensures { MatchOption result (house_of self.now.houses.items house.0 ≡ None)
             (IsPlaceOf self.now.houses.items house.0) }
@@ -200,7 +202,7 @@ impl Cell {
         self.houses.iter().position(|h| h.house == house)
     }
 
-    // Where a directory stands in the list.
+    // Where a directory is in the list.
     pub(crate) fn directory_place(&self, dir: DirId) -> Option<usize>
         ensures { MatchOption result (directory_of self.now.directories.items dir.0 ≡ None)
             (λ i. (dir.0 ≡ i + 1) × (i < length self.now.directories.items)) }

@@ -16,7 +16,8 @@ pub(crate) struct Listing {
 }
 
 impl Cell {
-    /// The last epoch that the console gave a directory, and its members in that; None exactly where there is no such directory.
+    /// The last epoch that the console gave a directory, and its members in that; None exactly
+    /// where there is no such directory.
     pub fn listing(&self, dir: DirId) -> Option<(EpochNo, &Members)>
         ensures { (g : model.Cell) → Stands self.now g
             → MatchOption result (g.top dir.0 ≡ 0)

@@ -25,7 +25,8 @@ use clearinghouse::{
 use directory::{Update, UpdateRefusal};
 use std::alloc::{AllocError, Global};
 
-/// What there is of a house: a clearinghouse that is up, or the octets of the image of one that is down.
+/// What there is of a house: a clearinghouse that is up, or the octets of the image of one that is
+/// down.
 #[derive(Drop)]
 pub enum HouseState {
     Up(Clearinghouse),
@@ -52,7 +53,8 @@ fn nothing_done<T>() -> Turn<Result<T, UpdateRefusal>>
 }
 
 impl CellHouse {
-    /// Makes a directory, as its master. None where it has something of that directory already, or is not the master, or is down.
+    /// Makes a directory, as its master. None where it has something of that directory already, or
+    /// is not the master, or is down.
     pub(crate) fn found(
         &mut self,
         alloc: Global,
@@ -120,7 +122,8 @@ impl CellHouse {
         }
     }
 
-    /// Enters a new epoch of a directory, as its master. It is refused where the house is not the master, or is down.
+    /// Enters a new epoch of a directory, as its master. It is refused where the house is not the
+    /// master, or is down.
     pub(crate) fn enter_epoch(
         &mut self,
         alloc: Global,
@@ -173,7 +176,8 @@ impl CellHouse {
         }
     }
 
-    /// The message about a directory that says this, and its receivers; none, where nobody is to be told.
+    /// The message about a directory that says this, and its receivers; none, where nobody is to be
+    /// told.
     pub(crate) fn letters(
         &self,
         alloc: Global,

@@ -28,8 +28,8 @@ use directory::Update;
 use std::alloc::{AllocError, Global};
 
 impl Cell {
-    /// The octets of the image that a house would have after a command; none, where the command is refused or leaves its image as it is.
-    /// The cell stays.
+    /// The octets of the image that a house would have after a command; none, where the command is
+    /// refused or leaves its image as it is. The cell stays.
     pub fn image_after(
         &self,
         alloc: Global,
@@ -52,7 +52,8 @@ impl Cell {
         self.image_behind(alloc, house, &step)
     }
 
-    // The octets of the image that a house which acts would have after a step that nothing was said against; none, where they stay.
+    // The octets of the image that a house which acts would have after a step that nothing was said
+    // against; none, where they stay.
     fn image_behind(
         &self,
         alloc: Global,
@@ -189,7 +190,8 @@ impl Cell {
         Ok(())
     }
 
-    // Whether a house accepts an update of a directory. It does accept it here where it is this house of the cell, by itself.
+    // Whether a house accepts an update of a directory. It does accept it here where it is this
+    // house of the cell, by itself.
     fn accepts_on(
         &self,
         alloc: Global,

@@ -43,8 +43,8 @@ use directory::laws::accepted_updates_lead;
 use purge_rule::laws::replicas_show_histories;
 use resolver::laws::walks_end;
 
-/// A cell tells each reader what the cell of the model tells it, whichever house is preferred and however far a replica
-/// is trusted.
+/// A cell tells each reader what the cell of the model tells it, whichever house is preferred and
+/// however far a replica is trusted.
 pub fn cells_tell_the_model()
     ensures { (c : Cell) (g : model.Cell) → Stands c g → (prefer : Option ℕ) (high : Bool)
         → program_reader c prefer high ≡ cell_reader g prefer high }
@@ -59,14 +59,16 @@ pub fn cells_show_finitely_many_objects()
         → ShowsOnly (cell_reader (replay commands) prefer high) (objects_of (replay commands)) }
 {}
 
-/// From each completed skulk on, the replicas of its epoch and of later ones agree up to its stamp, whichever commands come.
+/// From each completed skulk on, the replicas of its epoch and of later ones agree up to its stamp,
+/// whichever commands come.
 pub fn converges(commands: &[Command])
     ensures { Converges (map step_of commands.now) }
 {
     convergence();
 }
 
-/// The image of a house of a cell, and the octets of the one that a house keeps that is down, are those of the model's house.
+/// The image of a house of a cell, and the octets of the one that a house keeps that is down, are
+/// those of the model's house.
 pub fn images_are_those_of_the_model()
     ensures up { (c : Cell) (g : model.Cell) (x : ℕ) (home : Clearinghouse) → Stands c g
         → option_map (λ h. h.state) (house_of c.houses.items x) ≡ Some (state.Up home)
@@ -82,8 +84,8 @@ pub fn images_stay()
         → has x (actors g c) ≡ false → image_at (outcome g c).cell x ≡ image_at g x }
 {}
 
-/// Nothing that a cell keeps is at fault: the octets of each message in the bag decode to a message, with nothing behind it, and each
-/// house that is down starts of its octets.
+/// Nothing that a cell keeps is at fault: the octets of each message in the bag decode to a
+/// message, with nothing after it, and each house that is down starts of its octets.
 pub fn nothing_kept_is_at_fault()
     ensures messages { (c : Cell) (g : model.Cell) (n : ℕ) (octets : List ℕ) → Stands c g
         → option_map (λ l. rc_slice_items l.shared) (letter_at c.bag n) ≡ Some octets
@@ -95,8 +97,9 @@ pub fn nothing_kept_is_at_fault()
     octets_decode_to_one_thing();
 }
 
-/// The updates that a house accepts which is up are commands of the cell, none of which is refused: their cell and their messages
-/// are those of these commands. All are accepted exactly where none is refused.
+/// The updates that a house accepts which is up are commands of the cell, none of which is refused:
+/// their cell and their messages are those of these commands. All are accepted exactly where none
+/// is refused.
 pub fn accepted_updates_are_commands()
     ensures cells { (g : model.Cell) (h d : ℕ) (us : List Change) → IsReached g
         → (g.house h).up ≡ true
@@ -115,8 +118,8 @@ pub fn accepted_updates_are_commands()
         (w.count ≤ length us) × ((w.refused ≡ None) ↔ (w.count ≡ length us)) }
 {}
 
-/// Where the history of a directory accepts updates one after the other, its master that is up refuses one of them for want of stamps
-/// alone.
+/// Where the history of a directory accepts updates one after the other, its master that is up
+/// refuses one of them for want of stamps alone.
 pub fn masters_refuse_for_stamps_alone()
     ensures { (g : model.Cell) (h d : ℕ) (r : model.Replica) (us : List Change) → IsReached g
         → (g.house h).up ≡ true → model.IsHeld g h d r
@@ -125,8 +128,9 @@ pub fn masters_refuse_for_stamps_alone()
         ⊎ ((accept_in_turn g h d us).refused ≡ Some why.StampsSpent) }
 {}
 
-/// A house that is asked at high confidence is up and the master of the directory, and shows what the reader is told of it. So does the
-/// house of a place, and of an entry, to which a walk leads such a reader. At any confidence these are up.
+/// A house that is asked at high confidence is up and the master of the directory, and shows what
+/// the reader is told of it. So does the house of a place, and of an entry, to which a walk leads
+/// such a reader. At any confidence these are up.
 pub fn asked_houses_accept()
     ensures asked { (g : model.Cell) (prefer : Option ℕ) (d : ℕ) (houses : List ℕ) (a : Asked)
         → house_to_ask (views_of g) d prefer true houses ≡ Some a

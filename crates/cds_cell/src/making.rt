@@ -26,7 +26,8 @@ use directory::Update;
 use script_answers::{Answer, ScriptRefusal, Serials};
 use std::alloc::{AllocError, Global};
 
-/// The update that makes a child whose directory has this number and these houses; none, where they are no good list.
+/// The update that makes a child whose directory has this number and these houses; none, where they
+/// are no good list.
 pub(crate) fn child_of(
     alloc: Global,
     name: SimpleName,
@@ -180,7 +181,8 @@ impl Cell {
         self.make_child(alloc, at, dir, &update, child, members)
     }
 
-    // A child by this update of a directory at the house of this place, and its own directory, with this number and these members.
+    // A child by this update of a directory at the house of this place, and its own directory, with
+    // this number and these members.
     fn make_child(
         &mut self,
         alloc: Global,

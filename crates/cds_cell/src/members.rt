@@ -11,14 +11,14 @@ use cds_stamps::{EpochNo, HouseNo, MOST_MEMBERS, Member, MemberKind, Members};
 use cell_script::{Listed, Listeds};
 use std::alloc::{AllocError, Global};
 
-/// Whether a house stands twice, or there are more than 64. Takes no memory.
+/// Whether a house is there twice, or there are more than 64. Takes no memory.
 pub(crate) fn is_bad_list(master: HouseNo, others: &[HouseNo]) -> bool
     ensures { result ≡ model.is_bad_list (master.0 ∷ numbers_of others.now) }
 {
     others.len() >= MOST_MEMBERS || others.contains(&master) || stands_twice(others)
 }
 
-// Whether a house stands twice.
+// Whether a house is there twice.
 fn stands_twice(houses: &[HouseNo]) -> bool
     ensures { result ≡ model.stands_twice (numbers_of houses.now) }
 {
@@ -32,7 +32,8 @@ fn stands_twice(houses: &[HouseNo]) -> bool
     false
 }
 
-/// The members of an epoch with this master and these other houses; none, where a house stands twice or they are more than
+/// The members of an epoch with this master and these other houses; none, where a house is there
+/// twice or they are more than
 /// 64. Who was a member before keeps the epoch since which.
 pub(crate) fn listing(
     alloc: Global,

@@ -8,7 +8,7 @@ use cds_stamps::{AllocOr, HouseNo};
 use cell_names::HouseList;
 use std::alloc::{AllocError, Global};
 
-/// The houses of a directory; none, where one stands twice or they are more than 64.
+/// The houses of a directory; none, where one is there twice or they are more than 64.
 pub(crate) fn house_list(
     alloc: Global,
     master: HouseNo,

@@ -25,8 +25,8 @@ use directory::{AttrMap, EntryCell, Kind, Table};
 use resolver::{EntryReader, Found, Seen};
 use std::alloc::{AllocError, Global};
 
-/// A reader of a cell. Of the houses that a pointer lists it asks the first that is up and holds a replica: at high confidence
-/// only a master, and else the preferred house before all others.
+/// A reader of a cell. Of the houses that a pointer lists it asks the first that is up and holds a
+/// replica: at high confidence only a master, and else the preferred house before all others.
 #[derive(Clone, Copy)]
 pub struct CellReader<'a> {
     pub cell: &'a Cell,
@@ -205,7 +205,8 @@ fn see(alloc: Global, house: HouseNo, table: &Table, name: &SimpleName) -> Resul
     }
 }
 
-// What a house shows of an entry. Where it leads is read once: a link or a child that leads nowhere is not shown either.
+// What a house shows of an entry. Where it leads is read once: a link or a child that leads nowhere
+// is not shown either.
 fn see_entry(alloc: Global, house: HouseNo, entry: &EntryCell) -> Result<Seen, AllocError>
     ensures { IfOk result (λ seen. sight_of seen ≡ shown_sight house.0 (shown_entry entry.now)) }
 {

@@ -1,4 +1,5 @@
-// Which steps are allowed, but for what the house that acts says to them. Nothing here takes memory.
+// Which steps are allowed, but for what the house that acts says to them. Nothing here takes
+// memory.
 ghost use Rattle.std.specs.Prelude.{◌≡◌, [], ◌∷◌, ◌++◌, is_none, is_some, not};
 ghost use Rattle.std.specs.List.{list_any};
 ghost use Rattle.std.specs.Option.{option_map};

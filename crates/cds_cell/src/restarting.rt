@@ -1,4 +1,5 @@
-// Houses that start of what a journal gives, and houses that crash behind a command, whose messages are lost with them.
+// Houses that start of what a journal gives, and houses that crash after a command, whose messages
+// are lost with them.
 ghost use Rattle.std.specs.Prelude.{◌≡◌, None, IfOk, OnOk};
 ghost use Rattle.cell_model.specs.Cells as model;
 ghost use Rattle.cell_model.specs.Commands as command;
@@ -15,8 +16,8 @@ use script_answers::{Answer, ScriptRefusal};
 use std::alloc::{AllocError, Global};
 
 impl Cell {
-    /// A house that is down starts of these octets, as by `start` where they are those of its image. Octets that are no image leave
-    /// it down.
+    /// A house that is down starts of these octets, as by `start` where they are those of its
+    /// image. Octets that are no image leave it down.
     pub fn start_from(
         &mut self,
         alloc: Global,
@@ -73,8 +74,8 @@ impl Cell {
         Ok(Answer::Done)
     }
 
-    /// A house crashes, if it is up, and all messages are lost but the first ones, so many. No serial number is given again. After want
-    /// of memory the cell is spent, as after a step.
+    /// A house crashes, if it is up, and all messages are lost but the first ones, so many. No
+    /// serial number is given again. After want of memory the cell is spent, as after a step.
     pub fn crash_after(
         &mut self,
         alloc: Global,

@@ -25,7 +25,8 @@ pub struct AcceptedAll {
 }
 
 impl Cell {
-    /// Updates of a directory at the house of this place, one after another up to the first that is refused.
+    /// Updates of a directory at the house of this place, one after another up to the first that is
+    /// refused.
     pub(crate) fn accept_each(
         &mut self,
         alloc: Global,

@@ -1,4 +1,4 @@
--- The order of directories, by their numbers (own).
+-- The order of directories, by their numbers.
 use Rattle.std.specs.Prelude.{ℕ}
 use Rattle.std.proofs.Common.{ap}
 use Rattle.std.specs.declared.cmp.Ordering.{Ordering}
@@ -9,7 +9,7 @@ use Rattle.std.proofs.lemmas.Cmp.{on_total}
 use Rattle.std.proofs.lemmas.Map.Lookups.{exact_unsigned}
 use Rattle.cds_stamps.specs.declared.numbers.DirId.{DirId}
 
--- directories in the order of their numbers (own)
+-- directories in the order of their numbers
 abbrev pub dir_cmp : DirId → DirId → Ordering
 dir_cmp a b = nat_cmp a.0 b.0
 

@@ -1,15 +1,15 @@
--- The parts of messages (own).
+-- The parts of messages.
 use Rattle.std.specs.Prelude.{ℕ}
 use Rattle.cds_messages.specs.declared.message.Head.{Head}
 use Rattle.cds_messages.specs.declared.message.Message.{Message}
 use Rattle.cds_messages.specs.declared.message.Body.{Body}
 use Rattle.cds_messages.specs.declared.message.Body.TheVariants.{Update, Gather, Gathered, Spread, SpreadAck, Advance, Join, Leave}
 
--- the head of a message (own)
+-- the head of a message
 abbrev pub head_of : Message → Head
 head_of m = record { dir = m.dir; from = m.from; epoch = m.epoch; floor = m.floor }
 
--- the tag of what a message carries (own)
+-- the tag of what a message carries
 abbrev pub tag_of : Body → ℕ
 tag_of (Update f) = 1
 tag_of (Gather t) = 2

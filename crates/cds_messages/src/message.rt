@@ -31,7 +31,8 @@ impl Drop for Message {
     }
 }
 
-/// What stands before what a message carries: the directory, and the house that posts it with its epoch and its floor.
+/// What is before what a message carries: the directory, and the house that posts it with its epoch
+/// and its floor.
 #[derive(Clone, Copy)]
 pub struct Head {
     pub dir: DirId,
@@ -62,7 +63,7 @@ pub enum Body {
 }
 
 impl Message {
-    /// What stands before what it carries.
+    /// What is before what it carries.
     pub fn head(&self) -> Head
         ensures { result ≡ head_of self.now }
     {

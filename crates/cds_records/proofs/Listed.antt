@@ -59,7 +59,7 @@ members_end secondary b front count i before master x start lt h so_far =
     let one : behind front (read (member_list secondary (count - i) before master) x) ≡ Err b = rw (k, read_here) refl in
     sym so_far ∙ one
 
--- behind the last member the list is read
+-- after the last member the list is read
 pub members_done : (secondary : Bool) (front : List Member) (count i : ℕ) (before : Option ℕ) (master : Bool) (x : List ℕ) (total : Result (List Member × List ℕ) Broken)
     → count ≤ i → behind front (read (member_list secondary (count - i) before master) x) ≡ total → total ≡ Ok (front, x)
 unfolding member_list

@@ -116,12 +116,12 @@ format_missing = fault_is either_image [] (fault.Short 1) (record {
   named = refl;
 })
 
--- behind a first octet 1 an image is of format 1
+-- after a first octet 1 an image is of format 1
 pub format_former : (rest : List ℕ) → decode_by either_image (1 ∷ rest) ≡ decode_by image_1 (1 ∷ rest)
 unfolding either_image image_1 image_in octet
 format_former rest = refl
 
--- behind 2 it is of format 2
+-- after 2 it is of format 2
 pub format_present : (rest : List ℕ) → decode_by either_image (2 ∷ rest) ≡ decode_by image (2 ∷ rest)
 unfolding either_image image image_in octet
 format_present rest = refl

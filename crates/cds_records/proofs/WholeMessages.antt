@@ -174,7 +174,7 @@ the_message_whole m valid fits = (message_whole m valid fits).is
 
 -- ---- messages that are written
 
--- what a message carries is written behind its head
+-- what a message carries is written after its head
 pub message_written : (h : Head) (b : Body) (out new : List ℕ) → out ≡ message_head h (tag_of b) → new ≡ out ++ body_octets b
     → new ≡ message_octets (message_with h b)
 unfolding message_octets

@@ -77,7 +77,7 @@ each_both : {X : Type 0} (V W : X → Type 0) (o : Option X) → IfSome o V → 
 each_both V W None v w = tt
 each_both V W (Some x) v w = (v, w)
 
--- an entry behind its name
+-- an entry after its name
 pub entry_whole : (above : Option Stamp) (e : EntryCell) → IsValidEntry e → IsAboveEntry above e → FitsEntry e → Whole (entry above) e (entry_octets e)
 unfolding entry entry_octets
 entry_whole above e valid is_above fits =

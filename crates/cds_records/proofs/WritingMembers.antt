@@ -24,7 +24,7 @@ list_goes_on all es rest m old out new first so_far behind fits =
       fits = λ more. h.fits (fits, more);
     }
 
--- behind the last member all are written
+-- after the last member all are written
 pub list_ends : (all rest : List Member) (old out : List ℕ) → rest ≡ [] → ListWritten all rest old out
     → (out ≡ old ++ flat_map member_octets all) × AllByRecursion (λ m. m.since.0 < 2 ^ 64) all
 list_ends all rest old out none so_far =

@@ -1,5 +1,5 @@
--- Numbers that fit their fields, and names, values and member lists that keep their rules (own). A program has no others, by its types;
--- a law has to say so.
+-- Numbers that fit their fields, and names, values and member lists that keep their rules. A
+-- program has no others, by its types; a law has to say so.
 use Rattle.std.specs.Prelude.{◌≡◌, ◌^◌, ◌<◌, List, None, IfSome}
 use Rattle.std.specs.List.{AllByRecursion}
 use Rattle.cds_stamps.specs.declared.members.Member.{Member}
@@ -18,28 +18,28 @@ use Rattle.cds_messages.specs.declared.message.Body.TheVariants.{Update, Gather,
 use Rattle.cds_messages.specs.Messages.{head_of}
 use Rattle.record_fields.specs.FieldRanges.{FitsCell, FitsMap, FitsStamp}
 
--- an entry (own)
+-- an entry
 pub record FitsEntry (e : EntryCell) : Type 0 where
   pub birth : FitsStamp e.birth
   pub death : IfSome e.death FitsStamp
   pub attrs : FitsMap (λ n. attr_fault n ≡ None) FitsCell e.attrs
 
--- a replica (own)
+-- a replica
 pub record FitsReplica (r : Replica) : Type 0 where
   pub all_up_to : IfSome r.all_up_to FitsStamp
   pub table : FitsMap (λ n. simple_name_fault n ≡ None) FitsEntry r.table
 
--- a delta (own)
+-- a delta
 pub record FitsDelta (d : Delta) : Type 0 where
   pub above : IfSome d.above FitsStamp
   pub table : FitsMap (λ n. simple_name_fault n ≡ None) FitsEntry d.table
 
--- members of an epoch (own)
+-- members of an epoch
 pub record FitsMembers (ms : List Member) : Type 0 where
   pub lawful : members_fault (members_of ms) ≡ None
   pub since : AllByRecursion (λ m. m.since.0 < 2 ^ 64) ms
 
--- what a message carries (own)
+-- what a message carries
 abbrev pub FitsBody : Body → Type 0
 FitsBody (Update f) = (simple_name_fault f.name ≡ None) × FitsEntry f.entry
 FitsBody (Gather t) = FitsStamp t
@@ -50,23 +50,23 @@ FitsBody (Advance t) = FitsStamp t
 FitsBody (Join ms r) = FitsMembers ms × FitsReplica r
 FitsBody Leave = Unit {0}
 
--- what stands before that (own)
+-- what is before that
 pub record FitsHead (h : Head) : Type 0 where
   pub dir : h.dir.0 < 2 ^ 32
   pub epoch : h.epoch.0 < 2 ^ 64
   pub floor : h.floor < 2 ^ 64
 
--- a message (own)
+-- a message
 pub record FitsMessage (m : Message) : Type 0 where
   pub head : FitsHead (head_of m)
   pub body : FitsBody m.body
 
--- what is kept of a directory (own)
+-- what is kept of a directory
 abbrev pub FitsDir : ImageDir → Type 0
 FitsDir (Held e ms r) = (e.0 < 2 ^ 64) × FitsMembers ms × FitsReplica r
 FitsDir (Gone e) = e.0 < 2 ^ 64
 
--- an image (own)
+-- an image
 pub record FitsImage (i : Image) : Type 0 where
   pub node : i.node < 2 ^ 48
   pub floor : i.floor < 2 ^ 64

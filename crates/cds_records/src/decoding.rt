@@ -20,7 +20,8 @@ use cds_stamps::AllocOr;
 use record_fields::{ReadError, Reader, RecordFault, Rule};
 use std::alloc::Global;
 
-/// The message at the front of the octets, and how many octets it has; other octets may follow it. Else the first fault.
+/// The message at the front of the octets, and how many octets it has; other octets may follow it.
+/// Else the first fault.
 pub fn decode(alloc: Global, octets: &[u8]) -> Result<(Message, usize), AllocOr<RecordFault>>
     ensures decodes { Decodes message octets.now result }
     ensures valid { IfOk result (λ r. IsValidMessage r.0) }
@@ -33,7 +34,8 @@ pub fn decode(alloc: Global, octets: &[u8]) -> Result<(Message, usize), AllocOr<
     }
 }
 
-/// The image at the front of the octets, and how many octets it has; other octets may follow it. Else the first fault.
+/// The image at the front of the octets, and how many octets it has; other octets may follow it.
+/// Else the first fault.
 #[tactic(auto, unfolding(crate::specs::Images::image))]
 pub fn decode_image(alloc: Global, octets: &[u8]) -> Result<(Image, usize), AllocOr<RecordFault>>
     ensures decodes { Decodes image octets.now result }
@@ -53,8 +55,8 @@ pub fn decode_image_1(alloc: Global, octets: &[u8]) -> Result<(Image, usize), Al
     decode_image_in(alloc, octets, FORMER_FORMAT, FORMER_FORMAT)
 }
 
-/// The image of either format that the octets are. Else the first fault; where octets follow an image it is Trailing, at
-/// the first of them.
+/// The image of either format that the octets are. Else the first fault; where octets follow an
+/// image it is Trailing, at the first of them.
 pub fn whole_image(alloc: Global, octets: &[u8]) -> Result<Image, AllocOr<RecordFault>>
     ensures answer { Answers result (migration.whole_image octets.now) }
     ensures valid { IfOk result IsValidImage }
@@ -67,7 +69,8 @@ pub fn whole_image(alloc: Global, octets: &[u8]) -> Result<Image, AllocOr<Record
     Ok(image)
 }
 
-/// The octets in format 2 of the image of either format that the octets are. Else the fault of `whole_image`.
+/// The octets in format 2 of the image of either format that the octets are. Else the fault of
+/// `whole_image`.
 pub fn migrate_image(alloc: Global, octets: &[u8]) -> Result<Vec<u8>, AllocOr<RecordFault>>
     ensures answer { Answers (result_map_both (λ v. v.items) (λ e. e) result)
         (migration.migrated_image octets.now) }
@@ -79,7 +82,8 @@ pub fn migrate_image(alloc: Global, octets: &[u8]) -> Result<Vec<u8>, AllocOr<Re
     Ok(migrated)
 }
 
-/// The image of one of these formats at the front of the octets, and how many octets it has. Else the first fault.
+/// The image of one of these formats at the front of the octets, and how many octets it has. Else
+/// the first fault.
 fn decode_image_in(
     alloc: Global,
     octets: &[u8],

@@ -38,7 +38,8 @@ pub fn encode(alloc: Global, message: &Message) -> Result<Vec<u8>, AllocError>
     Ok(out)
 }
 
-/// The octets of an Update with this head, from borrowed marks. They are the whole of it if its entry is valid.
+/// The octets of an Update with this head, from borrowed marks. They are the whole of it if its
+/// entry is valid.
 pub fn encode_update(alloc: Global, head: &Head, fragment: &Fragment) -> Result<Vec<u8>, AllocError>
     ensures octets { IfOk result
         (λ v. v.items ≡ message_octets (message_with head.now (bodies.Update fragment.now))) }
@@ -51,7 +52,8 @@ pub fn encode_update(alloc: Global, head: &Head, fragment: &Fragment) -> Result<
     Ok(out)
 }
 
-/// The octets of a Gathered with this head, from a borrowed delta. They are the whole of it if that is valid.
+/// The octets of a Gathered with this head, from a borrowed delta. They are the whole of it if that
+/// is valid.
 pub fn encode_gathered(
     alloc: Global,
     head: &Head,
@@ -88,7 +90,8 @@ pub fn encode_spread(
     Ok(out)
 }
 
-/// The octets of a Join with this head, from a borrowed list and replica. They are the whole of it if its table is valid.
+/// The octets of a Join with this head, from a borrowed list and replica. They are the whole of it
+/// if its table is valid.
 pub fn encode_join(
     alloc: Global,
     head: &Head,
@@ -108,7 +111,8 @@ pub fn encode_join(
     Ok(out)
 }
 
-/// What stands before what a message of this tag carries. There is room for the message of an update with short names.
+/// What is before what a message of this tag carries. There is room for the message of an update
+/// with short names.
 fn begin(alloc: Global, head: &Head, tag: u8) -> Result<Vec<u8>, AllocError>
     ensures octets { IfOk result (λ v. v.items ≡ message_head head.now tag) }
     ensures fits { IfOk result (λ v. FitsHead head.now) }

@@ -33,7 +33,7 @@ pub fn encode_image(alloc: Global, image: &Image) -> Result<Vec<u8>, AllocError>
     Ok(out)
 }
 
-/// What stands before the directories, of which there are so many.
+/// What is before the directories, of which there are so many.
 fn begin_image(
     alloc: Global,
     house: HouseNo,
@@ -55,7 +55,8 @@ fn begin_image(
     Ok(out)
 }
 
-/// A directory that is held: its number, its epoch, its members, its replica, and how much that holds.
+/// A directory that is held: its number, its epoch, its members, its replica, and how much that
+/// holds.
 fn put_held(
     out: &mut Vec<u8>,
     dir: DirId,
@@ -116,8 +117,8 @@ fn put_dirs(out: &mut Vec<u8>, dirs: &ImageDirs) -> Result<(), AllocError>
     Ok(())
 }
 
-/// An image in the making, written from borrowed parts. It is seen as the octets that stand there; after want of memory
-/// some of a directory may be among them.
+/// An image in the making, written from borrowed parts. It is seen as the octets that stand there;
+/// after it ran out of memory some of a directory may be among them.
 #[derive(Drop)]
 pub struct ImageWriter {
     out: Vec<u8>,

@@ -34,7 +34,7 @@ fn read_dir_number(reader: &mut Reader<'_>, before: Option<DirId>) -> Result<Dir
     Ok(DirId(number))
 }
 
-/// The count behind a replica, which is how much it holds. In format 1 none stands there.
+/// The count after a replica, which is how much it holds. In format 1 none is there.
 #[tactic(auto, unfolding(crate::specs::Images::held_count, record_fields::specs::Fields::number))]
 fn read_held_count(reader: &mut Reader<'_>, format: u8, replica: &Replica) -> Result<(), Broken>
     ensures { ReadsSurely (λ x. x) (held_count format replica.now) reader.old reader.new result }

@@ -12,8 +12,8 @@ ghost use Rattle.cds_records.specs.RecordRanges.{FitsMessage, FitsImage};
 ghost use Rattle.cds_records.specs.Records.{message};
 ghost use Rattle.cds_messages.specs.Validity.{IsValidMessage, IsValidImage};
 
-/// The octets of no message begin those of another, so what follows a message is never taken as its own, and octets are
-/// those of one message at most.
+/// The octets of no message begin those of another, so what follows a message is never taken as its
+/// own, and octets are those of one message at most.
 pub fn no_message_begins_another()
     ensures { (m other : Message) (a b x y : List ℕ) → IsWhole message m a → IsWhole message other b
         → a ++ x ≡ b ++ y → (m ≡ other) × (a ≡ b) × (x ≡ y) }
@@ -39,8 +39,8 @@ pub fn an_image_has_one_spelling()
         → IsWhole image_1 i a → IsWhole image_1 i b → a ≡ b }
 {}
 
-/// What octets decode to as a function is what the grammar says of them: the message at their front, or their first fault;
-/// and so it is with images of each format, and of either.
+/// What octets decode to as a function is what the grammar says of them: the message at their
+/// front, or their first fault; and so it is with images of each format, and of either.
 pub fn octets_decode_to_one_thing()
     ensures messages { (octets : List ℕ)
         → Decodes message octets (with_memory (decode_by message octets)) }
@@ -52,8 +52,8 @@ pub fn octets_decode_to_one_thing()
         → Decodes either_image octets (with_memory (decode_by either_image octets)) }
 {}
 
-/// The octets of a message are the whole of it, if its entries, tables and deltas are valid, its numbers fit their fields, and its
-/// names, values and members keep their rules.
+/// The octets of a message are the whole of it, if its entries, tables and deltas are valid, its
+/// numbers fit their fields, and its names, values and members keep their rules.
 pub fn octets_of_a_message_are_whole()
     ensures { (m : Message) → IsValidMessage m → FitsMessage m
         → IsWhole message m (message_octets m) }
@@ -64,7 +64,8 @@ pub fn octets_of_an_image_are_whole()
     ensures { (i : Image) → IsValidImage i → FitsImage i → IsWhole image i (image_octets i) }
 {}
 
-/// The first octet of an image says its format: behind 1 it is read by format 1, behind 2 by format 2, and no other is known.
+/// The first octet of an image says its format: after 1 it is read by format 1, after 2 by format
+/// 2, and no other is known.
 pub fn the_first_octet_says_the_format()
     ensures former { (rest : List ℕ)
         → decode_by either_image (1 ∷ rest) ≡ decode_by image_1 (1 ∷ rest) }
@@ -75,7 +76,8 @@ pub fn the_first_octet_says_the_format()
     ensures nothing { decode_by either_image [] ≡ Err (Short 1) }
 {}
 
-/// Octets of an image of format 1 are migrated to those of the same image in format 2. Those of an image of format 2 stay.
+/// Octets of an image of format 1 are migrated to those of the same image in format 2. Those of an
+/// image of format 2 stay.
 pub fn an_image_is_migrated()
     ensures former { (i : Image) (octets : List ℕ) → IsWhole image_1 i octets
         → migrated_image octets ≡ Ok (image_octets i) }

@@ -44,7 +44,7 @@ fn read_member_kind(
     }
 }
 
-/// A member, before so many members, behind a house, with or without a master before it.
+/// A member, before so many members, after a house, with or without a master before it.
 #[tactic(auto, unfolding(crate::specs::Records::member))]
 fn read_member(
     reader: &mut Reader<'_>,

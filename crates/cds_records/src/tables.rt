@@ -65,7 +65,7 @@ fn read_kind(reader: &mut Reader<'_>) -> Result<Kind, Broken>
     Ok(kind_from(number))
 }
 
-/// An entry behind its name, of which all but its birth is above.
+/// An entry after its name, of which all but its birth is above.
 #[tactic(auto, unfolding(crate::specs::Records::entry))]
 pub(crate) fn read_entry(
     reader: &mut Reader<'_>,
@@ -97,7 +97,7 @@ fn insert_cell(attrs: &mut AttrMap, name: AttrName, cell: AttrCell) -> Result<()
 
 // Tables, replicas and deltas.
 
-/// Puts the next entry behind those before it. The octets of its name.
+/// Puts the next entry after those before it. The octets of its name.
 #[tactic(auto, unfolding(record_fields::specs::ListLayouts::item))]
 fn push_entry<'a>(
     reader: &mut Reader<'a>,
@@ -136,8 +136,8 @@ fn read_entries(
     Ok(entries)
 }
 
-/// The table of so many entries, ascending. They are listed first, since a table is made of a list in less time than by
-/// inserting each.
+/// The table of so many entries, ascending. They are listed first, since a table is made of a list
+/// in less time than by inserting each.
 #[tactic(auto, unfolding(record_fields::specs::ListLayouts::map_of))]
 fn read_table(
     reader: &mut Reader<'_>,

@@ -1,5 +1,5 @@
-// Writers of what stands in replicas. Each puts the octets of a value behind those before. After want of memory some of them
-// may stand there.
+// Writers of what is in replicas. Each puts the octets of a value after those before. After it ran
+// out of memory some of them may stand there.
 ghost use Rattle.std.specs.Prelude.{◌≡◌, ◌+◌, ◌<◌, ◌++◌, None, IfSome, OnOk};
 ghost use Rattle.std.specs.FinMap.{entries};
 ghost use Rattle.std.specs.Int.{w64, to_be_bytes};
@@ -54,7 +54,7 @@ fn kind_number(kind: Kind) -> u8
     }
 }
 
-/// An entry behind its name.
+/// An entry after its name.
 pub(crate) fn put_entry(out: &mut Vec<u8>, entry: &EntryCell) -> Result<(), AllocError>
     ensures octets { OnOk result (out.new.items ≡ out.old.items ++ entry_octets entry.now) }
     ensures fits { OnOk result (FitsEntry entry.now) }
@@ -90,7 +90,7 @@ fn put_entries(out: &mut Vec<u8>, list: Iter<'_, SimpleName, EntryCell>) -> Resu
     Ok(())
 }
 
-/// A stamp or none, and so many entries behind their number.
+/// A stamp or none, and so many entries after their number.
 fn put_table(
     out: &mut Vec<u8>,
     stamp: &Option<Stamp>,

@@ -54,7 +54,7 @@ one_head x y xs ys sx sy to from =
     (above_at x xs y sx.0 other) (above_at y ys x sy.0 later))) (Contains-cases x xs y (from y (Contains-head y ys))))
     (Contains-cases y ys x (to x (Contains-head x xs)))
 
--- what is behind the same head is within as well
+-- what is after the same head is within as well
 behind : (x y : List ℕ) (xs ys : List (List ℕ)) → Rises (x ∷ xs) → x ≡ y → Within (x ∷ xs) (y ∷ ys) → Within xs ys
 unfolding IsStrictlySortedBy
 behind x y xs ys sx same to o c =

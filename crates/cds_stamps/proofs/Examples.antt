@@ -59,7 +59,8 @@ up_to_itself = refl
 not_before_itself : is_earlier (at 2 3) (at 2 3) ≡ false
 not_before_itself = refl
 
--- the clock where it is ahead, the floor and one more where it is not, and nothing behind the last time
+-- the clock where it is ahead, the floor and one more where it is not, and nothing after the last
+-- time
 by_clock : next_stamp 100 7 3 ≡ Some (at 100 3)
 by_clock = refl
 
@@ -97,7 +98,7 @@ dash_in_attribute = refl
 longer_attribute : attr_fault (replicate 32 65) ≡ Some (BadAttr 32)
 longer_attribute = refl
 
--- a fault answers what was expected, and want of memory anything
+-- a fault answers what was expected, and out of memory anything
 fault_answers : Answers {T = ℕ} {E = ℕ} (Err (Fault 7)) (ok_unless (Some 7) 1)
 fault_answers = refl
 

@@ -1,4 +1,5 @@
--- Faults that are found item by item: what stands behind the fault is not read, and what stands before it may go on.
+-- Faults that are found item by item: what is after the fault is not read, and what is before it
+-- may go on.
 use Rattle.std.proofs.Common.{◌≡◌, ℕ, suc, ◌+◌, ◌-◌, ◌<◌, List, [], ◌∷◌, ◌++◌, length, take}
 use Rattle.std.proofs.Common.{get_or, Option, Some, None, refl, sym, ap, ◌∙◌, ◌⊎◌, inl, inr, subst, arith}
 use Rattle.cds_stamps.specs.Fronts.{IsFront, IsFirstBad}
@@ -18,7 +19,7 @@ module _ {A S E : Type 0} (fault : S → List A → Option E) (step : S → A �
     pub steps : (s : S) (x : A) (xs : List A) → fault s (x ∷ xs) ≡ after (step s x) xs
     pub counts : (s t : S) (x : A) → step s x ≡ inr t → at t ≡ at s + 1
 
-  -- the item behind the first k is the fault
+  -- the item after the first k is the fault
   pub record IsBad (s : S) (xs : List A) (e : E) (k : ℕ) (state : S) : Type 0 where
     pub inside : k < length xs
     pub item : A
@@ -31,7 +32,7 @@ module _ {A S E : Type 0} (fault : S → List A → Option E) (step : S → A �
     pub all : k ≡ length xs
     pub missing : fault state [] ≡ Some e
 
-  -- the fault is found behind the first k items, in this state
+  -- the fault is found after the first k items, in this state
   pub record Cut (s : S) (xs : List A) (e : E) : Type 0 where
     pub k : ℕ
     pub state : S
@@ -93,7 +94,7 @@ no_both r e p q = some_not_none (sym p ∙ q)
     some_not_none : None ≡ Some e → ⊥
     some_not_none x = absurd cc
 
--- a place behind so many items is that of the first bad one
+-- a place after so many items is that of the first bad one
 pub first_bad : {A : Type 0} (IsLawful : List A → Type 0) (all : List A) (k place : ℕ) → place ≡ suc k → k < length all
     → IsFront IsLawful (take k all) → ¬ IsFront IsLawful (take (suc k) all) → IsFirstBad IsLawful all place
 first_bad IsLawful all k place at inside before here = record {

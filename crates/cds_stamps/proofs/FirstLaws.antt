@@ -1,4 +1,5 @@
--- First places have the items of the list, each once; and the first that passes, in lists joined to one.
+-- First places have the items of the list, each once; and the first that passes, in lists joined to
+-- one.
 use Rattle.std.proofs.Common.{◌≡◌, Bool, true, false, List, [], ◌∷◌, ◌++◌, refl, sym, ap, ◌∙◌, append-nil}
 use Rattle.std.specs.Prelude.{◌||◌, if◌then◌else◌}
 use Rattle.std.specs.List.{AllByRecursion, IsDistinct, find, flat_map}
@@ -12,7 +13,7 @@ find-flat_map p f [] = refl
 find-flat_map p f (x ∷ xs) = find-append p (f x) (flat_map f xs) ∙ ap (option_or (find p (f x))) (find-flat_map p f xs)
 
 module _ {A : Type 0} (same : A → A → Bool) (exact : (x y : A) → same x y ≡ true → x ≡ y) (itself : (x : A) → same x x ≡ true) where
-  -- behind one more that was seen
+  -- after one more that was seen
   seen_more : (seen : List A) (y x : A) → has same x (seen ++ y ∷ []) ≡ (has same x seen || (same x y || false))
   seen_more seen y x = list_any-append (same x) seen (y ∷ [])
 
@@ -74,7 +75,7 @@ module _ {A : Type 0} (same : A → A → Bool) (exact : (x y : A) → same x y 
       back true b e = absurd cc
       back false b e = e
 
-  -- each first place differs from those behind it
+  -- each first place differs from those after it
   pub firsts-once : (seen xs : List A) → IsDistinct same (firsts same seen xs)
   unfolding IsDistinct
   firsts-once seen [] = tt

@@ -12,7 +12,7 @@ use Rattle.cds_stamps.specs.Octets.{octets_cmp}
 abbrev pub AreOctets : List ℕ → Type 0
 AreOctets xs = (k : ℕ) → get_or xs k 0 < 256
 
--- the number that octets spell behind the number h
+-- the number that octets spell after the number h
 abbrev spelled : ℕ → List ℕ → ℕ
 spelled h [] = h
 spelled h (x ∷ xs) = spelled (h * 256 + x) xs
@@ -43,7 +43,7 @@ apart x y rest differ = by_order (nat_cmp x y) (ranked x y _ refl)
     by_order Equal r = absurd (differ r)
     by_order Greater r = refl
 
--- a number behind a smaller one is smaller
+-- a number after a smaller one is smaller
 rising : (h g : ℕ) (us vs : List ℕ) → length us ≡ length vs → AreOctets us → h < g → spelled h us < spelled g vs
 rising h g [] [] same octets l = l
 rising h g [] (v ∷ vs) same octets l = absurd (omega (arith, same))
@@ -52,7 +52,8 @@ rising h g (u ∷ us) (v ∷ vs) same octets l =
     let low : u < 256 = octets 0 in
     rising (h * 256 + u) (g * 256 + v) us vs (omega (arith, same)) (λ k. octets (suc k)) (omega arith)
 
--- as many octets of two lists are in the order of the numbers that they spell, and where these are one, the rest decides
+-- as many octets of two lists are in the order of the numbers that they spell, and where these are
+-- one, the rest decides
 settled : (h : ℕ) (us vs xs ys : List ℕ) → length us ≡ length vs → AreOctets us → AreOctets vs
     → octets_cmp (us ++ xs) (vs ++ ys) ≡ ordering_then (nat_cmp (spelled h us) (spelled h vs)) (octets_cmp xs ys)
 settled h [] [] xs ys same left right = ap (λ o. ordering_then o (octets_cmp xs ys)) (sym (tied_itself nat_cmp_total h))
@@ -108,7 +109,7 @@ octets_drop zero xs octets k = octets k
 octets_drop (suc n) [] octets k = omega arith
 octets_drop (suc n) (x ∷ xs) octets k = octets_drop n xs (λ k. octets (suc k)) k
 
--- what stands behind the same octets decides
+-- what is after the same octets decides
 behind : (p xs ys : List ℕ) → octets_cmp (p ++ xs) (p ++ ys) ≡ octets_cmp xs ys
 behind [] xs ys = refl
 behind (b ∷ p) xs ys = ap (λ o. ordering_then o (octets_cmp (p ++ xs) (p ++ ys))) (tied_itself nat_cmp_total b) ∙ behind p xs ys
@@ -149,7 +150,7 @@ first_apart i xs ys in_xs in_ys same differ =
     ∙ ap (λ zs. octets_cmp (get_or xs i 0 ∷ drop (i + 1) xs) zs) (drop_more ys i 0 in_ys)
     ∙ apart (get_or xs i 0) (get_or ys i 0) (octets_cmp (drop (i + 1) xs) (drop (i + 1) ys)) differ)
 
--- ---- a number read of n octets of each list from i on, behind octets that are the same
+-- ---- a number read of n octets of each list from i on, after octets that are the same
 module _ (n : ℕ) (number : List ℕ → ℕ) (reads : (us : List ℕ) → length us ≡ n → number us ≡ spelled 0 us) where
   module _ (xs ys : List ℕ) (left : AreOctets xs) (right : AreOctets ys) (i x y : ℕ) (in_xs : i + n ≤ length xs) (in_ys : i + n ≤ length ys)
       (read_x : x ≡ number (take n (drop i xs))) (read_y : y ≡ number (take n (drop i ys))) where

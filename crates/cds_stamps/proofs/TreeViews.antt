@@ -1,5 +1,6 @@
--- A tree map seen as the finite map of its entries: what a key finds, what an insertion, a removal, a `retain` and a loop over the
--- entries leave, how many there are. Of any keys in a total order and any values.
+-- A tree map seen as the finite map of its entries: what a key finds, what an insertion, a removal,
+-- a `retain` and a loop over the entries leave, how many there are. Of any keys in a total order
+-- and any values.
 use Rattle.std.proofs.Common.{◌≡◌, Bool, true, false, cond, ◌+◌, length, is_some, add-one, List, [], ◌∷◌, Option, Some, None, refl, sym, ap, subst, ◌∙◌}
 use Rattle.std.specs.Prelude.{◌&&◌, T, if◌then◌else◌}
 use Rattle.std.specs.declared.cmp.Ordering.{Ordering}
@@ -32,7 +33,7 @@ find-lookup R (e ∷ es) q = ap (cond (is_at (R q) e.0) (Some e.1)) (find-lookup
 abbrev pub entry_at : {K X : Type 0} → (K → K → Ordering) → K → K × X → Option X
 entry_at R q e = if is_at (R q) e.0 then Some e.1 else None
 
--- among entries in order a key stands once, so that joining all of its values is to look it up
+-- among entries in order a key is there once, so that joining all of its values is to look it up
 pub join_of-entries : {K X : Type 0} {R : K → K → Ordering} → IsTotalOrder R → (f : X → X → X) (q : K) (es : List (K × X))
     → IsStrictlySortedBy R (keys_of es) → join_of f (entry_at R q) es ≡ lookup (is_at (R q)) es
 join_of-entries o f q [] sorted = refl

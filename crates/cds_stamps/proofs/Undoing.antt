@@ -1,5 +1,6 @@
--- Changes of a map, and the logs that take them back. A map stands beside the tree whose entries it has; `es` are the
--- tree's entries before a change, and `fs` those after it. Of any keys in an exact total order, values and changes.
+-- Changes of a map, and the logs that take them back. A map is beside the tree whose entries it
+-- has; `es` are the tree's entries before a change, and `fs` those after it. Of any keys in an
+-- exact total order, values and changes.
 use Rattle.std.proofs.Common.{◌≡◌, Bool, true, false, cond, List, [], ◌∷◌, ◌++◌, Option, Some, None, refl, sym, ap, ◌∙◌, arith, Result, Ok, Err, OnErr}
 use Rattle.std.specs.Prelude.{if◌then◌else◌, slice_get, length}
 use Rattle.std.specs.declared.cmp.Ordering.{Ordering}

@@ -1,4 +1,4 @@
--- Joins of finite maps and of entries with a key, built of the joins of what they hold (own).
+-- Joins of finite maps and of entries with a key, built of the joins of what they hold.
 use Rattle.std.specs.Prelude.{◌≡◌, IfSome, refl}
 use Rattle.std.proofs.Common.{◌∙◌, arith}
 use Rattle.std.specs.declared.cmp.Ordering.{Ordering}
@@ -8,11 +8,11 @@ use Rattle.std.specs.FinMap.{FinMap, IsAntisymmetric, get, same_map}
 use Rattle.cds_stamps.specs.Semilattice.{IsJoin, maybe, maybe_join}
 use Rattle.cds_stamps.specs.Keyed.{merge, get-merge}
 
--- each value of a map is valid (own)
+-- each value of a map is valid
 abbrev pub EachValue : {K X : Type 0} {R : K → K → Ordering} → (X → Type 0) → FinMap R X → Type 0
 EachValue {K} V m = (k : K) → IfSome (get m k) V
 
--- two maps, joined at each key (own)
+-- two maps, joined at each key
 abbrev pub join_maps : {K X : Type 0} {R : K → K → Ordering} → (X → X → X) → FinMap R X → FinMap R X → FinMap R X
 join_maps f = merge (maybe f)
 
@@ -34,7 +34,7 @@ module _ {K X : Type 0} {R : K → K → Ordering} (o : IsTotalOrder R) (same : 
         idem = λ m a. same_map o same (join_maps f m m) m (λ q. at m m q ∙ p.idem (get m q) (a q));
       }
 
--- the greater by a key wins whole, and those of one key are joined by f (own)
+-- the greater by a key wins whole, and those of one key are joined by f
 abbrev pub by_key : {E K : Type 0} → (E → K) → (K → K → Ordering) → (E → E → E) → E → E → E
 by_key key R f a b = elim (R (key a) (key b)) [ Less ↦ b | Equal ↦ f a b | Greater ↦ a ]
 

@@ -1,4 +1,4 @@
--- Finite maps that are made of a list of keys and a function (own). Each is read by its lemma, `get-..`.
+-- Finite maps that are made of a list of keys and a function. Each is read by its lemma, `get-..`.
 use Rattle.std.specs.Prelude.{◌≡◌, Bool, true, false, cond, ◌||◌, List, [], ◌∷◌, ◌++◌, Option, Some, None, is_some, refl}
 use Rattle.std.proofs.Common.{sym, ◌∙◌, ap, arith}
 use Rattle.std.specs.List.{list_any}
@@ -14,16 +14,16 @@ module _ {K X : Type 0} {R : K → K → Ordering} where
   put_some m k None = m
   put_some m k (Some x) = insert m k x
 
-  -- the map that has f k at each key k of the list (own)
+  -- the map that has f k at each key k of the list
   pub of_keys : List K → (K → Option X) → FinMap R X
   of_keys [] f = empty
   of_keys (k ∷ ks) f = put_some (of_keys ks f) k (f k)
 
-  -- the map that has f of what the two maps have at each key (own)
+  -- the map that has f of what the two maps have at each key
   pub merge : (Option X → Option X → Option X) → FinMap R X → FinMap R X → FinMap R X
   merge f m n = of_keys (keys m ++ keys n) (λ k. f (get m k) (get n k))
 
--- the map with f of each value, without those of which f leaves nothing (own)
+-- the map with f of each value, without those of which f leaves nothing
 pub map_some : {K X Y : Type 0} {R : K → K → Ordering} → (X → Option Y) → FinMap R X → FinMap R Y
 map_some f m = of_keys (keys m) (λ k. option_and_then f (get m k))
 

@@ -1,4 +1,5 @@
--- Member lists of a directory's replica set, in ascending house number (own, after C705, replica sets).
+-- Member lists of a directory's replica set, in ascending house number (own, after C705, replica
+-- sets).
 use Rattle.std.specs.Prelude.{◌≡◌, ℕ, ◌+◌, ◌<◌, ◌≤◌, Bool, true, false, ◌&&◌, ◌||◌, ◌==◌, nat_lt, List}
 use Rattle.std.specs.Prelude.{[], ◌∷◌, length, map, Option, Some, None, if◌then◌else◌}
 use Rattle.std.specs.List.{position_from, count_by}
@@ -87,7 +88,8 @@ masters_in = count_by (λ m. is_master m.kind)
 abbrev pub IsAscending : List Member → Type 0
 IsAscending ms = IsStrictlyIncreasing (map (λ m. m.house) ms)
 
--- a member list: 1 to 64 houses, ascending, of which exactly one is master (own, after C705, replica sets)
+-- a member list: 1 to 64 houses, ascending, of which exactly one is master (own, after C705,
+-- replica sets)
 pub record IsMembers (ms : List Member) : Type 0 where
   pub filled : 0 < length ms
   pub few : length ms ≤ most_members

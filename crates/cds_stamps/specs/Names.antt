@@ -1,4 +1,5 @@
--- Simple names and attribute names, and the first fault of octets that are none (own, after C705, CDS names).
+-- Simple names and attribute names, and the first fault of octets that are none (own, after C705,
+-- CDS names).
 use Rattle.std.specs.Prelude.{ℕ, ◌+◌, ◌<◌, ◌≤◌, Bool, ◌&&◌, ◌||◌, not, nat_lt, nat_le, ◌==◌, IsTrue, List, [], ◌∷◌, length, Option, Some, None, if◌then◌else◌}
 use Rattle.std.specs.List.{All}
 use Rattle.cds_stamps.specs.declared.names.NameFault.{NameFault}
@@ -20,8 +21,8 @@ pub record IsSimpleName (octets : List ℕ) : Type 0 where
   pub short : length octets ≤ longest_component
   pub each : All (λ b. IsTrue (is_name_octet b)) octets
 
--- the first fault of a component whose first octet of these stands at this place, the n-th of the component:
--- an octet outside the set, or the first octet too many (own)
+-- the first fault of a component whose first octet of these is at this place, the n-th of the
+-- component: an octet outside the set, or the first octet too many (own)
 abbrev pub component_fault : (place n : ℕ) → List ℕ → Option NameFault
 component_fault place n [] = None
 component_fault place n (b ∷ bs) =

@@ -1,7 +1,7 @@
 -- Numbers with a name.
 use Rattle.std.specs.Prelude.{ℕ}
 
--- the directory of the cell's root (own)
+-- the directory of the cell's root
 abbrev pub root_dir : ℕ
 root_dir = 1
 

@@ -1,4 +1,4 @@
--- Octets, ordered one by one; a proper prefix comes first (own).
+-- Octets, ordered one by one; a proper prefix comes first.
 use Rattle.std.specs.Prelude.{ℕ, Bool, List}
 use Rattle.std.specs.declared.cmp.Ordering.{Ordering}
 use Rattle.std.specs.Coded.{Coded, coded_ℕ, coded_list}
@@ -6,7 +6,7 @@ use Rattle.std.specs.Cmp.Lexicographic.{slice_cmp}
 use Rattle.std.specs.Ordering.{nat_cmp, eq_by_cmp}
 use Rattle.std.specs.FinMap.{IsAntisymmetric, slice_cmp-IsAntisymmetric, nat_cmp-IsAntisymmetric}
 
--- the order of names and values (own)
+-- the order of names and values
 abbrev pub octets_cmp : List ℕ → List ℕ → Ordering
 octets_cmp = slice_cmp nat_cmp
 
@@ -18,6 +18,6 @@ octets_exact = slice_cmp-IsAntisymmetric nat_cmp-IsAntisymmetric
 abbrev pub octets_code : Coded (List ℕ)
 octets_code = coded_list coded_ℕ
 
--- the two are the same octets (own)
+-- the two are the same octets
 abbrev pub is_octets : List ℕ → List ℕ → Bool
 is_octets = eq_by_cmp octets_cmp

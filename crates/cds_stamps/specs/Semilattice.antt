@@ -1,4 +1,5 @@
--- Joins of what replicas hold: neither the order nor repeats count (own, after C705's merging of updates by timestamp).
+-- Joins of what replicas hold: neither the order nor repeats count (own, after C705's merging of
+-- updates by timestamp).
 use Rattle.std.specs.Prelude.{◌≡◌, if◌then◌else◌, Option, Some, None, IfSome, List, [], ◌∷◌, ◌++◌, refl}
 use Rattle.std.proofs.Common.{sym, ◌∙◌, ap, arith}
 use Rattle.std.specs.declared.cmp.Ordering.{Ordering}

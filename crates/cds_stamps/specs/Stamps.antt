@@ -60,6 +60,7 @@ stamp_code = code_by (ℕ × ℕ) (coded× coded_ℕ coded_ℕ) (λ s. (s.time, 
 abbrev pub last_time : ℕ
 last_time = 18446744073709551615
 
--- the stamp that a house issues next: later than its floor and not before its clock; none behind the last time (own)
+-- the stamp that a house issues next: later than its floor and not before its clock; none after the
+-- last time (own)
 abbrev pub next_stamp : ℕ → ℕ → ℕ → Option Stamp
 next_stamp clock floor node = if floor == last_time then None else Some (record { time = max clock (floor + 1); node = node })

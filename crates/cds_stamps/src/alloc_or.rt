@@ -1,4 +1,4 @@
-// A fault, or want of memory.
+// A fault, or out of memory.
 ghost use Rattle.std.specs.Prelude.{◌≡◌};
 ghost use Rattle.cds_stamps.specs.declared.alloc_or.AllocOr.TheVariants.{OutOfMemory};
 
@@ -7,7 +7,7 @@ use std::error::Error;
 use std::fmt;
 use std::fmt::{Debug, Display};
 
-/// Why a call that makes a value made none: a fault of what it was given, or want of memory.
+/// Why a call that makes a value made none: a fault of what it was given, or out of memory.
 #[derive(Clone, Copy, Debug, PartialEq, Eq)]
 pub enum AllocOr<E> {
     Fault(E),

@@ -11,7 +11,7 @@ pub trait Lattice: Sized {
     /// What two values give together.
     ghost joined: { Self → Self → Self };
 
-    /// Joins another value into this one. After want of memory this one is as it was.
+    /// Joins another value into this one. After it ran out of memory this one is as it was.
     fn join(&mut self, alloc: Global, other: &Self) -> Result<(), AllocError>
         ensures ok { OnOk result (valid self.old → valid other.now
             → self.new ≡ joined self.old other.now) }

@@ -23,8 +23,8 @@ pub fn simple_names_have_no_fault()
     ensures { (octets : List ℕ) → (simple_name_fault octets ≡ None) ↔ IsSimpleName octets }
 {}
 
-/// A fault of a simple name is at the first place at which the octets stop being the front of one: no octet at all, an
-/// octet that no name has, or an octet of names that is one too many.
+/// A fault of a simple name is at the first place at which the octets stop being the front of one:
+/// no octet at all, an octet that no name has, or an octet of names that is one too many.
 pub fn faults_of_simple_names_are_at_the_first_place()
     ensures empty { (octets : List ℕ) (place : ℕ) → simple_name_fault octets ≡ Some (Empty place)
         → EndsEarly IsSimpleName octets place }
@@ -43,8 +43,8 @@ pub fn attribute_names_have_no_fault()
     ensures { (octets : List ℕ) → (attr_fault octets ≡ None) ↔ IsAttrName octets }
 {}
 
-/// The fault of an attribute name is at the first place at which the octets stop being the front of one, or, of no
-/// octets, at place 1.
+/// The fault of an attribute name is at the first place at which the octets stop being the front of
+/// one, or, of no octets, at place 1.
 pub fn faults_of_attribute_names_are_at_the_first_place()
     ensures { (octets : List ℕ) (place : ℕ) → attr_fault octets ≡ Some (BadAttr place) →
         IsFirstBad IsAttrName octets place ⊎ EndsEarly IsAttrName octets place }
@@ -55,9 +55,10 @@ pub fn member_lists_have_no_fault()
     ensures { (ms : List Member) → (members_fault ms ≡ None) ↔ IsMembers ms }
 {}
 
-/// What the faults of a member list say. Their number comes first; of so many, the place is that of the first member
-/// with which no list in ascending order goes on; and where all ascend, the masters are not one. The place is told of
-/// the order alone, since a list whose members ascend may still have no master, or two.
+/// What the faults of a member list say. Their number comes first; of so many, the place is that of
+/// the first member with which no list in ascending order goes on; and where all ascend, the
+/// masters are not one. The place is told of the order alone, since a list whose members ascend may
+/// still have no master, or two.
 pub fn faults_of_member_lists_are_at_the_first_place()
     ensures count { (ms : List Member) → members_fault ms ≡ Some BadCount
         → ¬ ((0 < length ms) × (length ms ≤ most_members)) }
@@ -82,7 +83,8 @@ pub fn named_numbers_are_those_of_the_definitions()
     ensures root { ROOT.0 ≡ root_dir }
 {}
 
-/// Octets in ascending order ascend, each once, and are those that were given; and no other list does and has them.
+/// Octets in ascending order ascend, each once, and are those that were given; and no other list
+/// does and has them.
 pub fn octets_ascend_once()
     ensures rises { (all : List (List ℕ)) → IsStrictlySortedBy octets_cmp (in_ascending_order all) }
     ensures same { (all : List (List ℕ)) (o : List ℕ)

@@ -5,7 +5,8 @@ ghost use Rattle.cds_stamps.specs.Places.{has_place, each_place};
 
 use crate::members::MOST_MEMBERS;
 
-/// Some of the members of a directory. Bit p, counted from 0, is the member at place p of the member list.
+/// Some of the members of a directory. Bit p, counted from 0, is the member at place p of the
+/// member list.
 #[derive(Clone, Copy, Debug, PartialEq, Eq)]
 pub struct MemberMask(pub u64);
 

@@ -43,7 +43,8 @@ pub enum MembersFault {
     BadMaster,
 }
 
-/// The members of a directory's replica set: 1 to 64, in ascending house number, and one of them the master.
+/// The members of a directory's replica set: 1 to 64, in ascending house number, and one of them
+/// the master.
 #[derive(Debug)]
 pub struct Members {
     list: Vec<Member>,
@@ -68,8 +69,8 @@ impl Model for Members {
 }
 
 impl Members {
-    /// The member list of these, or the first rule that they break: their number, their order, one master. No memory is
-    /// asked for where there is a fault.
+    /// The member list of these, or the first rule that they break: their number, their order, one
+    /// master. No memory is asked for where there is a fault.
     pub fn new(alloc: Global, list: &[Member]) -> Result<Members, AllocOr<MembersFault>>
         ensures answer { Answers result (ok_unless (members_fault (members_of list.now)) list.now) }
         ensures faulty { IfSome (members_fault (members_of list.now))
@@ -97,7 +98,7 @@ impl Members {
         self.list.as_slice()
     }
 
-    /// Where a house stands in the list, counted from 0. None exactly where it is not listed.
+    /// Where a house is in the list, counted from 0. None exactly where it is not listed.
     pub fn place(&self, house: HouseNo) -> Option<usize>
         ensures { result ≡ place_of house.0 (members_of self.now) }
     {

@@ -111,8 +111,8 @@ impl Model for SimpleName {
 }
 
 impl SimpleName {
-    /// The simple name of these octets, or the first of them that breaks its rule. No memory is asked for where there
-    /// is a fault.
+    /// The simple name of these octets, or the first of them that breaks its rule. No memory is
+    /// asked for where there is a fault.
     pub fn parse(alloc: Global, octets: &[u8]) -> Result<SimpleName, AllocOr<NameFault>>
         ensures answer { Answers result (ok_unless (simple_name_fault octets.now) octets.now) }
         ensures faulty { IfSome (simple_name_fault octets.now)
@@ -176,8 +176,8 @@ impl Model for AttrName {
 }
 
 impl AttrName {
-    /// The attribute name of these octets, or the first of them that breaks its rule. No memory is asked for where
-    /// there is a fault.
+    /// The attribute name of these octets, or the first of them that breaks its rule. No memory is
+    /// asked for where there is a fault.
     pub fn parse(alloc: Global, octets: &[u8]) -> Result<AttrName, AllocOr<AttrFault>>
         ensures answer { Answers result (ok_unless (attr_fault octets.now) octets.now) }
         ensures faulty { IfSome (attr_fault octets.now) (λ fault. result ≡ Err (Fault fault)) }

@@ -10,8 +10,8 @@ const WORD: usize = 8;
 
 const HALF: usize = 4;
 
-/// The order of octets, one by one; a proper prefix comes first. They are read eight at a time, the last eight again if
-/// need be.
+/// The order of octets, one by one; a proper prefix comes first. They are read eight at a time, the
+/// last eight again if need be.
 pub(crate) fn octet_order(a: &[u8], b: &[u8]) -> Ordering
     ensures { result ≡ octets_cmp a.now b.now }
 {

@@ -49,8 +49,8 @@ impl Node {
     }
 }
 
-/// A time and the node that issued it, ordered by time and then by node. A time counts, and has no unit: the clock of a house says
-/// which one is next, if the floor of the house is below it.
+/// A time and the node that issued it, ordered by time and then by node. A time counts, and has no
+/// unit: the clock of a house says which one is next, if the floor of the house is below it.
 #[derive(Clone, Copy, Debug, PartialEq, Eq, PartialOrd, Ord)]
 pub struct Stamp {
     pub time: u64,
@@ -75,8 +75,8 @@ pub struct Floor {
 }
 
 impl Floor {
-    /// Issues a stamp above the floor and not before the clock, and the floor becomes its time. None exactly at the
-    /// last time of 64 bits, where the floor stays.
+    /// Issues a stamp above the floor and not before the clock, and the floor becomes its time.
+    /// None exactly at the last time of 64 bits, where the floor stays.
     pub fn issue(&mut self, clock: u64, node: Node) -> Option<Stamp>
         ensures stamp { result ≡ next_stamp clock self.old.time node }
         ensures floor { MatchOption result (self.new ≡ self.old) (λ s. self.new.time ≡ s.time) }

@@ -103,7 +103,8 @@ pub(crate) fn last_number(rt: &HostRuntime, folder: &str) -> Result<u64, u8> {
     }
 }
 
-// Syncs a file: a process may have died between a write and its sync, and then the file shows what a crash may still take away.
+// Syncs a file: a process may have died between a write and its sync, and then the file shows what
+// a crash may still take away.
 fn synced(rt: &HostRuntime, path: &str) -> Result<(), u8> {
     let Ok(file) = fs::open(rt, path) else {
         return Err(BAD_FOLDER);

@@ -1,4 +1,5 @@
-//! `cdshouse FOLDER`: one house, whose folder keeps its journal, from standard input to standard output.
+//! `cdshouse FOLDER`: one house, whose folder keeps its journal, from standard input to standard
+//! output.
 #![tactic(auto)]
 
 mod ending;

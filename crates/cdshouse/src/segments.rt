@@ -17,7 +17,8 @@ use std::alloc::{AllocError, Global};
 // A segment is changed for the next one once it has so many octets, and as many as eight images.
 const MOST_SEGMENT: u64 = 16_777_216;
 
-/// A house as the folder has it: its last segment's number, and the digest of that segment's last record.
+/// A house as the folder has it: its last segment's number, and the digest of that segment's last
+/// record.
 #[derive(Drop)]
 pub(crate) struct Found {
     pub(crate) house: House,
@@ -60,7 +61,8 @@ pub(crate) fn found(rt: &HostRuntime, folder: &str) -> Result<Found, u8> {
     })
 }
 
-/// A segment that is to be made: its number, the digest before it, and its first record; and whether the house says who it is then.
+/// A segment that is to be made: its number, the digest before it, and its first record; and
+/// whether the house says who it is then.
 #[derive(Drop)]
 pub(crate) struct Next {
     pub(crate) number: u64,
@@ -87,7 +89,8 @@ fn say_first<K: Sink>(alloc: Global, house: &House, sink: &mut K) -> Result<(), 
     }
 }
 
-/// Makes a segment on a disk that is empty, gives it its name, and answers lines until it has grown or the run ends.
+/// Makes a segment on a disk that is empty, gives it its name, and answers lines until it has grown
+/// or the run ends.
 pub(crate) fn serve_on<S: Source, K: Sink, D: Disk + Drop>(
     rt: &HostRuntime,
     folder: &str,

@@ -1,4 +1,4 @@
-//! `cdsmend`: writes the commands that mend a directory behind the script on standard input.
+//! `cdsmend`: writes the commands that mend a directory after the script on standard input.
 #![tactic(auto)]
 
 use cds_base::{StdSink, StdSource, words_of};

@@ -1,4 +1,5 @@
-//! `cdsreplay`: runs one form of the program, which its words name, from standard input to standard output.
+//! `cdsreplay`: runs one form of the program, which its words name, from standard input to standard
+//! output.
 #![tactic(auto)]
 
 use cds_base::{StdSink, StdSource, words_of};

@@ -18,7 +18,8 @@ use Rattle.cell_model.proofs.Readiness.{Ready}
 use Rattle.cell_model.proofs.PresentLists.{Tidy, tidy_lem, others_once}
 use Rattle.cell_model.proofs.ReadySkulks.{Skulked, CanSkulk, skulk_finishes}
 
--- where the last command completes the skulk t at m, the houses that hold the directory at that epoch agree up to t
+-- where the last command completes the skulk t at m, the houses that hold the directory at that
+-- epoch agree up to t
 agreed_at : (early : List Command) (last : Command) (t : Stamp) (ns : List ℕ) (d k : ℕ) (ms : List Member)
     → (outcome (replay early) last).answer ≡ Complete t ns → place_of (replay early) last ≡ Some (master_of ms, d)
     → ((x : ℕ) (q : Replica) → is_listed x ms ≡ true → IsHeld (replay (early ++ last ∷ [])) x d q → q.epoch ≡ k) → is_listed (master_of ms) ms ≡ true
@@ -58,7 +59,8 @@ idle_all all d m k ms now head kept s x q l at = idle_when q.phase runs
         let one : q ≡ s.replica = same_held _ q s.replica (subst (λ (z : ℕ). IsHeld (replay all) z d q) here at) s.held in
         not_idle q.phase t (ap (λ (r : Replica). r.phase) one ∙ s.idle) run
 
--- what is left of commands that complete a skulk: the houses of a list hold its epoch, run nothing, and agree
+-- what is left of commands that complete a skulk: the houses of a list hold its epoch, run nothing,
+-- and agree
 pub settles : (all next : List Command) (d k : ℕ) (t : Stamp) (ms now : List Member) → is_listed (master_of ms) ms ≡ true
     → master_of now ≡ master_of ms → ((x : ℕ) → is_listed x ms ≡ true → is_listed x now ≡ true)
     → Finish (replay all) (master_of ms) d next t (Skulked d (master_of ms) k now) → IsSettled all next d k t ms
@@ -83,7 +85,7 @@ settles all next d k t ms now listed head kept f =
           (subst (λ (l : List Command). (x : ℕ) (q : Replica) → is_listed x ms ≡ true → IsHeld (replay l) x d q → q.epoch ≡ k) (sym parts) epochs) listed);
     }
 
--- nothing waits behind the last message
+-- nothing waits after the last message
 pub waiting_none : (g : Cell) → Tidy g → Waiting g (length g.bag) []
 waiting_none g v = record { before = g.bag; bag = sym (append_nil g.bag); count = refl; lost = v.lost }
 

@@ -12,7 +12,7 @@ use Rattle.cell_model.proofs.Readiness.{Ready, changed, letter, held_there, read
 
 -- ---- who has still to answer
 
--- no house stands twice
+-- no house is there twice
 abbrev pub Once : List ℕ → Type 0
 Once [] = Unit {0}
 Once (y ∷ ys) = (In y ys → ⊥) × Once ys
@@ -77,7 +77,8 @@ AreAnswers d m k P [] (z ∷ zs) = ⊥
 AreAnswers d m k P (y ∷ ys) [] = ⊥
 AreAnswers d m k P (y ∷ ys) (z ∷ zs) = IsAnswer d m k P y z × AreAnswers d m k P ys zs
 
--- what a house does at a message of its master with this body: it answers so, and stays at its epoch and its list
+-- what a house does at a message of its master with this body: it answers so, and stays at its
+-- epoch and its list
 pub record TakesAsk (d m k : ℕ) (ms : List Member) (ask : Body) (P : Body → Type 0) (now : House) (y floor : ℕ) : Type 0 where
   pub replica : Replica
   pub answer : Body
@@ -91,7 +92,7 @@ abbrev pub AllTakeAsk : (d m k : ℕ) → List Member → Body → (Body → Typ
 AllTakeAsk d m k ms ask P =
     (now : House) (y floor : ℕ) (r : Replica) → now.slots d ≡ Held r → r.epoch ≡ k → r.members ≡ ms → TakesAsk d m k ms ask P now y floor
 
--- the houses have answered the master, which holds what it held: their answers wait behind others
+-- the houses have answered the master, which holds what it held: their answers wait after others
 pub record Asked (d m k : ℕ) (ms : List Member) (P : Body → Type 0) (q : Replica) (ys : List ℕ) (p : ℕ) (later : List Message) (g : Cell) : Type 0 where
   pub ready : Ready d k ms g
   pub master : IsHeld g m d q
@@ -128,7 +129,8 @@ module _ (d m k : ℕ) (ms : List Member) (ask : Body) (P : Body → Type 0) (an
             (subst (λ (l : List Message). Waiting g ((p + 1) + length ys) l) (append_assoc later (letter d k m y floor b ∷ []) a.replies) a.waiting);
       }
 
-  -- where the master asked each of these, and nothing stands before that, so many deliveries bring their answers
+  -- where the master asked each of these, and nothing is before that, so many deliveries bring
+  -- their answers
   pub asked_run : (ys : List ℕ) (g : Cell) (p floor : ℕ) (later : List Message) → AreOthers m ms ys → Ready d k ms g → IsHeld g m d q
       → Waiting g p (to_each ys d m k floor ask ++ later) → Run g (deliver_commands p (length ys)) (Asked d m k ms P q ys (p + length ys) later)
   asked_run [] g p floor later others s at w = run_none g (Asked d m k ms P q [] (p + 0) later) (asked_none g p later s at w)

@@ -37,7 +37,7 @@ pub at_house-there : (g : Cell) (h : ℕ) (s : HouseStep) (x : ℕ) → x ≢ h 
 at_house-there g h (Stays answer) x apart = refl
 at_house-there g h (Turns t) x apart = put_other g.house h t.house x apart
 
--- what it posts comes behind what was posted
+-- what it posts comes after what was posted
 pub at_house-bag : (g : Cell) (h : ℕ) (s : HouseStep) → (at_house g h s).cell.bag ≡ g.bag ++ posts_of s
 at_house-bag g h (Stays answer) = sym (append_nil g.bag)
 at_house-bag g h (Turns t) = refl

@@ -1,4 +1,5 @@
--- Lists of commands that work one after the other, and messages that are delivered in the order in which they were posted.
+-- Lists of commands that work one after the other, and messages that are delivered in the order in
+-- which they were posted.
 use Rattle.std.proofs.Common.{◌≡◌, ℕ, ◌+◌, ◌-◌, ◌<◌, inl, inr, Bool, true, false, ◌||◌, not, eqb, cond, List, [], ◌∷◌, ◌++◌, length, Option, Some, None}
 use Rattle.std.proofs.Common.{refl, sym, ap, ◌∙◌, subst, arith, append_assoc, length-append, zero, suc}
 use Rattle.std.specs.Prelude.{slice_get}
@@ -60,7 +61,8 @@ run_append g cs ds S U r k =
 pub run_map : (g : Cell) (cs : List Command) (S U : Cell → Type 0) → Run g cs S → ((h : Cell) → S h → U h) → Run g cs U
 run_map g cs S U r k = record { works = r.works; state = k (replay_from g cs) r.state }
 
--- each of the commands works, the last completes the skulk t of d at the house m, and they lead to a cell of which this holds
+-- each of the commands works, the last completes the skulk t of d at the house m, and they lead to
+-- a cell of which this holds
 pub record Finish (g : Cell) (m d : ℕ) (cs : List Command) (t : Stamp) (S : Cell → Type 0) : Type 0 where
   pub completes : Completes g m d cs t
   pub state : S (replay_from g cs)
@@ -137,7 +139,7 @@ not_refused g c f = ap (λ (r : Option Refusal). unless g r (effect g c)) (none_
 
 -- ---- messages in the order of posting
 
--- behind the first p messages there are these, and none of them is lost
+-- after the first p messages there are these, and none of them is lost
 pub record Waiting (g : Cell) (p : ℕ) (ms : List Message) : Type 0 where
   pub before : List Message
   pub bag : g.bag ≡ before ++ ms
@@ -167,7 +169,8 @@ delivered g p m ms s w up e =
     ∙ ap (λ (b : Bool). cond (not b) (refusal_outcome g commands.Down) (at_house g m.receiver (take (g.house m.receiver) m))) up
     ∙ ap (at_house g m.receiver) e
 
--- what waits after the first of them was taken and others were posted, in a cell with that bag and the same losses
+-- what waits after the first of them was taken and others were posted, in a cell with that bag and
+-- the same losses
 pub waiting_next : (g h : Cell) (p : ℕ) (m : Message) (ms posts : List Message) → Waiting g p (m ∷ ms) → h.bag ≡ g.bag ++ posts → h.lost ≡ g.lost
     → Waiting h (p + 1) (ms ++ posts)
 waiting_next g h p m ms posts w bag lost = record {

@@ -15,8 +15,9 @@ use Rattle.cell_model.proofs.Moves.{first_told, epoch_told}
 use Rattle.cell_model.proofs.Views.{put_back, altered}
 use Rattle.cell_model.proofs.Frames.{altered_frame, new_each, held_owed}
 
--- what holds of houses and directories at large: a house that was not made is none; the nodes of the others are
--- theirs alone; the numbers from the next one on name no directory; and what names none has no list
+-- what holds of houses and directories at large: a house that was not made is none; the nodes of
+-- the others are theirs alone; the numbers from the next one on name no directory; and what names
+-- none has no list
 pub record Whole (home : ℕ → ℕ) (g : Cell) : Type 0 where
   pub two : 2 ≤ g.next_dir
   pub unmade : (x : ℕ) → has x g.made ≡ false → g.house x ≡ no_house

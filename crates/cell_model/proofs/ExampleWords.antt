@@ -1,4 +1,5 @@
--- Words of the worked examples alone: what shows at a house of the model that is up, and what is left in its purged table.
+-- Words of the worked examples alone: what shows at a house of the model that is up, and what is
+-- left in its purged table.
 use Rattle.std.specs.Prelude.{ℕ, Bool, false, if◌then◌else◌, List, Option, Some, None}
 use Rattle.std.specs.Option.{option_map, option_map_or, option_and_then}
 use Rattle.cds_stamps.specs.declared.members.MemberKind.{MemberKind}

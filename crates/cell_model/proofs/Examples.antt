@@ -40,7 +40,8 @@ only_masters = refl
 no_others : is_accepting 3 three ≡ false
 no_others = refl
 
--- epoch 5 with master 3, house 2 and a new house 4: who was listed keeps its since, and house 1 leaves
+-- epoch 5 with master 3, house 2 and a new house 4: who was listed keeps its since, and house 1
+-- leaves
 abbrev next : List Member
 next = member_list_of three 5 3 (4 ∷ 2 ∷ []) []
 
@@ -57,11 +58,12 @@ mixed = member_list_of [] 1 2 (3 ∷ 1 ∷ 4 ∷ []) (4 ∷ 3 ∷ [])
 mixed-list : mixed ≡ listed 1 1 ReadOnly ∷ listed 2 1 Master ∷ listed 3 1 Secondary ∷ listed 4 1 Secondary ∷ []
 mixed-list = refl
 
--- in epoch 6 two of them are another kind, and keep their since; the master is no secondary house of its own list
+-- in epoch 6 two of them are another kind, and keep their since; the master is no secondary house
+-- of its own list
 turned : member_list_of mixed 6 3 (2 ∷ 4 ∷ []) (2 ∷ 3 ∷ 9 ∷ []) ≡ listed 2 1 Secondary ∷ listed 3 1 Master ∷ listed 4 1 ReadOnly ∷ []
 turned = refl
 
--- a house that stands twice
+-- a house that is there twice
 twice : is_bad_list (2 ∷ 1 ∷ 2 ∷ []) ≡ true
 twice = refl
 

@@ -1,4 +1,5 @@
--- One directory of a cell, what holds of it in every cell that is reached, and what any step does to it.
+-- One directory of a cell, what holds of it in every cell that is reached, and what any step does
+-- to it.
 use Rattle.std.proofs.Common.{◌≡◌, ℕ, suc, ◌<◌, ◌≤◌, ◌⊎◌, eqb, cond, List, [], ◌∷◌, Some}
 use Rattle.cds_stamps.specs.declared.stamp.Stamp.{Stamp}
 use Rattle.cds_stamps.specs.Members.{Member, master_of}
@@ -46,7 +47,8 @@ IsPosted g m = In m g.bag
 abbrev pub Holds : View → ℕ → Replica → Type 0
 Holds g x r = (g.house x).slot ≡ Held r
 
--- what a whole run says: the directory's number, the member list of each of its epochs, and the house of each node
+-- what a whole run says: the directory's number, the member list of each of its epochs, and the
+-- house of each node
 pub record Roll : Type 0 where
   pub dir : ℕ
   pub list : ℕ → List Member
@@ -62,8 +64,8 @@ Reached e (Held r) = e ≤ r.epoch
 
 -- ---- what holds of every cell that is reached
 
--- the member lists of all epochs up to the last: none is listed before epoch 1; a since is not later than the epoch;
--- a term is unbroken; the master of an epoch was listed in the one before
+-- the member lists of all epochs up to the last: none is listed before epoch 1; a since is not
+-- later than the epoch; a term is unbroken; the master of an epoch was listed in the one before
 pub record Good (roll : Roll) (top : ℕ) : Type 0 where
   pub none : (x s : ℕ) → Listed (roll.list 0) x s → ⊥
   pub order : (e x s : ℕ) → e ≤ top → Listed (roll.list e) x s → s ≤ e
@@ -189,7 +191,8 @@ pub record Brings (d : ℕ) (new : List Accepted) (marks : List Mark) (k : Mark)
   pub has : In k by.marks
   pub part : IsPart by.marks marks
 
--- a message that a step posts: its marks are all that its sender has, or those of updates of this step
+-- a message that a step posts: its marks are all that its sender has, or those of updates of this
+-- step
 pub record New (roll : Roll) (g g' : View) (new : List Accepted) (m : Message) : Type 0 where
   pub q : Replica
   pub held : Holds g' m.sender q

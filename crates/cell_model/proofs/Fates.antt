@@ -21,7 +21,8 @@ use Rattle.cell_model.proofs.MoveFrames.{taken_not}
 use Rattle.cell_model.proofs.Answering.{taken_by}
 use Rattle.cell_model.proofs.Numbers.{numbers_lem}
 
--- after a command, a house that held a replica has kept its marks, or took the copy of a Join that was delivered, or a Leave
+-- after a command, a house that held a replica has kept its marks, or took the copy of a Join that
+-- was delivered, or a Leave
 pub data Fate (g : Cell) (c : Command) (x d : ℕ) (r : Replica) (after : Slot) : Type 0 where
   keeps : (r' : Replica) → after ≡ Held r' → IsPart r.history r'.history → Fate g c x d r after
   copies : (r' : Replica) → after ≡ Held r' → TakesCopy g c x d r r' → Fate g c x d r after
@@ -141,7 +142,8 @@ act_fate g c h e floor o posts a l untaken (lone _ _ q t i head alone) = grown_f
 act_fate g c h e floor o posts a l untaken (completes m t b q ns k run all) = grown_fate g c h e q _ k.held (λ j z. z)
 act_fate g c h e floor o posts a l untaken _ = absurd (untaken _ refl)
 
--- what the other moves rest on: a house that was not made is none, and nobody holds a directory without an epoch
+-- what the other moves rest on: a house that was not made is none, and nobody holds a directory
+-- without an epoch
 record Ground (g : Cell) : Type 0 where
   unmade : (x : ℕ) → has x g.made ≡ false → g.house x ≡ no_house
   free : (d x : ℕ) (r : Replica) → g.top d ≡ 0 → IsHeld g x d r → ⊥

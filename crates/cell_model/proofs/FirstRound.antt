@@ -35,7 +35,8 @@ pub record Waits (roll : Roll) (g : View) (k : ℕ) (t : Stamp) (a : List ℕ) (
 abbrev pub Found : Roll → View → ℕ → Stamp → List ℕ → List Mark → Mark → Type 0
 Found roll g k t a all j = In j all ⊎ ((y : ℕ) × Waits roll g k t a j y)
 
--- while the first round runs, each mark up to t of epoch k or later is among those of the master or waits
+-- while the first round runs, each mark up to t of epoch k or later is among those of the master or
+-- waits
 pub record Covered (roll : Roll) (g : View) (k : ℕ) (t : Stamp) (a : List ℕ) (all : List Mark) : Type 0 where
   pub high : (x : ℕ) (q : Replica) → Holds g x q → k < q.epoch → t.time ≤ (g.house x).floor
   pub sent : (m : Message) → IsPosted g m → k < m.epoch → t.time ≤ m.floor
@@ -43,7 +44,8 @@ pub record Covered (roll : Roll) (g : View) (k : ℕ) (t : Stamp) (a : List ℕ)
   pub within : (x : ℕ) (q : Replica) (j : Mark) → Holds g x q → k ≤ q.epoch → In j q.history → IsUpTo (stamp_in j) t → Found roll g k t a all j
   pub within_m : (m : Message) (j : Mark) → IsPosted g m → k ≤ m.epoch → In j (marks_in m.body) → IsUpTo (stamp_in j) t → Found roll g k t a all j
 
--- what holds while a master gathers: who answered, that nothing of the second round was posted, and what is covered
+-- what holds while a master gathers: who answered, that nothing of the second round was posted, and
+-- what is covered
 pub record Gathers (roll : Roll) (g : View) (h : ℕ) (r : Replica) (t : Stamp) (a : List ℕ) : Type 0 where
   pub heard : (y : ℕ) → In y a → (t.time ≤ (g.house y).floor) × Reached r.epoch (g.house y).slot
   pub no_spread : (m : Message) (copy : Copy) → IsPosted g m → m.body ≡ Spread t copy → ⊥

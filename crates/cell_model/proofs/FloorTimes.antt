@@ -61,7 +61,7 @@ up_tos_run early [] below = subst (λ (l : List Command). UpTosBelow l) (sym (ap
 up_tos_run early (c ∷ mid) below =
     subst (λ (l : List Command). UpTosBelow l) (append_assoc early (c ∷ []) mid) (up_tos_run (early ++ c ∷ []) mid (up_tos_step early mid c below))
 
--- no time stands above its house's floor or its message's
+-- no time is above its house's floor or its message's
 pub floors_lem : (commands : List Command) → FloorsHold (replay commands)
 floors_lem commands = record {
   houses = λ x d r at.

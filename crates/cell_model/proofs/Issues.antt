@@ -16,7 +16,8 @@ use Rattle.cell_model.proofs.Moves.{new_marks, Issuing, Act, accepts, Move, acts
 use Rattle.cell_model.proofs.MoveFrames.{act_rises}
 use Rattle.cell_model.proofs.Wholes.{Plain, Onward, up_made, moved_onward, step_onward, founded_onward, empty_plain}
 
--- a stamp that a house issues in a step: above its floor before, at most its floor after, of its node
+-- a stamp that a house issues in a step: above its floor before, at most its floor after, of its
+-- node
 pub record Issued (g g' : Cell) (h : ℕ) (s : Stamp) : Type 0 where
   pub made : has h g.made ≡ true
   pub above : (g.house h).floor < s.time

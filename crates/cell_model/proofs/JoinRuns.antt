@@ -1,4 +1,5 @@
--- The Joins of a new epoch are taken, one after the other: each house then holds the epoch and is ready for a skulk.
+-- The Joins of a new epoch are taken, one after the other: each house then holds the epoch and is
+-- ready for a skulk.
 use Rattle.std.proofs.Common.{◌≡◌, ◌≢◌, ℕ, ◌+◌, ◌<◌, suc, inl, inr, Bool, true, false, ◌&&◌, cond, List, [], ◌∷◌, length, Option, Some, None}
 use Rattle.std.proofs.Common.{refl, sym, ap, ◌∙◌, subst, arith, nat_lt, nat_le}
 use Rattle.cds_stamps.specs.declared.stamp.Stamp.{Stamp}
@@ -44,7 +45,8 @@ join_taken now d k y m floor ms copy lt at by =
     ap (λ (o : Option ℕ). unless_late z o (cond (is_listed y ms && is_listed m ms) s (Stays Foreign))) (not_late k (now.slots d) lt)
     ∙ ap (λ (b : Bool). cond b s (Stays Foreign)) both
 
--- the master holds the new epoch, and so does each house of its list but for these, whose Joins wait
+-- the master holds the new epoch, and so does each house of its list but for these, whose Joins
+-- wait
 pub record Joining (d m k : ℕ) (ms : List Member) (next : Option Stamp) (floor : ℕ) (copy : Copy) (ys : List ℕ) (p : ℕ) (g : Cell) : Type 0 where
   pub up : (x : ℕ) → is_listed x ms ≡ true → (g.house x).up ≡ true
   pub holds : (x : ℕ) → is_listed x ms ≡ true → (In x ys → ⊥) → (r : Replica) × IsHeld g x d r × (r.epoch ≡ k) × (r.members ≡ ms)

@@ -1,4 +1,5 @@
--- What is known of accepted updates: all marks are theirs, and each house keeps those of its present term.
+-- What is known of accepted updates: all marks are theirs, and each house keeps those of its
+-- present term.
 use Rattle.std.proofs.Common.{◌≡◌, ℕ, ◌<◌, ◌≤◌, List, ◌++◌, sym, ap, ◌∙◌, subst, arith, ⊎_elim, le_refl, le_trans}
 use Rattle.cds_stamps.specs.Members.{Member, since_in}
 use Rattle.directory.specs.Histories.{Mark, stamp_in}
@@ -13,7 +14,7 @@ use Rattle.cell_model.proofs.Bounds.{held_reached, same_held}
 use Rattle.cell_model.proofs.FirstRound.{slot_cases}
 use Rattle.cell_model.proofs.Marks.{WellMade}
 
--- a mark stands here by an update of the directory that was accepted, all of whose marks stand here
+-- a mark is here by an update of the directory that was accepted, all of whose marks stand here
 pub record Whence (d : ℕ) (log : List Accepted) (h : List Mark) (k : Mark) : Type 0 where
   pub by : Accepted
   pub logged : In by log
@@ -25,7 +26,7 @@ pub record Whence (d : ℕ) (log : List Accepted) (h : List Mark) (k : Mark) : T
 abbrev pub Closed : ℕ → List Accepted → List Mark → Type 0
 Closed d log h = (k : Mark) → In k h → Whence d log h k
 
--- a mark stands here by an update that was accepted, whose stamp it has
+-- a mark is here by an update that was accepted, whose stamp it has
 pub record Origin (d : ℕ) (log : List Accepted) (k : Mark) : Type 0 where
   pub by : Accepted
   pub logged : In by log

@@ -25,13 +25,15 @@ use Rattle.cell_model.proofs.Moves.{epoch_told, starts, acts, founds, crowns, St
 abbrev pub Ended : Answer → Option (ℕ × ℕ) → ℕ → ℕ → Stamp → Type 0
 Ended a p d x t = (ns : List ℕ) × (a ≡ Complete t ns) × (p ≡ Some (x, d))
 
--- an AllUpTo of the house x in epoch e was a house's or a message's of that epoch or an earlier one, or its skulk ends
+-- an AllUpTo of the house x in epoch e was a house's or a message's of that epoch or an earlier
+-- one, or its skulk ends
 pub data Lift (g : Cell) (a : Answer) (p : Option (ℕ × ℕ)) (d x e : ℕ) (t : Stamp) : Type 0 where
   of_house : (y : ℕ) (r : Replica) → IsHeld g y d r → r.all_up_to ≡ Some t → r.epoch ≤ e → Lift g a p d x e t
   of_message : (m : Message) → In m g.bag → m.dir ≡ d → up_to_in m.body ≡ Some t → m.epoch ≤ e → Lift g a p d x e t
   of_end : Ended a p d x t → Lift g a p d x e t
 
--- each AllUpTo in a directory after a step was one before it, or is the stamp of a skulk that completes in it
+-- each AllUpTo in a directory after a step was one before it, or is the stamp of a skulk that
+-- completes in it
 pub record Lifts (g g' : Cell) (a : Answer) (p : Option (ℕ × ℕ)) (d : ℕ) : Type 0 where
   pub held : (x : ℕ) (r : Replica) (t : Stamp) → IsHeld g' x d r → r.all_up_to ≡ Some t → Lift g a p d x r.epoch t
   pub posts : (m : Message) (t : Stamp) → In m g'.bag → m.dir ≡ d → up_to_in m.body ≡ Some t → In m g.bag ⊎ Lift g a p d m.sender m.epoch t

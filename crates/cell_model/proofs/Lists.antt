@@ -8,7 +8,7 @@ use Rattle.cds_stamps.specs.Keyed.{ties_are_equal}
 use Rattle.cell_model.specs.Sets.{In, IsUpTo, has}
 use Rattle.cell_model.specs.Turns.{all_answered}
 
--- nothing behind a list leaves it as it is
+-- nothing after a list leaves it as it is
 pub append_nil : {A : Type 0} (l : List A) → l ++ [] ≡ l
 append_nil l = search rules
 
@@ -35,7 +35,7 @@ In-map f y [] h = elim h [ ]
 In-map f y (x ∷ xs) (inl e) = (x, inl refl, e)
 In-map f y (x ∷ xs) (inr h) = let r = In-map f y xs h in (r.0, inr r.1, r.2)
 
--- what stands at a place of a list is in it
+-- what is at a place of a list is in it
 pub In-from_get : {A : Type 0} (x : A) (xs : List A) (n : ℕ) → slice_get xs n ≡ Some x → In x xs
 In-from_get x [] n e = absurd (cc)
 In-from_get x (y ∷ ys) zero e = inl (cc)

@@ -51,7 +51,7 @@ birth_is n (Birth o kind c) b e = go (is_octets n o) refl e
 birth_is n (Death o c s) b e = absurd (cc)
 birth_is n (Attr o c a x) b e = absurd (cc)
 
--- the greatest birth of a name stands in the history
+-- the greatest birth of a name is in the history
 pub birth_stands : (h : List Mark) (n : List ℕ) (b : Born) → birth_of h n ≡ Some b → In (Birth n b.kind b.at) h
 birth_stands h n b e =
     let w = chosen (greater birth_cmp) (greater_choice birth_cmp) (birth_in n) h b e in
@@ -85,7 +85,7 @@ shown_birth h n e q =
     let w = shown_is h n e q in
     subst (λ (z : Mark). In z h) (ap (λ (c : Stamp). Birth n (w.0).kind c) w.2 ∙ ap (λ (k : Kind). Birth n k e.birth) w.3) (birth_stands h n w.0 w.1)
 
--- each mark is stamped s, or stands in the history
+-- each mark is stamped s, or is in the history
 abbrev pub Fits : List Mark → Stamp → List Mark → Type 0
 Fits h s ms = (k : Mark) → In k ms → (stamp_in k ≡ s) ⊎ In k h
 
@@ -129,7 +129,8 @@ stamp_next clock floor node s e = go (eqb floor last_time) e
 
 -- ---- what the marks of an update are
 
--- a mark of its stamp; none is later; each has its birth, is not earlier than it, and one entry has one kind
+-- a mark of its stamp; none is later; each has its birth, is not earlier than it, and one entry has
+-- one kind
 pub record WellMade (s : Stamp) (ms : List Mark) : Type 0 where
   pub own : (k : Mark) × In k ms × (stamp_in k ≡ s)
   pub stamped : (k : Mark) → In k ms → IsUpTo (stamp_in k) s

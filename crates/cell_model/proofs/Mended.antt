@@ -1,4 +1,5 @@
--- No state is stuck: the houses of the console's present list are started, get a new epoch, take its Joins, and the master's skulk completes.
+-- No state is stuck: the houses of the console's present list are started, get a new epoch, take
+-- its Joins, and the master's skulk completes.
 use Rattle.std.proofs.Common.{◌≡◌, ◌≢◌, ℕ, ◌+◌, ◌*◌, ◌≤◌, zero, suc, inl, inr, Bool, true, false, ◌||◌, not, eqb, cond, List, [], ◌∷◌, ◌++◌, map, length}
 use Rattle.std.proofs.Common.{Option, Some, None, append_assoc, refl, sym, ap, ◌∙◌, subst, arith, ⊎_elim, nat_lt, nat_le, le_refl, length-append}
 use Rattle.std.specs.List.{list_any}
@@ -144,7 +145,8 @@ module _ (ms : List Member) (k m : ℕ) (listed : is_listed m ms ≡ true) where
 
 -- ---- the new epoch
 
--- the houses of the console's present list are up, none is beyond its last epoch, and its master holds that one
+-- the houses of the console's present list are up, none is beyond its last epoch, and its master
+-- holds that one
 record Ripe (d k : ℕ) (ms : List Member) (next : Option Stamp) (p : ℕ) (g : Cell) : Type 0 where
   top : g.top d ≡ k
   present : g.present d ≡ ms

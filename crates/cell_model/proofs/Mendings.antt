@@ -77,7 +77,8 @@ came_back-state : state_at (replay (came_back ++ mend_commands (replay came_back
     ≡ Some (4, Some (at 1 11), listed 1 3 ReadOnly ∷ listed 2 1 Master ∷ [])
 came_back-state = refl
 
--- an old master whose skulk still runs, and that has not heard of its successor: behind the mending it runs none
+-- an old master whose skulk still runs, and that has not heard of its successor: after the mending
+-- it runs none
 abbrev overtaken_round : List Command
 overtaken_round = House 1 10 ∷ House 2 11 ∷ Root 1 (2 ∷ []) [] ∷ Deliver 1 ∷ Skulk 1 1 ∷ Deliver 2 ∷ Epoch 1 2 (1 ∷ []) [] ∷ []
 

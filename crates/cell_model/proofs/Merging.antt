@@ -81,11 +81,11 @@ contains_at [] k n lt e = absurd (omega arith)
 contains_at (m ∷ h) k zero lt e = inl (sym e)
 contains_at (m ∷ h) k (suc n) lt e = inr (contains_at h k n (omega arith) e)
 
--- a mark that stands in a list
+-- a mark that is in a list
 pub contains_in : (h : List Mark) (k : Mark) → Contains h k → In k h
 contains_in h k c = contains_at h k c.0 c.1 c.2
 
--- a mark that is in a list stands at some place of it
+-- a mark that is in a list is at some place of it
 pub in_contains : (h : List Mark) (k : Mark) → In k h → Contains h k
 in_contains [] k i = elim i [ ]
 in_contains (m ∷ h) k (inl is) = subst (Contains (m ∷ h)) (sym is) (Contains-head m h)

@@ -74,7 +74,8 @@ reply_at g m body = reply (g.house m.receiver) m body
 abbrev pub others_at : Cell → Message → Replica → Body → List Message
 others_at g m r body = to_others (g.house m.receiver) m r body
 
--- what a house does in one directory: its new floor and slot, what it posts, the answer, and what it accepted
+-- what a house does in one directory: its new floor and slot, what it posts, the answer, and what
+-- it accepted
 pub data Act (g : Cell) : (h d floor : ℕ) → Slot → List Message → Answer → List Accepted → Type 0 where
   accepts : (h d : ℕ) (u : Change) (r : Replica) (s : Stamp) (ns : List ℕ) → Issuing g h d r s → update_refusal h u r ≡ None
       → Act g h d s.time (Held (with_marks r (new_marks r u s))) (to_each (others_of h r.members) d h r.epoch s.time (Update (new_marks r u s))) (Stamped s ns)

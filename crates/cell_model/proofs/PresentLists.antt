@@ -94,7 +94,7 @@ length_ascending (z ∷ zs) = length_insert z (sorted_houses zs) ∙ ap (λ (n :
 
 -- ---- lists without repeats
 
--- where the test finds no house twice, none stands twice
+-- where the test finds no house twice, none is there twice
 once_from : (hs : List ℕ) → stands_twice hs ≡ false → Once hs
 once_from [] e = tt
 once_from (x ∷ xs) e =
@@ -124,7 +124,8 @@ others_once h (y ∷ ys) o = by_test (eqb y.house h) (others_once h ys o.1)
 
 -- ---- what holds of the present lists
 
--- a list of a directory with this last epoch: no house stands twice, there are not too many, each was made, and the master is one of them
+-- a list of a directory with this last epoch: no house is there twice, there are not too many, each
+-- was made, and the master is one of them
 pub record IsProper (made : List ℕ) (top : ℕ) (ms : List Member) : Type 0 where
   pub once : Once (houses_of ms)
   pub few : length ms ≤ most_members

@@ -1,4 +1,5 @@
--- A member list whose houses are ready for a skulk, and what its master and the others do at the skulk's messages.
+-- A member list whose houses are ready for a skulk, and what its master and the others do at the
+-- skulk's messages.
 use Rattle.std.proofs.Common.{◌≡◌, ◌≢◌, ℕ, Bool, true, false, cond, List, [], ◌∷◌, sym, ap, ◌∙◌, subst, arith, nat_lt}
 use Rattle.std.specs.Ordering.{is_eq}
 use Rattle.std.proofs.lemmas.Cmp.{tied_itself}

@@ -176,7 +176,8 @@ four_rounds n p =
     ∙ ap (λ (l : List Command). deliver_commands p n ++ l)
     (delivering-append n (n + n) (p + n) ∙ ap (λ (l : List Command). deliver_commands (p + n) n ++ l) (delivering-append n n ((p + n) + n)))
 
--- what a skulk rests on: the houses are ready, nothing that is posted next is lost, and the master has this stamp next, if one is left
+-- what a skulk rests on: the houses are ready, nothing that is posted next is lost, and the master
+-- has this stamp next, if one is left
 pub record CanSkulk (d m k : ℕ) (ms : List Member) (next : Option Stamp) (p : ℕ) (g : Cell) : Type 0 where
   pub ready : Ready d k ms g
   pub waiting : Waiting g p []

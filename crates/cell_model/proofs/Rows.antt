@@ -24,7 +24,8 @@ pub record Timely (now : House) (m : Message) (b : Body) : Type 0 where
   pub is : m.body ≡ b
   pub gone : (e : ℕ) → now.slots m.dir ≡ Gone e → e < m.epoch
 
--- the answers at which a message changes nothing, but for the one that says that its sender is no member
+-- the answers at which a message changes nothing, but for the one that says that its sender is no
+-- member
 abbrev pub IsPassed : Answer → Type 0
 IsPassed (Late k e) = Unit {0}
 IsPassed (Early k e) = Unit {0}

@@ -27,7 +27,8 @@ SpreadBy g t a y = In y a ⊎ ((m : Message) × IsPosted g m × (m.sender ≡ y)
 abbrev pub AllSpread : Roll → View → ℕ → Stamp → List ℕ → Type 0
 AllSpread roll g k t a = (y : ℕ) → In y (others (roll.list k)) → Reached (suc k) (g.house y).slot → SpreadBy g t a y
 
--- once a member took the spread, or is past the epoch, it has each of these marks up to t; and so has each Join
+-- once a member took the spread, or is past the epoch, it has each of these marks up to t; and so
+-- has each Join
 pub record Covers (g : View) (k : ℕ) (t : Stamp) (a : List ℕ) (all : List Mark) : Type 0 where
   pub took : (y : ℕ) (q : Replica) (j : Mark) → SpreadBy g t a y → Holds g y q → In j all → IsUpTo (stamp_in j) t → In j q.history
   pub later : (x : ℕ) (q : Replica) (j : Mark) → Holds g x q → k < q.epoch → In j all → IsUpTo (stamp_in j) t → In j q.history
@@ -38,7 +39,8 @@ pub record Covers (g : View) (k : ℕ) (t : Stamp) (a : List ℕ) (all : List Ma
 abbrev pub Answered : View → Stamp → ℕ → Type 0
 Answered g t y = (m : Message) × (copy : Copy) × IsPosted g m × (m.sender ≡ y) × (m.body ≡ Gathered t copy)
 
--- what holds while a master spreads: how far its marks reach, who answered, what was told, and what is covered
+-- what holds while a master spreads: how far its marks reach, who answered, what was told, and what
+-- is covered
 pub record Spreads (roll : Roll) (g : View) (h : ℕ) (r : Replica) (t : Stamp) (a : List ℕ) : Type 0 where
   pub bounded : Bounded roll g r.epoch t r.history
   pub heard : (y : ℕ) → In y a → Reached r.epoch (g.house y).slot

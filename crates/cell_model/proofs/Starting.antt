@@ -80,7 +80,8 @@ as_in_start g h y ys once same x i =
     ap (λ (w : House). w.up) (put_other h.house y.house (started_house (h.house y.house)) x (λ q. once (subst (λ (z : ℕ). In z (houses_of ys)) q i)))
     ∙ same x (inr i)
 
--- `start` for each of the houses that is down in g, from a cell like g in which they are up or down as in g
+-- `start` for each of the houses that is down in g, from a cell like g in which they are up or down
+-- as in g
 pub start_run : (g : Cell) (ys : List Member) (h : Cell) → Once (houses_of ys) → ((x : ℕ) → In x (houses_of ys) → has x g.made ≡ true) → Alike g h
     → AsIn g ys h → Run h (start_commands g ys) (Started g h ys)
 start_run g [] h once made a same = run_none h (Started g h []) (record { alike = a; up = λ x i. elim i [ ]; stay = λ x e. e })

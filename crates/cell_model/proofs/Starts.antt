@@ -1,4 +1,5 @@
--- What holds of a skulk from the start of its second round on, whether it runs on or not: x is what its master had then.
+-- What holds of a skulk from the start of its second round on, whether it runs on or not: x is what
+-- its master had then.
 use Rattle.std.proofs.Common.{◌≡◌, ℕ, suc, ◌<◌, ◌≤◌, inr, List, [], Some, refl, sym, ap, ◌∙◌, subst, arith, ⊎_elim, le_trans}
 use Rattle.std.proofs.lemmas.Bool.{cases_lt}
 use Rattle.cds_stamps.specs.declared.stamp.Stamp.{Stamp}
@@ -22,7 +23,8 @@ Acked g t y = (m : Message) × IsPosted g m × (m.sender ≡ y) × (m.body ≡ S
 abbrev pub UpTo : Stamp → List Mark → List Mark → Type 0
 UpTo t x h = (j : Mark) → In j x → IsUpTo (stamp_in j) t → In j h
 
--- those who answered, those in later epochs, and the Joins of later epochs have the marks of x up to t
+-- those who answered, those in later epochs, and the Joins of later epochs have the marks of x up
+-- to t
 pub record Covering (g : View) (k : ℕ) (t : Stamp) (x : List Mark) : Type 0 where
   pub took : (y : ℕ) (q : Replica) → Acked g t y → Holds g y q → UpTo t x q.history
   pub later : (y : ℕ) (q : Replica) → Holds g y q → k < q.epoch → UpTo t x q.history
@@ -32,7 +34,8 @@ pub record Covering (g : View) (k : ℕ) (t : Stamp) (x : List Mark) : Type 0 wh
 abbrev pub AllAcked : Roll → View → ℕ → Stamp → Type 0
 AllAcked roll g k t = (y : ℕ) → In y (others (roll.list k)) → Reached (suc k) (g.house y).slot → Acked g t y
 
--- what holds from the start of the second round on: the marks x of the master, where they are told, and who has them
+-- what holds from the start of the second round on: the marks x of the master, where they are told,
+-- and who has them
 pub record Started (roll : Roll) (g : View) (h k : ℕ) (t : Stamp) (x : List Mark) : Type 0 where
   pub bounded : Bounded roll g k t x
   pub head : master_of (roll.list k) ≡ h

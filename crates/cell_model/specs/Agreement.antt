@@ -1,4 +1,5 @@
--- What the replicas of a directory agree on once a skulk is complete (own, after C705, the meaning of AllUpTo).
+-- What the replicas of a directory agree on once a skulk is complete (own, after C705, the meaning
+-- of AllUpTo).
 use Rattle.std.specs.Prelude.{◌≡◌, ℕ, ◌≤◌, ◌↔◌, true, false, List, [], ◌∷◌, ◌++◌, Option, Some, None}
 use Rattle.std.specs.Option.{option_map}
 use Rattle.cds_stamps.specs.declared.stamp.Stamp.{Stamp}
@@ -34,8 +35,9 @@ pub record IsAgreed (d : ℕ) (log : List Accepted) (history : List Mark) (a : A
 abbrev pub IsLive : List Mark → List ℕ → Stamp → Type 0
 IsLive h n c = (e : Shown) × (shown_of_name h n ≡ Some e) × (e.birth ≡ c)
 
--- a birth shows where its entry does; a mark of a value where its entry does, and it is the greatest of its value,
--- present, and not earlier than a clear; a death and a clear show nowhere (own)
+-- a birth shows where its entry does; a mark of a value where its entry does, and it is the
+-- greatest of its value, present, and not earlier than a clear; a death and a clear show nowhere
+-- (own)
 abbrev pub IsShown : List Mark → Mark → Type 0
 IsShown h (Birth n kind c) = IsLive h n c
 IsShown h (Death n c s) = ⊥
@@ -44,8 +46,8 @@ IsShown h (Attr n c a (Marked v m)) =
     IsLive h n c × (m.present ≡ true)
     × (mark_after_clear (greatest_clear (attr_history h n c a)) (greatest_mark (attr_history h n c a) v) ≡ Some m)
 
--- a deletion covers a mark: a death all marks of its entry; an absent value those of the same value that are present
--- and not later; a clear those of its attribute's values that are earlier (own)
+-- a deletion covers a mark: a death all marks of its entry; an absent value those of the same value
+-- that are present and not later; a clear those of its attribute's values that are earlier (own)
 pub data Covers : Mark → Mark → Type 0 where
   of_death : (n : List ℕ) (c s : Stamp) (k : Mark) → name_in k ≡ n → born_in k ≡ c → Covers (Death n c s) k
   of_absence : (n : List ℕ) (c : Stamp) (a v : List ℕ) (m p : ValueMark) → m.present ≡ false → p.present ≡ true → IsUpTo p.stamp m.stamp
@@ -53,7 +55,8 @@ pub data Covers : Mark → Mark → Type 0 where
   of_clear : (n : List ℕ) (c : Stamp) (a v : List ℕ) (s : Stamp) (p : ValueMark) → is_earlier p.stamp s ≡ true
       → Covers (Attr n c a (Cleared s)) (Attr n c a (Marked v p))
 
--- a replica r of the house x agrees up to t with the updates that stand in this history, of those accepted so far
+-- a replica r of the house x agrees up to t with the updates that stand in this history, of those
+-- accepted so far
 pub record Agrees (d : ℕ) (t : Stamp) (so_far all : List Accepted) (history : List Mark) (x : ℕ) (r : Replica) : Type 0 where
   -- its marks up to t are those of these updates
   pub same : (k : Mark) → IsUpTo (stamp_in k) t → In k r.history ↔ ((a : Accepted) × IsAgreed d so_far history a × In k a.marks)
@@ -62,8 +65,9 @@ pub record Agrees (d : ℕ) (t : Stamp) (so_far all : List Accepted) (history : 
   -- and no mark that one of their deletions up to t covers shows
   pub deleted : (a : Accepted) (c k : Mark) → IsAgreed d so_far history a → In c a.marks → IsUpTo (stamp_in c) t → Covers c k → IsShown r.history k → ⊥
 
--- of any list of commands: from a step on that answers Complete(t), each house that holds the directory at the epoch
--- of the skulk's master or a later one agrees up to t with what the master had in that step (own)
+-- of any list of commands: from a step on that answers Complete(t), each house that holds the
+-- directory at the epoch of the skulk's master or a later one agrees up to t with what the master
+-- had in that step (own)
 abbrev pub Converges : List Command → Type 0
 Converges all =
     (early late : List Command) (c : Command) (t : Stamp) (ns : List ℕ) → early ++ c ∷ late ≡ all → (outcome (replay early) c).answer ≡ Complete t ns →

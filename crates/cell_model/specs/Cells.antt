@@ -1,18 +1,19 @@
--- The state of a cell: houses with whole histories, messages, and what the console knows (own, after C705, clearinghouses and replica sets).
+-- The state of a cell: houses with whole histories, messages, and what the console knows (own,
+-- after C705, clearinghouses and replica sets).
 use Rattle.std.specs.Prelude.{◌≡◌, ℕ, Bool, false, ◌==◌, if◌then◌else◌, List, [], Option}
 use Rattle.cds_stamps.specs.declared.stamp.Stamp.{Stamp}
 use Rattle.cds_stamps.specs.Members.{Member}
 use Rattle.directory.specs.Histories.{Mark}
 
--- what a master does about its running skulk: nothing runs; the first round of T, or its second, with those of the
--- other members that answered in it (own, after C705, skulks)
+-- what a master does about its running skulk: nothing runs; the first round of T, or its second,
+-- with those of the other members that answered in it (own, after C705, skulks)
 pub data Phase : Type 0 where
   Idle : Phase
   Gathering : (t : Stamp) → (answered : List ℕ) → Phase
   Spreading : (t : Stamp) → (answered : List ℕ) → Phase
 
--- a house's copy of a directory: its epoch and member list, every mark that it has, the stamp up to which all have
--- all, and the phase (own, after C705, replicas)
+-- a house's copy of a directory: its epoch and member list, every mark that it has, the stamp up to
+-- which all have all, and the phase (own, after C705, replicas)
 pub record Replica : Type 0 where
   pub epoch : ℕ
   pub members : List Member
@@ -20,7 +21,8 @@ pub record Replica : Type 0 where
   pub all_up_to : Option Stamp
   pub phase : Phase
 
--- what a house has of a directory: nothing ever, nothing since it left in epoch e, or a replica (own)
+-- what a house has of a directory: nothing ever, nothing since it left in epoch e, or a replica
+-- (own)
 pub data Slot : Type 0 where
   Absent : Slot
   Gone : (e : ℕ) → Slot
@@ -39,7 +41,8 @@ pub record Copy : Type 0 where
   pub history : List Mark
   pub all_up_to : Option Stamp
 
--- what a message says; an update has its marks with the birth (own, after C705, updates, skulks and new epochs)
+-- what a message says; an update has its marks with the birth (own, after C705, updates, skulks and
+-- new epochs)
 pub data Body : Type 0 where
   Update : (marks : List Mark) → Body
   Gather : (t : Stamp) → Body
@@ -64,7 +67,8 @@ pub record Cell : Type 0 where
   -- the numbers of the houses that were made, in order, and each house
   pub made : List ℕ
   pub house : ℕ → House
-  -- every message that was posted, that of serial n at place n - 1, and the serials of those that were lost
+  -- every message that was posted, that of serial n at place n - 1, and the serials of those that
+  -- were lost
   pub bag : List Message
   pub lost : List ℕ
   -- the console's last epoch of each directory, 0 where there is none, and its present list

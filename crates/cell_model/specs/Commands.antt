@@ -5,8 +5,9 @@ use Rattle.directory.specs.declared.update.UpdateRefusal.{UpdateRefusal}
 use Rattle.directory.specs.Histories.{Mark}
 use Rattle.directory.specs.Updates.{Change}
 
--- h is a house, d a directory, n the simple name of a child or the serial of a message, m a master and rs the other
--- houses of a replica set, of which ss are secondary and the others read-only. Accept is each command of one update: create, link, delete, add, remove, put and clear (own)
+-- h is a house, d a directory, n the simple name of a child or the serial of a message, m a master
+-- and rs the other houses of a replica set, of which ss are secondary and the others read-only.
+-- Accept is each command of one update: create, link, delete, add, remove, put and clear (own)
 pub data Command : Type 0 where
   House : (h node : ℕ) → Command
   Clock : (h time : ℕ) → Command
@@ -27,8 +28,8 @@ pub data Refusal : Type 0 where
   Update : (r : UpdateRefusal) → Refusal
   NotJoined : (held since : ℕ) → Refusal
 
--- ns are the serials of the messages that the command posted; k is a message's epoch and e the house's, t a skulk's
--- stamp and r the running one's, s an update's stamp (own)
+-- ns are the serials of the messages that the command posted; k is a message's epoch and e the
+-- house's, t a skulk's stamp and r the running one's, s an update's stamp (own)
 pub data Answer : Type 0 where
   Done : Answer
   Posted : (ns : List ℕ) → Answer
@@ -44,7 +45,8 @@ pub data Answer : Type 0 where
   Complete : (t : Stamp) → (ns : List ℕ) → Answer
   Refused : (r : Refusal) → Answer
 
--- an update that a house accepted, in which epoch and term of its own, with its marks and the birth (own)
+-- an update that a house accepted, in which epoch and term of its own, with its marks and the birth
+-- (own)
 pub record Accepted : Type 0 where
   pub by : ℕ
   pub dir : ℕ

@@ -8,8 +8,8 @@ use Rattle.cell_model.specs.Commands.{Command, Skulk, Deliver, Foreign, Complete
 use Rattle.cell_model.specs.Steps.{message_at, outcome}
 use Rattle.cell_model.specs.Rounds.{TookSpread}
 
--- the delivery of the serial n completes the skulk t, which runs in its second round at the receiver: the message is an answer of that
--- round, and each other member posted one (own)
+-- the delivery of the serial n completes the skulk t, which runs in its second round at the
+-- receiver: the message is an answer of that round, and each other member posted one (own)
 pub record IsLastAck (g : Cell) (n : ℕ) (t : Stamp) : Type 0 where
   pub message : Message
   pub replica : Replica

@@ -36,7 +36,8 @@ pub record FloorsHold (g : Cell) : Type 0 where
   pub houses : (x d : ℕ) (r : Replica) → IsHeld g x d r → ReplicaBelow r (g.house x).floor
   pub messages : (m : Message) → In m g.bag → MessageBelow g m
 
--- a step does not lower a floor, and a message that it posts has its sender's floor after the step (own)
+-- a step does not lower a floor, and a message that it posts has its sender's floor after the step
+-- (own)
 pub record FloorsRise (g g' : Cell) : Type 0 where
   pub rises : (x : ℕ) → (g.house x).floor ≤ (g'.house x).floor
   pub posts : (m : Message) → In m g'.bag → In m g.bag ⊎ (m.floor ≡ (g'.house m.sender).floor)
@@ -59,7 +60,8 @@ pub record IsAboveHouse (g : Cell) (h : ℕ) (s : Stamp) : Type 0 where
   pub all_up_to : (d : ℕ) (r : Replica) (t : Stamp) → IsHeld g h d r → r.all_up_to ≡ Some t → t.time < s.time
   pub phase : (d : ℕ) (r : Replica) (t : Stamp) → IsHeld g h d r → running_skulk_stamp r.phase ≡ Some t → t.time < s.time
 
--- a stamp that is issued is above all times of its house, whose floor becomes its time, and of the house's node (own)
+-- a stamp that is issued is above all times of its house, whose floor becomes its time, and of the
+-- house's node (own)
 abbrev pub IssuesAbove : List Command → Command → Type 0
 IssuesAbove commands c =
     (s : Stamp) → Issues commands c s →

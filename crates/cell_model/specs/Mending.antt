@@ -1,4 +1,5 @@
--- From every state a skulk can complete: the commands that bring it about, and what they leave (own, after C705, skulks and new epochs).
+-- From every state a skulk can complete: the commands that bring it about, and what they leave
+-- (own, after C705, skulks and new epochs).
 use Rattle.std.specs.Prelude.{◌≡◌, ℕ, zero, suc, ◌+◌, ◌*◌, ◌≤◌, true, if◌then◌else◌, List, [], ◌∷◌, ◌++◌, length, Some, None}
 use Rattle.cds_stamps.specs.declared.stamp.Stamp.{Stamp}
 use Rattle.cds_stamps.specs.Members.{Member, master_of, others_of, is_listed, secondaries_of}
@@ -16,24 +17,27 @@ abbrev pub start_commands : Cell → List Member → List Command
 start_commands g [] = []
 start_commands g (y ∷ ys) = if is_down g y.house then Start y.house ∷ start_commands g ys else start_commands g ys
 
--- `deliver` for so many messages, one after the other, behind the first ones (own)
+-- `deliver` for so many messages, one after the other, after the first ones (own)
 abbrev pub deliver_commands : (first count : ℕ) → List Command
 deliver_commands first zero = []
 deliver_commands first (suc n) = Deliver (first + 1) ∷ deliver_commands (first + 1) n
 
--- a skulk of the directory at its master m, and each message that its steps post, as it is posted, behind the first ones: a Gather for each
--- of so many other houses, their answers, a Spread for each of them, and their answers (own)
+-- a skulk of the directory at its master m, and each message that its steps post, as it is posted,
+-- after the first ones: a Gather for each of so many other houses, their answers, a Spread for each
+-- of them, and their answers (own)
 abbrev pub skulk_commands : (m d first others : ℕ) → List Command
 skulk_commands m d first others = Skulk m d ∷ deliver_commands first (4 * others)
 
--- a skulk of the directory, in a cell in which the houses of the console's present list have that list already (own)
+-- a skulk of the directory, in a cell in which the houses of the console's present list have that
+-- list already (own)
 abbrev pub skulking_at : Cell → ℕ → List Command
 skulking_at g d =
     let m : ℕ = master_of (g.present d) in
     skulk_commands m d (length g.bag) (length (others_of m (g.present d)))
 
--- what mends a directory: the houses of the console's present list are started, get an epoch with the same master and the same houses
--- of the same kinds, take its Joins, and then the master's skulk completes (own)
+-- what mends a directory: the houses of the console's present list are started, get an epoch with
+-- the same master and the same houses of the same kinds, take its Joins, and then the master's
+-- skulk completes (own)
 abbrev pub mend_commands : Cell → ℕ → List Command
 mend_commands g d =
     let m : ℕ = master_of (g.present d) in
@@ -43,7 +47,8 @@ mend_commands g d =
 
 -- ---- what they leave
 
--- the command was not refused and not in vain: a house is up, a new epoch was taken, a message was taken, a skulk began, or completed (own)
+-- the command was not refused and not in vain: a house is up, a new epoch was taken, a message was
+-- taken, a skulk began, or completed (own)
 abbrev pub HasWorked : Answer → Type 0
 HasWorked Done = Unit {0}
 HasWorked (NewEpoch e ns) = Unit {0}
@@ -52,7 +57,8 @@ HasWorked (Stamped s ns) = Unit {0}
 HasWorked (Complete t ns) = Unit {0}
 HasWorked _ = ⊥
 
--- from the cell g on each of the commands works, and the last one completes the skulk t of the directory d at the house h (own)
+-- from the cell g on each of the commands works, and the last one completes the skulk t of the
+-- directory d at the house h (own)
 pub record Completes (g : Cell) (h d : ℕ) (commands : List Command) (t : Stamp) : Type 0 where
   pub works : (a : Answer) → In a (answers_from g commands) → HasWorked a
   pub early : List Command
@@ -77,27 +83,31 @@ pub record IsAgreedBy (commands : List Command) (d : ℕ) (t : Stamp) (ms : List
   pub agree : (x : ℕ) (q : Replica) → is_listed x ms ≡ true → IsHeld (replay commands) x d q
       → Agrees d t (accepted_updates commands) (accepted_updates commands) replica.history x q
 
--- each house of the console's present list is up, and holds the directory at the console's last epoch (own)
+-- each house of the console's present list is up, and holds the directory at the console's last
+-- epoch (own)
 pub record IsReady (g : Cell) (d : ℕ) : Type 0 where
   pub known : 1 ≤ g.top d
   pub up : (x : ℕ) → is_listed x (g.present d) ≡ true → (g.house x).up ≡ true
   pub held : IsHeldBy g d (g.top d) (g.present d)
 
--- after these commands others complete the skulk t. Then each house of the list has epoch k, runs no skulk, and agrees up to t (own)
+-- after these commands others complete the skulk t. Then each house of the list has epoch k, runs
+-- no skulk, and agrees up to t (own)
 pub record IsSettled (commands next : List Command) (d k : ℕ) (t : Stamp) (ms : List Member) : Type 0 where
   pub completes : Completes (replay commands) (master_of ms) d next t
   pub held : IsHeldBy (replay (commands ++ next)) d k ms
   pub idle : IsIdleBy (replay (commands ++ next)) d ms
   pub agreed : IsAgreedBy (commands ++ next) d t ms
 
--- where the houses of the console's present list are ready, a skulk and its messages are enough. The stamp is the one that the master has next (own)
+-- where the houses of the console's present list are ready, a skulk and its messages are enough.
+-- The stamp is the one that the master has next (own)
 abbrev pub SkulkCompletes : List Command → ℕ → Type 0
 SkulkCompletes commands d =
     let g : Cell = replay commands in
     (t : Stamp) → IsReady g d → stamp_at (g.house (master_of (g.present d))) ≡ Some t → IsSettled commands (skulking_at g d) d (g.top d) t (g.present d)
 
--- what mends a directory does, wherever the master of the console's present list has a stamp left: it is the skulk's, and the epoch
--- is the next one. For n houses there are at most 6 n - 3 commands (own)
+-- what mends a directory does, wherever the master of the console's present list has a stamp left:
+-- it is the skulk's, and the epoch is the next one. For n houses there are at most 6 n - 3 commands
+-- (own)
 pub record IsMended (commands : List Command) (d : ℕ) (t : Stamp) : Type 0 where
   pub settled : IsSettled commands (mend_commands (replay commands) d) d ((replay commands).top d + 1) t ((replay commands).present d)
   pub few : length (mend_commands (replay commands) d) + 3 ≤ 6 * length ((replay commands).present d)

@@ -10,8 +10,9 @@ use Rattle.cell_model.specs.Commands.{Command}
 use Rattle.cell_model.specs.Sets.{In}
 use Rattle.cell_model.specs.Steps.{replay}
 
--- the message adds these marks to the replica of its receiver, and up to this stamp all have all: for an update the
--- receiver's AllUpTo, else the later of both. A Join adds where the receiver keeps its replica (own)
+-- the message adds these marks to the replica of its receiver, and up to this stamp all have all:
+-- for an update the receiver's AllUpTo, else the later of both. A Join adds where the receiver
+-- keeps its replica (own)
 pub data Adds (m : Message) (r : Replica) : List Mark → Option Stamp → Type 0 where
   of_update : (marks : List Mark) → m.body ≡ Update marks → m.epoch ≡ r.epoch → Adds m r marks r.all_up_to
   of_gathered : (t : Stamp) (copy : Copy) → m.body ≡ Gathered t copy → m.epoch ≡ r.epoch → Adds m r copy.history (maybe later_stamp r.all_up_to copy.all_up_to)

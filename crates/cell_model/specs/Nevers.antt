@@ -1,11 +1,12 @@
--- What never comes in a run (own).
+-- What never comes in a run.
 use Rattle.std.specs.Prelude.{◌≡◌, ℕ, ◌+◌, ◌<◌, true, List}
 use Rattle.cds_stamps.specs.declared.stamp.Stamp.{Stamp}
 use Rattle.cds_stamps.specs.Members.{Member, is_listed}
 use Rattle.cell_model.specs.Sets.{In}
 use Rattle.cell_model.specs.Cells.{Gathering, Replica, Copy, SpreadAck, Join, Leave, Message, Cell, IsHeld}
 
--- what the answer Foreign, and the refusal of an epoch that is not above the one held, would speak of does not come (own)
+-- what the answer Foreign, and the refusal of an epoch that is not above the one held, would speak
+-- of does not come
 pub record Nevers (g : Cell) : Type 0 where
   -- a message of the epoch that its receiver holds is from a member of the held list
   pub from_member : (m : Message) (r : Replica) → In m g.bag → IsHeld g m.receiver m.dir r → m.epoch ≡ r.epoch → is_listed m.sender r.members ≡ true

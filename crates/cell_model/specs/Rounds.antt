@@ -45,16 +45,17 @@ abbrev pub first_answer : List Message → (d y : ℕ) → Stamp → Option Copy
 first_answer [] d y t = None
 first_answer (m ∷ ms) d y t = or_first ((m.dir == d) && (m.sender == y)) (answer_in m.body t) (first_answer ms d y t)
 
--- while the master h, which holds r, gathers t: the mark is in its history, in that of a continuing member that has
--- not answered, or in a member's first answer (own)
+-- while the master h, which holds r, gathers t: the mark is in its history, in that of a continuing
+-- member that has not answered, or in a member's first answer (own)
 pub data InGathering (g : Cell) (h d : ℕ) (r : Replica) (t : Stamp) (j : Mark) : Type 0 where
   at_master : In j r.history → InGathering g h d r t j
   at_member : (y : ℕ) (q : Replica) → In y (others_of h r.members) → IsHeld g y d q → since_in r.members y 0 ≤ q.epoch → (TookGather g d t y → ⊥)
       → In j q.history → InGathering g h d r t j
   in_answer : (y : ℕ) (copy : Copy) → In y (others_of h r.members) → first_answer g.bag d y t ≡ Some copy → In j copy.history → InGathering g h d r t j
 
--- of the marks up to t, houses and messages of epoch k and later have those of W alone, so do the updates that such a
--- house accepted in its present term, and what is of a later epoch has a floor of at least the time of t (own)
+-- of the marks up to t, houses and messages of epoch k and later have those of W alone, so do the
+-- updates that such a house accepted in its present term, and what is of a later epoch has a floor
+-- of at least the time of t (own)
 pub record Sentences (commands : List Command) (d k : ℕ) (t : Stamp) (W : Mark → Type 0) : Type 0 where
   pub houses : (x : ℕ) (q : Replica) (j : Mark) → IsHeld (replay commands) x d q → k ≤ q.epoch → In j q.history → IsUpTo (stamp_in j) t → W j
   pub messages : (m : Message) (j : Mark) → In m (replay commands).bag → m.dir ≡ d → k ≤ m.epoch → In j (marks_in m.body) → IsUpTo (stamp_in j) t → W j
@@ -63,21 +64,23 @@ pub record Sentences (commands : List Command) (d k : ℕ) (t : Stamp) (W : Mark
   pub later_houses : (x : ℕ) (q : Replica) → IsHeld (replay commands) x d q → k < q.epoch → t.time ≤ ((replay commands).house x).floor
   pub later_messages : (m : Message) → In m (replay commands).bag → m.dir ≡ d → k < m.epoch → t.time ≤ m.floor
 
--- while h, which holds r, gathers t, and no other member passed its epoch without taking the Gather of t (own)
+-- while h, which holds r, gathers t, and no other member passed its epoch without taking the Gather
+-- of t (own)
 pub record WhileGathering (commands : List Command) (h d : ℕ) (r : Replica) (t : Stamp) : Type 0 where
   pub sentences : Sentences commands d r.epoch t (InGathering (replay commands) h d r t)
   pub master : t.time ≤ ((replay commands).house h).floor
   pub answered : (y : ℕ) → In y (others_of h r.members) → TookGather (replay commands) d t y → t.time ≤ ((replay commands).house y).floor
 
--- at each moment of a run at which a skulk gathers, and no other member passed its epoch without taking the Gather (own)
+-- at each moment of a run at which a skulk gathers, and no other member passed its epoch without
+-- taking the Gather (own)
 abbrev pub GatheringHolds : List Command → Type 0
 GatheringHolds commands =
     (h d : ℕ) (r : Replica) (t : Stamp) (answered : List ℕ) → IsHeld (replay commands) h d r → r.phase ≡ Gathering t answered →
     ((y : ℕ) → In y (others_of h r.members) → HasPassed (replay commands) y d r.epoch → TookGather (replay commands) d t y) →
     WhileGathering commands h d r t
 
--- the step c starts the second round of t at the house h, which then holds r: with the last answer of the first round,
--- or, at a master that is alone, with the skulk itself (own)
+-- the step c starts the second round of t at the house h, which then holds r: with the last answer
+-- of the first round, or, at a master that is alone, with the skulk itself (own)
 pub data StartsSecond (early : List Command) (c : Command) (h d : ℕ) (r : Replica) (t : Stamp) : Type 0 where
   with_last : (q : Replica) (answered : List ℕ) → IsHeld (replay early) h d q → q.phase ≡ Gathering t answered → IsHeld (replay (early ++ c ∷ [])) h d r
       → r.phase ≡ Spreading t [] → StartsSecond early c h d r t
@@ -93,8 +96,9 @@ pub record HasHeld (commands : List Command) (y d k : ℕ) : Type 0 where
   pub held : IsHeld (replay early) y d replica
   pub epoch : replica.epoch ≡ k
 
--- from that start on, for good: the sentences with what the master had then; the floors of those at its epoch and later ones,
--- and of each of its members, also of one that has left since; and each member held the epoch (own)
+-- from that start on, for good: the sentences with what the master had then; the floors of those at
+-- its epoch and later ones, and of each of its members, also of one that has left since; and each
+-- member held the epoch (own)
 pub record FromSecond (commands : List Command) (d : ℕ) (r : Replica) (t : Stamp) : Type 0 where
   pub sentences : Sentences commands d r.epoch t (λ j. In j r.history)
   pub floors : (x : ℕ) (q : Replica) → IsHeld (replay commands) x d q → r.epoch ≤ q.epoch → t.time ≤ ((replay commands).house x).floor
@@ -111,8 +115,9 @@ SecondHolds all =
 abbrev pub HasUpTo : Stamp → List Mark → List Mark → Type 0
 HasUpTo t x h = (j : Mark) → In j x → IsUpTo (stamp_in j) t → In j h
 
--- what spreading has brought about: the master, those who took the Spread, the houses of later epochs and the Joins of
--- later epochs have the marks up to t that the master had at the start (own)
+-- what spreading has brought about: the master, those who took the Spread, the houses of later
+-- epochs and the Joins of later epochs have the marks up to t that the master had at the start
+-- (own)
 pub record WhileSpreading (g : Cell) (h d : ℕ) (r : Replica) (t : Stamp) : Type 0 where
   pub master : (q : Replica) → IsHeld g h d q → HasUpTo t r.history q.history
   pub members : (y : ℕ) (q : Replica) → TookSpread g d t y → IsHeld g y d q → HasUpTo t r.history q.history
@@ -127,7 +132,8 @@ SpreadingHolds all =
     ((y : ℕ) → In y (others_of h r.members) → HasPassed (replay all) y d r.epoch → TookSpread (replay all) d t y) →
     WhileSpreading (replay all) h d r t
 
--- what a skulk that completed leaves for good: the houses of its epoch and of later ones, and the Joins of later ones (own)
+-- what a skulk that completed leaves for good: the houses of its epoch and of later ones, and the
+-- Joins of later ones (own)
 pub record AfterSpreading (g : Cell) (d : ℕ) (r : Replica) (t : Stamp) : Type 0 where
   pub houses : (x : ℕ) (q : Replica) → IsHeld g x d q → r.epoch ≤ q.epoch → HasUpTo t r.history q.history
   pub joins : (m : Message) (members : List Member) (copy : Copy) → In m g.bag → m.dir ≡ d → m.body ≡ Join members copy → r.epoch < m.epoch

@@ -8,7 +8,8 @@ use Rattle.cell_model.specs.Sets.{In}
 use Rattle.cell_model.specs.Steps.{outcome, replay}
 use Rattle.cell_model.specs.Agreement.{place_of}
 
--- in this list of commands the skulk t of the directory d completed, at a house that then held epoch k (own)
+-- in this list of commands the skulk t of the directory d completed, at a house that then held
+-- epoch k (own)
 pub record IsCompleted (commands : List Command) (d : ℕ) (t : Stamp) (k : ℕ) : Type 0 where
   pub early : List Command
   pub command : Command
@@ -22,7 +23,8 @@ pub record IsCompleted (commands : List Command) (d : ℕ) (t : Stamp) (k : ℕ)
   pub held : IsHeld (replay (early ++ command ∷ [])) house d replica
   pub epoch : replica.epoch ≡ k
 
--- each AllUpTo of a house or a message of epoch e is the stamp of a completed skulk of epoch e or an earlier one (own)
+-- each AllUpTo of a house or a message of epoch e is the stamp of a completed skulk of epoch e or
+-- an earlier one (own)
 pub record AdvancesHold (commands : List Command) : Type 0 where
   pub houses : (x d : ℕ) (r : Replica) (t : Stamp) → IsHeld (replay commands) x d r → r.all_up_to ≡ Some t
       → (k : ℕ) × (k ≤ r.epoch) × IsCompleted commands d t k

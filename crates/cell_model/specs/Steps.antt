@@ -1,4 +1,5 @@
--- What each command does to a cell, what it answers, and which updates it accepts (own, after C705, clerks, skulks and epochs).
+-- What each command does to a cell, what it answers, and which updates it accepts (own, after C705,
+-- clerks, skulks and epochs).
 use Rattle.std.specs.Prelude.{ℕ, ◌+◌, ◌-◌, Bool, true, false, ◌||◌, not, ◌==◌, nat_lt, if◌then◌else◌, List, [], ◌∷◌, ◌++◌, map}
 use Rattle.std.specs.Prelude.{length, Option, Some, None, slice_get}
 use Rattle.std.specs.List.{list_any}
@@ -56,12 +57,12 @@ is_down g h = not (g.house h).up
 abbrev pub is_unknown : Cell → ℕ → Bool
 is_unknown g d = g.top d == 0
 
--- a house stands twice (own)
+-- a house is there twice (own)
 abbrev pub stands_twice : List ℕ → Bool
 stands_twice [] = false
 stands_twice (x ∷ xs) = has x xs || stands_twice xs
 
--- a house stands twice, or there are more than most_members (own)
+-- a house is there twice, or there are more than most_members (own)
 abbrev pub is_bad_list : List ℕ → Bool
 is_bad_list hs = stands_twice hs || nat_lt most_members (length hs)
 
@@ -80,7 +81,8 @@ serials n (m ∷ ms) = (n + 1) ∷ serials (n + 1) ms
 abbrev pub serials_of : Cell → List Message → List ℕ
 serials_of g posts = serials (length g.bag) posts
 
--- what a house's step does to the cell: no other house changes, and what it posts comes behind all that was posted (own)
+-- what a house's step does to the cell: no other house changes, and what it posts comes after all
+-- that was posted (own)
 abbrev pub at_house : Cell → ℕ → HouseStep → Outcome
 at_house g h (Stays answer) = stays g answer
 at_house g h (Turns t) = record { cell = move_house g h t.house t.posts; answer = t.answer (serials_of g t.posts); accepted = t.accepted }
@@ -97,12 +99,13 @@ abbrev pub sorted_houses : List ℕ → List ℕ
 sorted_houses [] = []
 sorted_houses (x ∷ xs) = insert_house x (sorted_houses xs)
 
--- what a listed house is, by the master and the secondary houses of its list (own, after C705, replica sets)
+-- what a listed house is, by the master and the secondary houses of its list (own, after C705,
+-- replica sets)
 abbrev pub kind_among : (m : ℕ) → (ss : List ℕ) → (x : ℕ) → MemberKind
 kind_among m ss x = if x == m then Master else (if has x ss then Secondary else ReadOnly)
 
--- the member list of epoch k with this master and these other houses, of which ss are secondary: a house that the old list has
--- keeps its `since` (own, after C705, new epochs)
+-- the member list of epoch k with this master and these other houses, of which ss are secondary: a
+-- house that the old list has keeps its `since` (own, after C705, new epochs)
 abbrev pub member_list_of : (old : List Member) → (k m : ℕ) → (rs ss : List ℕ) → List Member
 member_list_of old k m rs ss = map (λ x. record { house = x; since = since_in old x k; kind = kind_among m ss x }) (sorted_houses (m ∷ rs))
 
@@ -134,7 +137,8 @@ cell_with_directory g d m ms = note_epoch (at_house g m (Turns (found_directory 
 abbrev pub root : Cell → ℕ → List Member → Outcome
 root g m ms = record { cell = cell_with_directory g root_dir m ms; answer = Posted (serials_of g (first_joins (g.house m).floor root_dir m ms)); accepted = [] }
 
--- an update that was accepted and makes the child, and then the child's directory (own, after C705, creating a directory)
+-- an update that was accepted and makes the child, and then the child's directory (own, after C705,
+-- creating a directory)
 abbrev pub with_directory : Outcome → (d m : ℕ) → List Member → Answer → Outcome
 with_directory o d m ms (Stamped s ns) =
     record {
@@ -155,7 +159,8 @@ abbrev pub with_epoch : Outcome → ℕ → List Member → Answer → Outcome
 with_epoch o d ms (NewEpoch k ns) = record o { cell = note_epoch o.cell d k ms }
 with_epoch o d ms _ = o
 
--- the next epoch of a directory, with this master and these other houses, of which ss are secondary (own, after C705, new epochs)
+-- the next epoch of a directory, with this master and these other houses, of which ss are secondary
+-- (own, after C705, new epochs)
 abbrev pub next_epoch : Cell → (d m : ℕ) → (rs ss : List ℕ) → Outcome
 next_epoch g d m rs ss =
     let ms : List Member = member_list_of (g.present d) (g.top d + 1) m rs ss in
@@ -190,8 +195,8 @@ start g h = move_house g h (started_house (g.house h)) []
 
 -- ---- commands
 
--- the tests of a command's refusals, in order; those of an update, a skulk, an epoch at its house and those of a
--- message come after, in what the command does (own)
+-- the tests of a command's refusals, in order; those of an update, a skulk, an epoch at its house
+-- and those of a message come after, in what the command does (own)
 abbrev pub refusals_of : Cell → Command → List (Bool × Refusal)
 refusals_of g (commands.House h node) = (is_taken g h node, HouseExists) ∷ []
 refusals_of g (commands.Clock h time) = (is_missing g (h ∷ []), NoHouse) ∷ []

@@ -1,5 +1,5 @@
--- What a house does at each call, by what it has and what it is given: no other house counts, and no message but the one that it takes
--- (own, after C705, updates, skulks and new epochs).
+-- What a house does at each call, by what it has and what it is given: no other house counts, and
+-- no message but the one that it takes (own, after C705, updates, skulks and new epochs).
 use Rattle.std.specs.Prelude.{ℕ, max, Bool, true, false, ◌&&◌, ◌==◌, nat_lt, nat_le, if◌then◌else◌, List, [], ◌∷◌, ◌++◌, map, Option, Some, None}
 use Rattle.std.specs.List.{list_all}
 use Rattle.cds_stamps.specs.declared.stamp.Stamp.{Stamp}
@@ -17,7 +17,8 @@ use Rattle.cell_model.specs.Cells.{Spread, SpreadAck, Advance, Join, Leave, Copy
 use Rattle.cell_model.specs.Commands as commands
 use Rattle.cell_model.specs.Commands.{NotJoined, Answer, Posted, Stamped, NewEpoch, Taken, Late, Early, Stale, Foreign, Complete, Refused, Accepted}
 
--- a turn of a house: the house after, the messages that it posts, its answer by their serials, and the updates that it accepted (own)
+-- a turn of a house: the house after, the messages that it posts, its answer by their serials, and
+-- the updates that it accepted (own)
 pub record Turn : Type 0 where
   pub house : House
   pub posts : List Message
@@ -81,7 +82,8 @@ running_skulk_stamp (Spreading t answered) = Some t
 
 -- ---- new directories and updates
 
--- what the master of a new directory holds: epoch 1 and an empty history (own, after C705, creating a directory)
+-- what the master of a new directory holds: epoch 1 and an empty history (own, after C705, creating
+-- a directory)
 abbrev pub first_replica : List Member → Replica
 first_replica ms = record { epoch = 1; members = ms; history = []; all_up_to = None; phase = Idle }
 
@@ -94,7 +96,8 @@ abbrev pub found_directory : (m : ℕ) → House → (d : ℕ) → List Member �
 found_directory m now d ms =
     record { house = with_slot now d now.floor (Held (first_replica ms)); posts = first_joins now.floor d m ms; answer = Posted; accepted = [] }
 
--- a house that accepts updates issues a stamp, adds the marks, and posts them to each other member (own, after C705, updates)
+-- a house that accepts updates issues a stamp, adds the marks, and posts them to each other member
+-- (own, after C705, updates)
 abbrev pub accept_at : (h : ℕ) → House → (d : ℕ) → Change → Replica → Option Stamp → HouseStep
 accept_at h now d u r None = refuses why.StampsSpent
 accept_at h now d u r (Some s) =
@@ -143,16 +146,19 @@ skulk_in h now d (Held r) = if master_of r.members == h then skulk_at h now d r 
 abbrev pub skulk : (h : ℕ) → House → (d : ℕ) → HouseStep
 skulk h now d = skulk_in h now d (now.slots d)
 
--- the new master takes the new epoch and its list, keeps its history, and ends its skulk (own, after C705, new epochs)
+-- the new master takes the new epoch and its list, keeps its history, and ends its skulk (own,
+-- after C705, new epochs)
 abbrev pub epoch_replica : ℕ → List Member → Replica → Replica
 epoch_replica k ms r = record r { epoch = k; members = ms; phase = Idle }
 
--- its Joins to the other members, and its Leaves to those that are listed no more, with its floor (own, after C705, new epochs)
+-- its Joins to the other members, and its Leaves to those that are listed no more, with its floor
+-- (own, after C705, new epochs)
 abbrev pub epoch_posts : (floor d m k : ℕ) → List Member → List ℕ → Replica → List Message
 epoch_posts floor d m k ms left r =
     to_each (others_of m ms) d m k floor (Join ms (copy_of r)) ++ to_each left d m k floor Leave
 
--- a new epoch, by what the new master has of the directory: its own epoch is in its present term (own)
+-- a new epoch, by what the new master has of the directory: its own epoch is in its present term
+-- (own)
 abbrev pub new_epoch_in : (m : ℕ) → House → (d k : ℕ) → List Member → List ℕ → Slot → HouseStep
 new_epoch_in m now d k ms left Absent = refuses why.NoReplica
 new_epoch_in m now d k ms left (Gone e) = refuses why.NoReplica
@@ -161,7 +167,8 @@ new_epoch_in m now d k ms left (Held r) =
     then turn_without_updates (with_slot now d now.floor (Held (epoch_replica k ms r))) (epoch_posts now.floor d m k ms left r) (NewEpoch k)
     else Stays (Refused (NotJoined r.epoch (since_in ms m 0)))
 
--- the epoch k of a directory with these members, told to those that are left out, at its new master (own, after C705, new epochs)
+-- the epoch k of a directory with these members, told to those that are left out, at its new master
+-- (own, after C705, new epochs)
 abbrev pub new_epoch : (m : ℕ) → House → (d k : ℕ) → List Member → (left : List ℕ) → HouseStep
 new_epoch m now d k ms left = new_epoch_in m now d k ms left (now.slots d)
 
@@ -171,7 +178,8 @@ new_epoch m now d k ms left = new_epoch_in m now d k ms left (now.slots d)
 abbrev pub floor_after : House → Message → ℕ
 floor_after now m = max now.floor m.floor
 
--- the receiver takes a message: its floor rises to the message's, it holds this, posts these, and answers so (own)
+-- the receiver takes a message: its floor rises to the message's, it holds this, posts these, and
+-- answers so (own)
 abbrev pub takes : House → Message → Slot → List Message → (List ℕ → Answer) → HouseStep
 takes now m s posts answer = turn_without_updates (with_slot now m.dir (floor_after now m) s) posts answer
 
@@ -203,7 +211,8 @@ take_gathered_answer now m r t r' answered =
     then take_and_answer now m (Held (record r' { phase = Spreading t [] })) (to_others now m r (Spread t (copy_of r')))
     else take_and_answer now m (Held (record r' { phase = Gathering t answered })) []
 
--- an answer of the first round, by the phase; in the second round it is joined in (own, after C705, skulks)
+-- an answer of the first round, by the phase; in the second round it is joined in (own, after C705,
+-- skulks)
 abbrev pub take_gathered : House → Message → Stamp → Copy → Replica → Phase → HouseStep
 take_gathered now m t copy r Idle = stale t Idle
 take_gathered now m t copy r (Gathering u answered) =
@@ -218,14 +227,16 @@ spread now m r t answered =
     then takes now m (Held (record r { all_up_to = later_up_to r.all_up_to t; phase = Idle })) (to_others now m r (Advance t)) (Complete t)
     else take_and_answer now m (Held (record r { phase = Spreading t answered })) []
 
--- while a skulk gathers, no member has its second round's message to answer: that row is for completeness (own)
+-- while a skulk gathers, no member has its second round's message to answer: that row is for
+-- completeness (own)
 abbrev pub take_ack : House → Message → Stamp → Replica → Phase → HouseStep
 take_ack now m t r Idle = stale t Idle
 take_ack now m t r (Gathering u answered) = if is_stamp t u then take_and_answer now m (Held r) [] else stale t (Gathering u answered)
 take_ack now m t r (Spreading u answered) =
     if is_stamp t u then spread now m r u (m.sender ∷ answered) else stale t (Spreading u answered)
 
--- a message of the epoch that the receiver holds, from a member (own, after C705, updates and skulks)
+-- a message of the epoch that the receiver holds, from a member (own, after C705, updates and
+-- skulks)
 abbrev pub take_own : House → Message → Replica → Body → HouseStep
 take_own now m r (Update marks) = take_and_answer now m (Held (with_marks r marks)) []
 take_own now m r (Gather t) = take_and_answer now m (Held r) (reply now m (Gathered t (copy_of r)))
@@ -254,7 +265,8 @@ replica_of_copy m members copy = record { epoch = m.epoch; members = members; hi
 abbrev pub kept_at_join : Message → List Member → Copy → Replica → Replica
 kept_at_join m members copy r = record (merge_copy r copy) { epoch = m.epoch; members = members; phase = Idle }
 
--- a house keeps its replica where it held the directory in its present term, and else takes the copy (own, after C705, new epochs)
+-- a house keeps its replica where it held the directory in its present term, and else takes the
+-- copy (own, after C705, new epochs)
 abbrev pub join_replica : Message → List Member → Copy → Slot → Replica
 join_replica m members copy Absent = replica_of_copy m members copy
 join_replica m members copy (Gone e) = replica_of_copy m members copy

@@ -1,5 +1,5 @@
-// What holds of every run of the model. A law is a function without parameters and with an empty body: its contract is
-// the theorem, for every list of commands.
+// What holds of every run of the model. A law is a function without parameters and with an empty
+// body: its contract is the theorem, for every list of commands.
 ghost use Rattle.std.specs.Prelude.{ℕ, List};
 ghost use Rattle.cell_model.specs.Cells.{Message, Cell};
 ghost use Rattle.cell_model.specs.Commands.{Command};
@@ -23,13 +23,14 @@ pub fn convergence()
     ensures { (commands : List Command) → Converges commands }
 {}
 
-/// Whatever a message adds to a replica can be merged into it: the replica lacks none of it up to the AllUpTo that it
-/// then has.
+/// Whatever a message adds to a replica can be merged into it: the replica lacks none of it up to
+/// the AllUpTo that it then has.
 pub fn merges()
     ensures { (commands : List Command) → MergesHold commands }
 {}
 
-/// No time stands above its house's floor or its message's, and each stamp is issued once, above all of them.
+/// No time is above its house's floor or its message's, and each stamp is issued once, above all of
+/// them.
 pub fn floors()
     ensures held { (commands : List Command) → FloorsHold (replay commands) }
     ensures rise { (commands : List Command) (c : Command)
@@ -48,8 +49,9 @@ pub fn completion()
     ensures { (commands : List Command) (c : Command) → RaisesUpTo commands c }
 {}
 
-/// The convergence invariant, part by part: where messages, epochs and histories come from; the first round; the second
-/// from its start on; what spreading brings about, and a completed skulk leaves; and what each AllUpTo tells.
+/// The convergence invariant, part by part: where messages, epochs and histories come from; the
+/// first round; the second from its start on; what spreading brings about, and a completed skulk
+/// leaves; and what each AllUpTo tells.
 pub fn invariant()
     ensures provenance { (commands : List Command) (c : Command)
         → ProvenanceHolds (replay commands) c (outcome (replay commands) c).cell }
@@ -66,7 +68,8 @@ pub fn reached()
     ensures { ReachedHolds }
 {}
 
-/// What holds in every cell that is reached, of histories, of members, and of the numbers of houses and directories.
+/// What holds in every cell that is reached, of histories, of members, and of the numbers of houses
+/// and directories.
 pub fn holdings()
     ensures histories { (g : Cell) → IsReached g → HistoriesHold g }
     ensures members { (g : Cell) → IsReached g → MembersHold g }
@@ -78,17 +81,20 @@ pub fn taking()
     ensures { (g : Cell) (m : Message) → IsReached g → In m g.bag → CanTake (g.house m.receiver) m }
 {}
 
-/// No answer says that a sender is no member, and a skulk completes at its last answer, or at once where its master is alone.
+/// No answer says that a sender is no member, and a skulk completes at its last answer, or at once
+/// where its master is alone.
 pub fn answers()
     ensures { (g : Cell) (c : Command) → IsReached g → AnswersHold g c }
 {}
 
-/// Where each house of a directory's present list is up and holds its last epoch, a skulk and its messages complete it.
+/// Where each house of a directory's present list is up and holds its last epoch, a skulk and its
+/// messages complete it.
 pub fn ready()
     ensures { (commands : List Command) (d : ℕ) → SkulkCompletes commands d }
 {}
 
-/// No state is stuck: wherever the master has a stamp left, the commands that `mending` names complete its skulk.
+/// No state is stuck: wherever the master has a stamp left, the commands that `mending` names
+/// complete its skulk.
 pub fn mending()
     ensures completes { (commands : List Command) (d : ℕ) → IsNeverStuck commands d }
     ensures stamp { (commands : List Command) (d : ℕ) → NeedsStamp commands d }

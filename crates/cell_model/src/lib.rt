@@ -1,4 +1,5 @@
-//! The model of a cell, in logic alone: houses that keep whole histories, and what each command does to them.
+//! The model of a cell, in logic alone: houses that keep whole histories, and what each command
+//! does to them.
 #![tactic(auto)]
 
 mod laws;

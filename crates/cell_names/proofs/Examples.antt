@@ -24,7 +24,7 @@ root_of_cell = refl
 empty_component : name_fault (codes "/.:/a//b") ≡ Some (Empty 7)
 empty_component = refl
 
--- a slash and nothing behind it
+-- a slash and nothing after it
 nothing_behind : name_fault (codes "/.:/") ≡ Some (Empty 5)
 nothing_behind = refl
 
@@ -44,7 +44,7 @@ three_houses = refl
 three_houses_read : pointer_of (0 ∷ 0 ∷ 1 ∷ 2 ∷ 3 ∷ 3 ∷ 1 ∷ 2 ∷ []) ≡ Some (record { dir = 258; master = 3; others = 1 ∷ 2 ∷ [] })
 three_houses_read = refl
 
--- behind the master 2, houses 1 and 3 are in order
+-- after the master 2, houses 1 and 3 are in order
 two_in_order : count_in_order 2 0 (1 ∷ 3 ∷ 2 ∷ 4 ∷ []) ≡ 2
 two_in_order = refl
 
@@ -64,7 +64,8 @@ one_too_many = refl
 no_house : pointer_fault (0 ∷ 0 ∷ 0 ∷ 1 ∷ 0 ∷ []) ≡ Some (BadChild 5)
 no_house = refl
 
--- four components of 254 octets and their slashes are 1,023 octets with the root, and one octet more is too many
+-- four components of 254 octets and their slashes are 1,023 octets with the root, and one octet
+-- more is too many
 longest_spliced : splice_fault (replicate 254 97 ∷ replicate 254 97 ∷ replicate 254 97 ∷ replicate 254 97 ∷ []) ≡ None
 longest_spliced = refl
 

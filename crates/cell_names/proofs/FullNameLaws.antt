@@ -1,4 +1,5 @@
--- Octets without a fault are the full names of the grammar, and their components are those that were spelled.
+-- Octets without a fault are the full names of the grammar, and their components are those that
+-- were spelled.
 use Rattle.std.proofs.Common.{◌≡◌, ℕ, ◌+◌, ◌≤◌, Bool, true, false, cond, List, [], ◌∷◌}
 use Rattle.std.proofs.Common.{◌++◌, length, Option, Some, None, refl, sym, ap, ◌∙◌, subst, arith, rules}
 use Rattle.std.specs.Prelude.{◌↔◌, IsTrue, not, nat_lt, nat_eq, ◌==◌, ◌||◌}
@@ -14,7 +15,7 @@ use Rattle.cds_stamps.proofs.NameLaws.{no_fault, component_lawful, component_non
 use Rattle.cell_names.specs.FullNames.{cell_root, slash, full_name_octets, is_local, components_of, components_fault}
 use Rattle.cell_names.specs.FullNames.{longest_name, name_fault, splice_fault, is_name, IsComponentList, IsFullName}
 
--- the components, each behind its slash
+-- the components, each after its slash
 abbrev pub tail_of : List (List ℕ) → List ℕ
 tail_of = flat_map (λ c. slash ∷ c)
 
@@ -42,7 +43,7 @@ components_none place ((b ∷ bs) ∷ cs) each =
     let short = each.0.short in
     rw (component_none place 1 (b ∷ bs) (recursion_from_All _ (b ∷ bs) each.0.each) (omega arith)) (components_none (place + length (b ∷ bs) + 1) cs each.1)
 
--- the parts between slashes, each behind a slash, are what was split
+-- the parts between slashes, each after a slash, are what was split
 pub tail_of-slice_split : (bs : List ℕ) → tail_of (slice_split (λ b. b == slash) bs) ≡ slash ∷ bs
 tail_of-slice_split [] = refl
 tail_of-slice_split (b ∷ bs) = by_slash (b == slash) refl (slice_split (λ b. b == slash) bs) (tail_of-slice_split bs)
@@ -80,7 +81,7 @@ name_fault-spelling (c ∷ cs) lawful =
     let fits : nat_lt longest_name (length (full_name_octets (c ∷ cs))) ≡ false = grind arith in
     rw (fits, components_of-spelling (c ∷ cs) lawful) (components_none 5 (c ∷ cs) (recursion_from_All IsSimpleName (c ∷ cs) lawful.simple))
 
--- local octets spell what stands behind their slashes
+-- local octets spell what is after their slashes
 spelled_from : (octets rest : List ℕ) → octets ≡ cell_root ++ slash ∷ rest → full_name_octets (components_of octets) ≡ octets
 spelled_from octets rest e = rw e (ap (λ t. cell_root ++ t) (tail_of-slice_split rest))
 

@@ -1,4 +1,5 @@
--- Houses without a fault are those of the grammar, and a fault is at the first place that breaks them.
+-- Houses without a fault are those of the grammar, and a fault is at the first place that breaks
+-- them.
 use Rattle.std.proofs.Common.{suc, zero, ◌≡◌, ◌≢◌, ℕ, ◌+◌, ◌-◌, ◌≤◌, ◌<◌, Bool, true, false, List}
 use Rattle.std.proofs.Common.{[], ◌∷◌, length, length-take-le, take, map, Some, None, refl, sym, ap, subst, ◌∙◌, arith}
 use Rattle.std.specs.Prelude.{◌↔◌, IsTrue, min, nat_lt, ◌==◌, ◌&&◌, ◌||◌, if◌then◌else◌}
@@ -85,7 +86,7 @@ front_fault master n others h =
     let long : length (take n others) ≡ n = length-take-le n others h in
     rw (ordered, long) refl
 
--- behind as many as are in order and may be, one more breaks the grammar
+-- after as many as are in order and may be, one more breaks the grammar
 first_bad : (master n : ℕ) (others : List ℕ) → n ≡ min (count_in_order master 0 others) 63 → n < length others
     → IsHouses (record { master = master; others = take n others }) × ¬ IsHouses (record { master = master; others = take (n + 1) others })
 first_bad master n others is more = (

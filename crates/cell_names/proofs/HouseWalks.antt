@@ -5,13 +5,14 @@ use Rattle.cell_names.specs.declared.houses.HousesFault.{HousesFault}
 use Rattle.cell_names.specs.declared.houses.HousesFault.TheVariants.{BadHouses}
 use Rattle.cell_names.specs.Houses.{most_houses, count_in_order, list_fault}
 
--- the first fault of houses from this place on, of which so many may still come, none below this least
+-- the first fault of houses from this place on, of which so many may still come, none below this
+-- least
 abbrev pub walk_list : (master place room least : ℕ) → List ℕ → Option HousesFault
 walk_list master place room least [] = None
 walk_list master place room least (h ∷ hs) =
     if room == 0 || (h == master || nat_lt h least) then Some (BadHouses place) else walk_list master (place + 1) (room - 1) (h + 1) hs
 
--- the fault behind so many in order, of so many in all
+-- the fault after so many in order, of so many in all
 abbrev behind_room : (place room ordered all : ℕ) → Option HousesFault
 behind_room place room ordered all = if min ordered room == all then None else Some (BadHouses (min ordered room + place))
 

@@ -38,7 +38,7 @@ split_behind : (c rest : List ℕ) (parts : List (List ℕ)) → HasNoSlash c �
 split_behind [] rest parts none is = is
 split_behind (b ∷ bs) rest parts none is = rw (none.0, split_behind bs rest parts none.1 is) refl
 
--- components, each behind a slash, and behind a last slash octets without any
+-- components, each after a slash, and after a last slash octets without any
 split_last : (cs : List (List ℕ)) (last : List ℕ) → AllByRecursion IsSimpleName cs → HasNoSlash last
     → slice_split (λ b. b == slash) (behind_slashes cs ++ slash ∷ last) ≡ [] ∷ (cs ++ last ∷ [])
 split_last [] last each none = ap (λ parts. [] ∷ parts) (slice_split_none (λ b. b == slash) last (All-from_recursion _ last none))
@@ -48,7 +48,7 @@ split_last (c ∷ cs) last each none =
     ∙ ap (λ parts. [] ∷ parts)
     (split_behind c (behind_slashes cs ++ slash ∷ last) (cs ++ last ∷ []) (recursion_from_All _ c (no_slash c each.0)) further)
 
--- a component more is spelled behind a slash
+-- a component more is spelled after a slash
 spelling_more : (cs : List (List ℕ)) (last : List ℕ) → full_name_octets (cs ++ last ∷ []) ≡ full_name_octets cs ++ slash ∷ last
 spelling_more cs last =
     ap (λ o. cell_root ++ o) (flat_map-append (λ (c : List ℕ). slash ∷ c) cs (last ∷ []) ∙ ap (λ o. behind_slashes cs ++ slash ∷ o) (nothing_more last))
@@ -69,7 +69,7 @@ module _ (octets : List ℕ) (sound : name_fault octets ≡ None) (front : List 
       subst IsSimpleName (get_or-append_seam front last [] last)
       (lawful.simple (length front) last (omega (arith, length-append front (last ∷ []))))
 
-  -- so it is where octets without a slash stand behind them
+  -- so it is where octets without a slash stand after them
   pub last_found : (last : List ℕ) → IsComponentList front → octets ≡ full_name_octets front ++ slash ∷ last → list_any (λ b. b == slash) last ≡ false
       → components_of octets ≡ front ++ last ∷ []
   last_found last lawful e none =
@@ -103,7 +103,7 @@ module _ (octets : List ℕ) (sound : name_fault octets ≡ None) (front : List 
       (rw e (omega (arith, length-append front (last ∷ []))))
       (rw e (sym (get_or-append_seam front last [] last)))
 
--- what stands behind these components and a slash
+-- what is after these components and a slash
 pub spelled_with_last : (octets behind : List ℕ) (lent front : List (List ℕ)) (last : Bor (List ℕ)) → octets ≡ full_name_octets lent ++ behind → lent ≡ front
     → (pointwise eqb (take 1 behind) (slash ∷ []) ≡ true) × (last.now ≡ drop 1 behind) × (length last.now + 1 ≡ length behind)
     → octets ≡ full_name_octets front ++ slash ∷ last.now

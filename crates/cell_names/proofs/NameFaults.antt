@@ -1,4 +1,5 @@
--- Faults of full names are at the first place at which the octets stop being the front of a name of any length.
+-- Faults of full names are at the first place at which the octets stop being the front of a name of
+-- any length.
 use Rattle.std.proofs.Common.{◌≡◌, ℕ, suc, ◌+◌, ◌≤◌, Bool, true, false, List, [], ◌∷◌, ◌++◌, length}
 use Rattle.std.proofs.Common.{take, Option, Some, None, refl, sym, ap, ◌∙◌, ◌⊎◌, inl, inr, subst, arith, take_all}
 use Rattle.std.specs.Prelude.{not, nat_eq, nat_lt, ◌==◌, ◌||◌, if◌then◌else◌}
@@ -25,7 +26,8 @@ State = ℕ × ℕ
 abbrev walk_from : State → List ℕ → Option NameFault
 walk_from s = walk_fault s.0 s.1
 
--- an octet that is a slash or none, where the component has none so far; or that is of names or not, where it is full
+-- an octet that is a slash or none, where the component has none so far; or that is of names or
+-- not, where it is full
 abbrev stepped : State → (at_slash none octet full : Bool) → NameFault ⊎ State
 stepped s true true octet full = inl (Empty s.0)
 stepped s true false octet full = inr (s.0 + 1, 0)
@@ -84,7 +86,7 @@ going_on s = by_none (s.1 == 0) refl
 
 -- ---- names of any length
 
--- octets behind `/.:/` without a fault are simple names with a slash between any two
+-- octets after `/.:/` without a fault are simple names with a slash between any two
 walked_name : (bs : List ℕ) → walk_fault first_component 0 bs ≡ None → IsNameOfAnyLength (cell_root ++ slash ∷ bs)
 walked_name bs e = record {
   components = slice_split (λ b. b == slash) bs;
@@ -125,7 +127,8 @@ same_place fault p q (inr (inl a)) (inr (inr b)) = absurd (cc (a, b))
 same_place fault p q (inr (inr a)) (inl b) = absurd (cc (a, b))
 same_place fault p q (inr (inr a)) (inr (inl b)) = absurd (cc (a, b))
 
--- the place is that of the first octet with which no name goes on, or a component is missing behind the last
+-- the place is that of the first octet with which no name goes on, or a component is missing after
+-- the last
 abbrev pub IsAtFirst : List ℕ → NameFault → ℕ → Type 0
 IsAtFirst octets fault place = IsFirstBad IsNameOfAnyLength octets place ⊎ (EndsEarly IsNameOfAnyLength octets place × (fault ≡ Empty place))
 
@@ -137,7 +140,7 @@ missing s fault e = by_none (s.1 == 0) e
     by_none true e = cc
     by_none false e = cc
 
--- the fault of octets behind `/.:/`
+-- the fault of octets after `/.:/`
 walked_first : (bs : List ℕ) (fault : NameFault) (place : ℕ) → walk_fault first_component 0 bs ≡ Some fault → IsPlaceFault fault place
     → IsAtFirst (cell_root ++ slash ∷ bs) fault place
 walked_first bs fault place e placed = by_kind c.kind
@@ -212,7 +215,7 @@ name_fault-first (b ∷ bs) fault place e placed = by_local (tested (not (is_loc
         by_placed (inr (inl a)) = absurd (cc (a, same, n))
         by_placed (inr (inr a)) = absurd (cc (a, same, n))
 
-    -- what stands behind `/.:`
+    -- what is after `/.:`
     by_root : (t : Bool) → pointwise nat_eq (b ∷ bs) cell_root ≡ t → (t || starts_with nat_eq (b ∷ bs) (cell_root ++ slash ∷ [])) ≡ true
         → components_fault first_component (components_of (b ∷ bs)) ≡ Some fault → IsAtFirst (b ∷ bs) fault place
     by_root true root local e =

@@ -12,7 +12,7 @@ walk_others master place count least [] = if count == 0 then None else Some (Bad
 walk_others master place count least (h ∷ hs) =
     if count == 0 || (h == master || nat_lt h least) then Some (BadChild place) else walk_others master (place + 1) (count - 1) (h + 1) hs
 
--- the fault behind so many in order, of so many in all
+-- the fault after so many in order, of so many in all
 abbrev behind : (place count ordered all : ℕ) → Option ChildFault
 behind place count ordered all = if ordered == count && all == count then None else Some (BadChild (place + min ordered count))
 

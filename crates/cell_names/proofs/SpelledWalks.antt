@@ -1,4 +1,4 @@
--- Octets that are compared with components, each behind a slash.
+-- Octets that are compared with components, each after a slash.
 use Rattle.std.proofs.Common.{◌≡◌, ◌≢◌, ◌↔◌, ℕ, ◌+◌, ◌<◌, Bool, true, false, List, [], ◌∷◌, ◌++◌}
 use Rattle.std.proofs.Common.{length, get_or, drop, take, Option, Some, None, Bor, refl, sym, ap, ◌∙◌, append_assoc, length-append, arith}
 use Rattle.std.specs.Prelude.{◌==◌}
@@ -12,7 +12,7 @@ use Rattle.cds_stamps.specs.Keyed.{ties_are_equal}
 use Rattle.cds_stamps.specs.Octets.{octets_exact, is_octets}
 use Rattle.cell_names.specs.FullNames.{cell_root, slash, behind_slashes, full_name_octets}
 
--- the octets behind a slash, behind which a component was sought
+-- the octets after a slash, after which a component was sought
 pub behind_slash : (octets behind component : List ℕ) (r : Option (Bor (List ℕ))) → octets ≡ slash ∷ behind
     → MatchOption r ((rest : List ℕ) → behind ≢ component ++ rest) (λ rest. behind ≡ component ++ rest.now)
     → MatchOption r ((rest : List ℕ) → octets ≢ slash ∷ (component ++ rest)) (λ rest. octets ≡ slash ∷ (component ++ rest.now))
@@ -43,7 +43,7 @@ not_followed octets rest cs i c less at is none tail e =
         append_assoc (behind_slashes (take i cs)) (slash ∷ (c ++ behind_slashes (drop (i + 1) cs))) tail
         ∙ ap (λ (o : List ℕ). behind_slashes (take i cs) ++ slash ∷ o) (append_assoc c (behind_slashes (drop (i + 1) cs)) tail)
 
--- the octets behind the root, behind which components were sought
+-- the octets after the root, after which components were sought
 pub behind_root : (octets behind : List ℕ) (cs : List (List ℕ)) (r : Option (Bor (List ℕ))) → octets ≡ cell_root ++ behind
     → MatchOption r ((rest : List ℕ) → behind ≢ behind_slashes cs ++ rest) (λ rest. behind ≡ behind_slashes cs ++ rest.now)
     → MatchOption r ((rest : List ℕ) → octets ≢ full_name_octets cs ++ rest) (λ rest. octets ≡ full_name_octets cs ++ rest.now)
@@ -65,7 +65,7 @@ tests_octets false these octets holds = by_case (is_octets these octets) refl
     by_case true e = holds.1 (sym (ties_are_equal octets_exact these octets e))
     by_case false e = refl
 
--- octets that begin so are these exactly where nothing is behind them
+-- octets that begin so are these exactly where nothing is after them
 pub spelled_whole : (octets these rest : List ℕ) (r : Bool) → octets ≡ these ++ rest → r ≡ (length rest == 0) → IsTrue r ↔ (octets ≡ these)
 spelled_whole octets these [] r is test = (λ t. is ∙ nothing_more these, λ e. test)
   where

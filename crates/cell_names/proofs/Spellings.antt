@@ -13,14 +13,14 @@ use Rattle.cell_names.proofs.FullNameLaws.{spelling-components}
 spelled_first : (c : List ℕ) (cs : List (List ℕ)) → length (behind_slashes (c ∷ cs)) ≡ length c + 1 + length (behind_slashes cs)
 spelled_first c cs = omega (arith, length-append c (behind_slashes cs))
 
--- the component at a place, and those behind it
+-- the component at a place, and those after it
 pub spelled_more : (cs : List (List ℕ)) (i : ℕ) (c : List ℕ) → i < length cs → c ≡ get_or cs i c
     → length (behind_slashes (drop i cs)) ≡ length c + 1 + length (behind_slashes (drop (i + 1) cs))
 spelled_more cs i c h e =
     at_drop_more (λ cs. length (behind_slashes cs)) cs i c h ∙ ap (λ (c : List ℕ). length (behind_slashes (c ∷ drop (i + 1) cs))) (sym e)
     ∙ spelled_first c (drop (i + 1) cs)
 
--- components behind others
+-- components after others
 spelled_append : (cs ds : List (List ℕ)) → length (behind_slashes (cs ++ ds)) ≡ length (behind_slashes cs) + length (behind_slashes ds)
 spelled_append cs ds = ap length (flat_map-append (λ (c : List ℕ). slash ∷ c) cs ds) ∙ length-append (behind_slashes cs) (behind_slashes ds)
 
@@ -38,7 +38,7 @@ pub component_simple : (octets : List ℕ) → name_fault octets ≡ None → (n
 component_simple octets e n c h at =
     subst (λ (c : List ℕ). simple_name_fault c ≡ None) (sym at) ((simple_name_laws _).1 ((spelling-components octets e).0.simple n c h))
 
--- simple names behind the components of a full name, where there is room
+-- simple names after the components of a full name, where there is room
 pub spliced : (cs ds : List (List ℕ)) → IsComponentList cs → All IsSimpleName ds → length (full_name_octets cs) + length (behind_slashes ds) ≤ longest_name
     → IsComponentList (cs ++ ds)
 spliced cs ds lawful simple room = record {

@@ -8,7 +8,8 @@ use Rattle.cell_names.specs.declared.pointer.ChildPointer.{ChildPointer}
 use Rattle.cell_names.specs.declared.pointer.ChildFault.{ChildFault}
 use Rattle.cell_names.specs.declared.pointer.ChildFault.TheVariants.{BadChild}
 
--- a child directory: its number, the house of its master, and its other houses (C705, child pointers)
+-- a child directory: its number, the house of its master, and its other houses (C705, child
+-- pointers)
 pub record Pointer : Type 0 where
   pub dir : ℕ
   pub master : ℕ
@@ -25,11 +26,13 @@ pub record IsPointer (p : Pointer) : Type 0 where
   pub others : All (λ h. h < 2 ^ 8) p.others
   pub houses : IsHouses (record { master = p.master; others = p.others })
 
--- the directory in four octets, the highest first; how many houses; the master; the other houses (own)
+-- the directory in four octets, the highest first; how many houses; the master; the other houses
+-- (own)
 abbrev pub pointer_octets : Pointer → List ℕ
 pointer_octets p = to_be_bytes w32 p.dir ++ (1 + length p.others) ∷ p.master ∷ p.others
 
--- the places of the number of houses, of the master and of the first other house, counted from 1 (own)
+-- the places of the number of houses, of the master and of the first other house, counted from 1
+-- (own)
 abbrev pub count_place : ℕ
 count_place = 5
 
@@ -41,8 +44,8 @@ master_place = 6
 abbrev pub others_place : ℕ
 others_place = 7
 
--- the fault of the houses beside this master, from this place on: behind those that are in order, or behind as many as
--- there are to be; none, where all are in order and as many (own)
+-- the fault of the houses beside this master, from this place on: after those that are in order, or
+-- after as many as there are to be; none, where all are in order and as many (own)
 abbrev pub others_fault : (master place count : ℕ) → List ℕ → Option ChildFault
 others_fault master place count others =
     let ordered = count_in_order master 0 others in
@@ -53,8 +56,8 @@ abbrev pub houses_fault : (count : ℕ) → List ℕ → Option ChildFault
 houses_fault count [] = Some (BadChild master_place)
 houses_fault count (master ∷ others) = others_fault master others_place (count - 1) others
 
--- the fault of octets that are no child pointer: the first field that breaks the form, the first octet that is
--- missing, or the first octet too many (own)
+-- the fault of octets that are no child pointer: the first field that breaks the form, the first
+-- octet that is missing, or the first octet too many (own)
 abbrev pub pointer_fault : List ℕ → Option ChildFault
 pointer_fault (a ∷ b ∷ c ∷ d ∷ count ∷ houses) =
     if count == 0 || nat_lt most_houses count then Some (BadChild count_place) else houses_fault count houses

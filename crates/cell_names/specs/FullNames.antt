@@ -18,11 +18,12 @@ cell_root = codes "/.:"
 abbrev pub slash : ℕ
 slash = 47
 
--- the components, each behind its slash (C705, CDS names)
+-- the components, each after its slash (C705, CDS names)
 abbrev pub behind_slashes : List (List ℕ) → List ℕ
 behind_slashes = flat_map (λ c. slash ∷ c)
 
--- the octets of the full name of these components: the root, and each component behind a slash (C705, CDS names)
+-- the octets of the full name of these components: the root, and each component after a slash
+-- (C705, CDS names)
 abbrev pub full_name_octets : List (List ℕ) → List ℕ
 full_name_octets components = cell_root ++ behind_slashes components
 
@@ -30,7 +31,7 @@ full_name_octets components = cell_root ++ behind_slashes components
 abbrev pub longest_name : ℕ
 longest_name = 1023
 
--- the place of the first octet of the first component, counted from 1: behind `/.:/` (own)
+-- the place of the first octet of the first component, counted from 1: after `/.:/` (own)
 abbrev pub first_component : ℕ
 first_component = 5
 
@@ -38,7 +39,7 @@ first_component = 5
 abbrev pub is_local : List ℕ → Bool
 is_local octets = pointwise nat_eq octets cell_root || starts_with nat_eq octets (cell_root ++ slash ∷ [])
 
--- what stands behind each slash after the root (own)
+-- what is after each slash after the root (own)
 abbrev pub components_of : List ℕ → List (List ℕ)
 components_of octets = drop 1 (slice_split (λ b. b == slash) (drop (length cell_root) octets))
 
@@ -53,7 +54,8 @@ pub record IsComponentList (components : List (List ℕ)) : Type 0 where
   pub simple : All IsSimpleName components
   pub short : length (full_name_octets components) ≤ longest_name
 
--- the octets are `/.:` and simple names, each behind a slash, however many octets they are in all (own)
+-- the octets are `/.:` and simple names, each after a slash, however many octets they are in all
+-- (own)
 pub record IsNameOfAnyLength (octets : List ℕ) : Type 0 where
   pub components : List (List ℕ)
   pub simple : All IsSimpleName components

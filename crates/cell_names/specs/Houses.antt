@@ -1,4 +1,5 @@
--- The houses of a child pointer, and the first fault of houses that are none (own, after C705, child pointers).
+-- The houses of a child pointer, and the first fault of houses that are none (own, after C705,
+-- child pointers).
 use Rattle.std.specs.Prelude.{◌≢◌, ℕ, ◌+◌, ◌-◌, ◌≤◌, min, Bool, ◌&&◌, ◌||◌, nat_lt, nat_eq, ◌==◌}
 use Rattle.std.specs.Prelude.{List, [], ◌∷◌, length, Option, Some, None, if◌then◌else◌}
 use Rattle.std.specs.Cmp.Lexicographic.{pointwise}
@@ -28,7 +29,8 @@ abbrev pub count_in_order : (master least : ℕ) → List ℕ → ℕ
 count_in_order master least [] = 0
 count_in_order master least (h ∷ hs) = if h == master || nat_lt h least then 0 else 1 + count_in_order master (h + 1) hs
 
--- the fault of other houses: behind those that are in order, and at the latest behind as many as may be (own)
+-- the fault of other houses: after those that are in order, and at the latest after as many as may
+-- be (own)
 abbrev pub list_fault : (master : ℕ) → List ℕ → Option HousesFault
 list_fault master others =
     let ordered = min (count_in_order master 0 others) (most_houses - 1) in

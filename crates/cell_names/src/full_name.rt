@@ -23,7 +23,7 @@ use thiserror::Error;
 /// The octets of the root of the cell, with which each full name begins.
 pub const ROOT: &[u8] = b"/.:";
 
-// What stands before the first component.
+// What is before the first component.
 const ROOT_SLASH: &[u8] = b"/.:/";
 
 // The place of the first octet of the first component, counted from 1.
@@ -32,15 +32,15 @@ const FIRST_COMPONENT: usize = 5;
 /// The most octets of a full name.
 pub const LONGEST_NAME: usize = 1023;
 
-/// Why simple names behind a full name make no full name.
+/// Why simple names after a full name make no full name.
 #[derive(Clone, Copy, Debug, PartialEq, Eq, Drop, Error)]
 pub enum SpliceFault {
     #[error("more than 1,023 octets")]
     NameTooLong,
 }
 
-/// A full name: the components behind `/.:`, each a simple name, which are none for the root of the cell. It is spelled
-/// in at most 1,023 octets.
+/// A full name: the components after `/.:`, each a simple name, which are none for the root of the
+/// cell. It is spelled in at most 1,023 octets.
 #[derive(Debug)]
 pub struct FullName {
     components: Vec<SimpleName>,
@@ -90,10 +90,10 @@ impl Hash for FullName {
 }
 
 impl FullName {
-    /// Whether octets are a full name, and else what is wrong: no octets (Empty at 1), not `/.:` and nothing that begins
-    /// with `/.:/` (NotLocal), more than 1,023 octets (NameTooLong), and then from left to right a component that ends
-    /// where it begins (Empty), an octet that no name has (BadOctet) or the 255th octet of a component
-    /// (ComponentTooLong). Takes no memory.
+    /// Whether octets are a full name, and else what is wrong: no octets (Empty at 1), not `/.:`
+    /// and nothing that begins with `/.:/` (NotLocal), more than 1,023 octets (NameTooLong), and
+    /// then from left to right a component that ends where it begins (Empty), an octet that no name
+    /// has (BadOctet) or the 255th octet of a component (ComponentTooLong). Takes no memory.
     pub fn check(octets: &[u8]) -> Result<(), NameFault>
         ensures { result ≡ ok_unless (name_fault octets.now) tt }
     {
@@ -112,8 +112,8 @@ impl FullName {
         check_components(&octets[ROOT_SLASH.len()..])
     }
 
-    /// The full name of these octets, or their fault, which is that of `check`. No memory is asked for where there is a
-    /// fault.
+    /// The full name of these octets, or their fault, which is that of `check`. No memory is asked
+    /// for where there is a fault.
     pub fn parse(alloc: Global, octets: &[u8]) -> Result<FullName, AllocOr<NameFault>>
         ensures answer { Answers result
             (ok_unless (name_fault octets.now) (components_of octets.now)) }
@@ -167,7 +167,8 @@ impl FullName {
         Ok(octets)
     }
 
-    /// Puts the octets that spell the name behind others. After want of memory some of them may be there.
+    /// Puts the octets that spell the name after others. After it ran out of memory some of them
+    /// may be there.
     pub fn append_spelling(&self, octets: &mut Vec<u8>) -> Result<(), AllocError>
         ensures ok { OnOk result
             (octets.new.items ≡ octets.old.items ++ full_name_octets self.now) }
@@ -208,7 +209,7 @@ impl FullName {
         room_behind(LONGEST_NAME - ROOT.len(), &self.components).unwrap()
     }
 
-    /// The name with these components behind its own.
+    /// The name with these components after its own.
     pub fn splice(
         &self,
         alloc: Global,
@@ -225,7 +226,7 @@ impl FullName {
         })
     }
 
-    // Whether these components may stand behind the name's own.
+    // Whether these components may stand after the name's own.
     fn check_splice(&self, rest: &[SimpleName]) -> Result<(), SpliceFault>
         ensures lawful { OnOk result (IsComponentList (self.now ++ rest.now)) }
         ensures value { result ≡ ok_unless (splice_fault (self.now ++ rest.now)) tt }
@@ -269,7 +270,7 @@ fn components_in(alloc: Global, octets: &[u8]) -> Result<Vec<SimpleName>, AllocE
     Ok(components)
 }
 
-// Copies of names, and of others behind them.
+// Copies of names, and of others after them.
 fn copies_of(
     alloc: Global,
     names: &[SimpleName],
@@ -283,7 +284,7 @@ fn copies_of(
     Ok(copies)
 }
 
-// Puts copies of names behind others. After want of memory some of the copies may be there.
+// Puts copies of names after others. After it ran out of memory some of the copies may be there.
 fn append_copies(
     alloc: Global,
     names: &mut Vec<SimpleName>,
@@ -298,7 +299,8 @@ fn append_copies(
 }
 
 #[tactic(auto, using(crate::proofs::Spellings::spelled_more))]
-// What is left of so much room behind these components, each with its slash; none where they don't fit.
+// What is left of so much room after these components, each with its slash; none where they don't
+// fit.
 fn room_behind(room: usize, components: &[SimpleName]) -> Option<usize>
     ensures left { let taken = length (behind_slashes components.now) in
         SomeIff result (taken ≤ room) (room - taken) }
@@ -311,7 +313,7 @@ fn room_behind(room: usize, components: &[SimpleName]) -> Option<usize>
     Some(room)
 }
 
-// Whether octets behind the first slash are components with a slash between any two.
+// Whether octets after the first slash are components with a slash between any two.
 fn check_components(octets: &[u8]) -> Result<(), NameFault>
     ensures { result ≡ ok_unless
         (components_fault first_component (slice_split (λ b. b == slash) octets.now)) tt }

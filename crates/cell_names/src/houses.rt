@@ -26,7 +26,8 @@ pub enum HousesFault {
     BadHouses(usize),
 }
 
-/// The houses of a directory: that of the master, and the others in ascending order, 1 to 64 in all.
+/// The houses of a directory: that of the master, and the others in ascending order, 1 to 64 in
+/// all.
 #[derive(Debug)]
 pub struct HouseList {
     master: HouseNo,
@@ -79,8 +80,9 @@ impl Hash for HouseList {
 }
 
 impl HouseList {
-    /// The houses of a directory, or the first place of the others, counted from 1, whose house is not above the one
-    /// before it, is the master's, or is the 64th. No memory is asked for where there is a fault.
+    /// The houses of a directory, or the first place of the others, counted from 1, whose house is
+    /// not above the one before it, is the master's, or is the 64th. No memory is asked for where
+    /// there is a fault.
     pub fn new(
         alloc: Global,
         master: HouseNo,

@@ -17,9 +17,10 @@ pub fn full_names_have_no_fault()
     ensures { (octets : List ℕ) → (name_fault octets ≡ None) ↔ IsFullName octets }
 {}
 
-/// A fault of a full name that has a place is at the first place at which the octets stop being the front of a name of
-/// any length: a component has no octet, an octet is none of names, or one too many. Where a component is missing behind
-/// the last octet, all octets are such a front. The length in all is tested before, and is no fault with a place.
+/// A fault of a full name that has a place is at the first place at which the octets stop being the
+/// front of a name of any length: a component has no octet, an octet is none of names, or one too
+/// many. Where a component is missing after the last octet, all octets are such a front. The length
+/// in all is tested before, and is no fault with a place.
 pub fn faults_of_full_names_are_at_the_first_place()
     ensures empty { (octets : List ℕ) (place : ℕ) → name_fault octets ≡ Some (Empty place) →
         IsFirstBad IsNameOfAnyLength octets place ⊎ EndsEarly IsNameOfAnyLength octets place }

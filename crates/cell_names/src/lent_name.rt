@@ -28,7 +28,8 @@ impl<'a> Model for LentName<'a> {
 }
 
 impl<'a> LentName<'a> {
-    /// The full name of these octets, or their fault, which is that of `FullName::check`. Takes no memory.
+    /// The full name of these octets, or their fault, which is that of `FullName::check`. Takes no
+    /// memory.
     pub fn of(octets: &'a [u8]) -> Result<LentName<'a>, NameFault>
         ensures { result ≡ ok_unless (name_fault octets.now) (components_of octets.now) }
     {
@@ -62,7 +63,8 @@ impl<'a> LentName<'a> {
         Ok(copies)
     }
 
-    /// The octets of the last component, where those in front of it are the components of this name. Takes no memory.
+    /// The octets of the last component, where those in front of it are the components of this
+    /// name. Takes no memory.
     pub fn last_behind(&self, front: &FullName) -> Option<&'a [u8]>
         ensures value { MatchOption result
             ((last : List ℕ) → self.now ≢ front.now ++ last ∷ [])

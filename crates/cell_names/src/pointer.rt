@@ -14,7 +14,8 @@ use thiserror::Error;
 // How many octets the number of a directory has.
 const DIR_LEN: usize = 4;
 
-// The place of the number of houses, and that of the first house behind the master's; counted from 1.
+// The place of the number of houses, and that of the first house after the master's; counted from
+// 1.
 const COUNT: usize = 5;
 
 const OTHERS: usize = 7;
@@ -45,9 +46,10 @@ impl Drop for ChildPointer {
 impl ChildPointer {
     ghost use Rattle.cell_names.specs.ChildPointers.{pointer_in, pointer_octets, pointer_of};
 
-    /// Whether octets are a child pointer: the directory (4 octets, the highest first), the number of houses (1),
-    /// the master's house (1) and the other houses (1 each), and nothing behind them. Else the place of the first field
-    /// that breaks this, of the first octet that is missing, or of the first too many. Takes no memory.
+    /// Whether octets are a child pointer: the directory (4 octets, the highest first), the number
+    /// of houses (1), the master's house (1) and the other houses (1 each), and nothing after them.
+    /// Else the place of the first field that breaks this, of the first octet that is missing, or
+    /// of the first too many. Takes no memory.
     pub fn check(octets: &[u8]) -> Result<(), ChildFault>
         ensures { result ≡ ok_unless (pointer_fault octets.now) tt }
     {
@@ -60,8 +62,8 @@ impl ChildPointer {
         }
     }
 
-    /// The child pointer of these octets, or their fault, which is that of `check`. No memory is asked for where there
-    /// is a fault.
+    /// The child pointer of these octets, or their fault, which is that of `check`. No memory is
+    /// asked for where there is a fault.
     pub fn read(alloc: Global, octets: &[u8]) -> Result<ChildPointer, AllocOr<ChildFault>>
         ensures read { IfOk result (λ p. pointer_of octets.now ≡ Some (pointer_in p)) }
         ensures faulty { IfSome (pointer_fault octets.now) (λ fault. result ≡ Err (Fault fault)) }

@@ -16,7 +16,7 @@ pub(crate) fn spell(octets: &[u8], components: &[SimpleName]) -> bool
     }
 }
 
-/// What stands behind the root of the cell and these components, if octets begin so.
+/// What is after the root of the cell and these components, if octets begin so.
 pub(crate) fn behind_name<'a>(octets: &'a [u8], components: &[SimpleName]) -> Option<&'a [u8]>
     ensures { MatchOption result
         ((rest : List ℕ) → octets.now ≢ full_name_octets components.now ++ rest)
@@ -25,7 +25,7 @@ pub(crate) fn behind_name<'a>(octets: &'a [u8], components: &[SimpleName]) -> Op
     behind_components(octets.strip_prefix(ROOT)?, components)
 }
 
-// What stands behind these components, each behind a slash, if octets begin so.
+// What is after these components, each after a slash, if octets begin so.
 fn behind_components<'a>(octets: &'a [u8], components: &[SimpleName]) -> Option<&'a [u8]>
     ensures { MatchOption result
         ((rest : List ℕ) → octets.now ≢ behind_slashes components.now ++ rest)
@@ -41,7 +41,7 @@ fn behind_components<'a>(octets: &'a [u8], components: &[SimpleName]) -> Option<
     Some(rest)
 }
 
-// What stands behind a slash and this component, if octets begin so.
+// What is after a slash and this component, if octets begin so.
 fn behind_component<'a>(octets: &'a [u8], component: &[u8]) -> Option<&'a [u8]>
     ensures { MatchOption result
         ((rest : List ℕ) → octets.now ≢ slash ∷ (component.now ++ rest))

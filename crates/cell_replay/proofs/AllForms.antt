@@ -23,7 +23,8 @@ use Rattle.cell_replay.proofs.Streams.{total}
 use Rattle.cell_replay.proofs.TowerLaws.{one_towers_demand, towers_fault_stays, towers_body_stays}
 use Rattle.cell_replay.proofs.WholeTurns.{whole_body_stays, whole_fault_stays}
 
--- octets demand one thing; what is due is due whatever follows; and a fault that shows ends what is due
+-- octets demand one thing; what is due is due whatever follows; and a fault that shows ends what is
+-- due
 pub record IsLawful (reading : Reading) : Type 0 where
   pub some : (octets : List ℕ) → IsBytes octets → (d : Demand) × reading.demands octets d
   pub only : (octets : List ℕ) (d e : Demand) → reading.demands octets d → reading.demands octets e → d ≡ e

@@ -113,7 +113,8 @@ too_long = refl
 
 -- ---- scripts
 
--- nothing is due for a comment, and no house is there yet; then the line is at fault, and nothing is due behind it
+-- nothing is due for a comment, and no house is there yet; then the line is at fault, and nothing
+-- is due after it
 three_lines : line_demand (dialogue_rule run_dialogue) empty_cell (codes "#" ++ (10 ∷ (codes "root 1" ++ (10 ∷ (codes "rot 1" ++ (10 ∷ (codes "root 1" ++ 10 ∷ [])))))))
     ≡ record { body = codes "2 refused NoHouse" ++ (10 ∷ (codes "3 fault UnknownCommand 1" ++ 10 ∷ [])); end = []; verdict = Faulty }
 unfolding digits fault_at demand number_of lines.said_by forms.check_count forms.take_words
@@ -154,7 +155,7 @@ spelled_back : tower_said (words_of (codes "0b: 0708:01")) ≡ SaysTower
 unfolding floor_said cut_at_mark decode_pairs
 spelled_back = refl
 
--- a line that says no tower has no text; what stands before it is spelled
+-- a line that says no tower has no text; what is before it is spelled
 one_spelled : line_demand spelling_rule tt (codes "-" ++ (10 ∷ (codes "0b" ++ (10 ∷ (codes "-" ++ 10 ∷ []))))) ≡ faulty_with (0 ∷ 0 ∷ [])
 unfolding digits fault_at demand floor_said cut_at_mark decode_pairs
 one_spelled = refl

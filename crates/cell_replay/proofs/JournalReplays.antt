@@ -1,4 +1,5 @@
--- What a run of the form `journal` that ends Ok wrote, and the commands of the model that its lines are.
+-- What a run of the form `journal` that ends Ok wrote, and the commands of the model that its lines
+-- are.
 use Rattle.std.proofs.Common.{◌≡◌, ◌⊎◌, inl, inr, ℕ, Bool, true, false, List, [], ◌∷◌, refl, sym, ◌∙◌}
 use Rattle.cell_model.specs.Commands.{Command}
 use Rattle.cell_model.specs.Steps.{replay_from}
@@ -22,7 +23,7 @@ use Rattle.script_replay.proofs.Scripts.{is_filling_replay, same_state}
 
 -- ---- commands
 
--- the cell behind lines is the model's behind their effective commands
+-- the cell after lines is the model's after their effective commands
 cells_behind : (s : JournaledCell) (ls : List (NumberedOf JournalLine))
     → (state_after_lines journal_dialogue s ls).cell ≡ replay_from s.cell (commands_from (λ g l. (journal_said g l).steps) s.cell ls)
 cells_behind s [] = refl
@@ -45,7 +46,8 @@ responds number s line = by (lacks_room s.lists (puts_by s (said_in (words_of li
     by true lacks = inr (rw lacks refl)
     by false has = inl (rw has (same_state (reply_of journal_dialogue number s (said_in (words_of line)))))
 
--- what was written, of a whole input in which nothing is faulty, is the transcript of the effective commands
+-- what was written, of a whole input in which nothing is faulty, is the transcript of the effective
+-- commands
 pub is_journal_replay : (run : Run) → Wrote (by_lines journal_rule empty_state) run IsWhole → IsJournalReplay run
 is_journal_replay run wrote =
     let replay = is_filling_replay journal_rule journal_dialogue (λ s. s) responds (λ s. refl) empty_state run wrote in

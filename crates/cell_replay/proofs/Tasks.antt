@@ -24,7 +24,8 @@ module _ (text : List ℕ) (source sink : Side) where
     few = omega arith;
   }
 
-  -- a run that writes this text with nothing waiting in front of it, and stops, ends as a form without input does
+  -- a run that writes this text with nothing waiting in front of it, and stops, ends as a form
+  -- without input does
   pub writes : (waited : List ℕ) (sink' : Side) (result : Status) → waited ≡ [] → StopsWith sink sink' AllRead text waited result
       → EndsBetween (without_input text) source source sink sink' result
   writes waited sink' result none stops =

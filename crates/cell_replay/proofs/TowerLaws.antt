@@ -19,7 +19,7 @@ use Rattle.cell_replay.proofs.Streams.{le_or_lt, tower_or_fault, one_fault, sigh
 
 -- ---- what is in sight
 
--- more octets behind those that fill the sight
+-- more octets after those that fill the sight
 sight_full : (xs ys : List ℕ) → 1024 < length xs → in_sight (xs ++ ys) ≡ in_sight xs
 sight_full xs ys long = take-append-le 1025 xs ys (omega (arith, long))
 
@@ -29,7 +29,7 @@ take_front n front rest le =
     let size : n ≡ length front + (n - length front) = omega (arith, le) in
     ap (λ (k : ℕ). take k (front ++ rest)) size ∙ take-append-add front rest (n - length front)
 
--- more octets behind others add to what is seen of those
+-- more octets after others add to what is seen of those
 sight_more : (n : ℕ) (xs ys : List ℕ) → (m : ℕ) × (take n (xs ++ ys) ≡ take n xs ++ take m ys)
 sight_more n xs ys = by_length (le_or_lt (length xs) n)
   where
@@ -54,7 +54,7 @@ empty_stays (low ∷ high ∷ octets) ys place is =
 
 -- ---- a fault that shows
 
--- where a fault shows no tower stands in front
+-- where a fault shows no tower is in front
 no_tower : (number : ℕ) (octets : List ℕ) (fault : StreamFault) → ShowsFault number octets fault → BeginsWithTower number octets → ⊥
 no_tower number octets (stream.Tower (EmptyLeft place)) shows begins =
     let seen = begins_in_sight number octets begins in
@@ -124,7 +124,7 @@ one_shown number octets stream.TooManyTowers stream.TooLong first second =
     absurd (omega (arith, counted, beyond))
 one_shown number octets stream.TooManyTowers stream.TooManyTowers first second = refl
 
--- ---- what stands behind the towers
+-- ---- what is after the towers
 
 -- what an end within a tower says
 pub record IsPartial (number : ℕ) (octets : List ℕ) (fault : TowerFault) : Type 0 where
@@ -205,7 +205,7 @@ one_rest number octets (PartOf a) (PartOf b) first second = ap PartOf
 
 -- ---- whole inputs
 
--- the same octets are the same towers, with the same behind them
+-- the same octets are the same towers, with the same after them
 pub one_reading : (number : ℕ) (octets : List ℕ) (ts us : List (List Floor)) (r s : Rest) → AreTowers number octets ts r
     → AreTowers number octets us s → towers_demand number ts r ≡ towers_demand number us s
 one_reading number octets [] [] r s first second = ap (rest_demand number) (one_rest number octets r s first second)

@@ -28,14 +28,15 @@ use Rattle.cell_replay.proofs.Streams.{total, le_or_lt}
 use Rattle.line_forms.proofs.Progress.{Pending, Reached, StopsHere, Turn, moved, started, all_out, goes_on, reached_more, more_read, write_failed}
 use Rattle.line_forms.proofs.Progress.{finishes, stops_with, read_failed, answers_taken}
 
--- what the octets behind the towers so far demand
+-- what the octets after the towers so far demand
 abbrev pub BehindTowers : ℕ → List ℕ → Demand → Type 0
 BehindTowers number r d = TowersDemand number r d
 
 pub towers_stop : (number : ℕ) → StopsHere (BehindTowers number)
 towers_stop number = record { demand = ends_with []; behind = ([], Nothing, refl, refl); none = refl; unbroken = tt }
 
--- the towers so far were told; nothing follows what is held where the input has ended; and no call failed
+-- the towers so far were told; nothing follows what is held where the input has ended; and no call
+-- failed
 pub record IsAmong (first left old new : Option (List ℕ)) (reads reads' writes writes' : ℕ) (window : WindowOctets) (number : ℕ) (ended : Bool)
     (waits : List ℕ) : Type 0 where
   pub reached : Reached by_towers first left old new window.octets waits (BehindTowers number)
@@ -179,7 +180,7 @@ module _ (first left old new : Option (List ℕ)) (reads reads' writes writes' :
       stops d.0 d.1 new' writes'' OutOfMemory result (inl (d.0.body, refl), answered)
       (subst (λ (w : List ℕ). Finishes (side new writes') (side new' writes'') w OutOfMemory result) same finished)
 
-  -- the input ends behind the last tower
+  -- the input ends after the last tower
   pub towers_end : ended ≡ true → held ≡ [] → (new' : Option (List ℕ)) (writes'' : ℕ) (result : Status)
       → Finishes (side new writes') (side new' writes'') waits AllRead result
       → EndsBetween by_towers (side first reads) (side left reads') (side old writes) (side new' writes'') result
@@ -243,7 +244,7 @@ module _ (first left old new : Option (List ℕ)) (reads reads' writes writes' :
     body : demand.body ≡ sent.out
     body = ap (λ (l : List ℕ). (sent.out ++ []) ++ l) part.2 ∙ append-nil (sent.out ++ []) ∙ append-nil sent.out
 
-    -- what is held stands behind the towers that were told
+    -- what is held is after the towers that were told
     leaves : LeavesPart (told ++ held) held
     leaves = record {
       towers = told;

@@ -1,4 +1,4 @@
--- How the forms of the program that are no lines read their input, and what it demands of them (own).
+-- How the forms of the program that are no lines read their input, and what it demands of them.
 use Rattle.std.specs.Prelude.{◌≡◌, ℕ, ◌≤◌, List, [], length}
 use Rattle.std.specs.Io.KnownBytes.{Consumes, IsAtEnd}
 use Rattle.tower_codec.specs.Tower.{Floor}
@@ -13,7 +13,8 @@ use Rattle.cell_replay.specs.TowerDemand.{IsTaken, TowersDemand}
 use Rattle.cell_replay.specs.WholeDemand.{WholeTask, whole_demand}
 use Rattle.cell_replay.specs.declared.limits.TheConstants.{TOWER_SIGHT, WHOLE_SIGHT}
 
--- a form reads the octets of towers: it takes a tower at once, and where a read fails, the octets of the filling that it was to end come late (own)
+-- a form reads the octets of towers: it takes a tower at once, and where a read fails, the octets
+-- of the filling that it was to end come late
 abbrev pub by_towers : Reading
 by_towers =
     record {
@@ -24,7 +25,7 @@ by_towers =
       came_late = IsUnfilled;
     }
 
--- a form reads its whole input and then says one thing: nothing is taken before all is read (own)
+-- a form reads its whole input and then says one thing: nothing is taken before all is read
 abbrev pub by_whole : WholeTask → Reading
 by_whole task =
     record {
@@ -35,11 +36,11 @@ by_whole task =
       came_late = λ octets came. came ≡ [];
     }
 
--- such a form reads at most one octet more than it may have, whatever the ending (own)
+-- such a form reads at most one octet more than it may have, whatever the ending
 abbrev pub HasReadFew : Run → Type 0
 HasReadFew run = (read : List ℕ) × Consumes run.left run.left' read × (length read ≤ WHOLE_SIGHT)
 
--- a form reads nothing and writes a text, which is due whatever stands there; it meets no failed read (own)
+-- a form reads nothing and writes a text, which is due whatever is there; it meets no failed read
 abbrev pub without_input : (text : List ℕ) → Reading
 without_input text =
     record {
@@ -50,6 +51,6 @@ without_input text =
       came_late = λ octets came. ⊥;
     }
 
--- `untowers` writes the octets of the tower of each line, and no line of a fault; it keeps nothing (own)
+-- `untowers` writes the octets of the tower of each line, and no line of a fault; it keeps nothing
 abbrev pub spelling_rule : LineRule (Unit {0})
 spelling_rule = record { response = λ number s line. spell_response (tower_said (words_of line)); end_text = λ s. []; fault_text = λ fault. [] }

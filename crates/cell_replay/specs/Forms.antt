@@ -1,4 +1,4 @@
--- The forms of the program, and how each reads its input (own).
+-- The forms of the program, and how each reads its input.
 use Rattle.std.specs.Prelude.{ℕ, if◌then◌else◌, List, [], ◌∷◌, codes, Option, Some, None}
 use Rattle.std.specs.Option.{option_map}
 use Rattle.std.specs.Str.{bytes_eq}
@@ -22,8 +22,9 @@ use Rattle.cell_replay.specs.declared.forms.Form.{Form}
 use Rattle.cell_replay.specs.declared.forms.Form.TheVariants as form
 use Rattle.cell_replay.specs.declared.limits.TheConstants.{LAST_DIR, MOST_KEPT, MOST_ROUNDS}
 
--- how each reads, and what an input demands of it, from its start: a script is replayed on a cell without houses, by a clerk that keeps so many
--- answers, or with empty journals; a script is counted; and `load` reads nothing (own)
+-- how each reads, and what an input demands of it, from its start: a script is replayed on a cell
+-- without houses, by a clerk that keeps so many answers, or with empty journals; a script is
+-- counted; and `load` reads nothing
 abbrev pub reading_of : Form → Reading
 reading_of form.Run = by_lines (dialogue_rule run_dialogue) empty_cell
 reading_of form.Check = by_lines check_rule (counts 0 0)
@@ -36,23 +37,24 @@ reading_of form.Inquire = by_lines (dialogue_rule inquire_dialogue) empty_cell
 reading_of (form.Audit dir) = by_whole (Auditing dir)
 reading_of form.Journal = by_lines journal_rule empty_state
 
--- a form that reads nothing (own)
+-- a form that reads nothing
 abbrev pub ReadsNothing : Option Form → Type 0
 ReadsNothing (Some (form.Load rounds)) = Unit {0}
 ReadsNothing other = ⊥
 
--- a form that reads its whole input reads at most one octet more than it may have, whatever the ending (own)
+-- a form that reads its whole input reads at most one octet more than it may have, whatever the
+-- ending
 abbrev pub ReadsFew : Form → Run → Type 0
 ReadsFew form.Migrate run = HasReadFew run
 ReadsFew (form.Audit dir) run = HasReadFew run
 ReadsFew other run = Unit {0}
 
--- a form that keeps no journals (own)
+-- a form that keeps no journals
 abbrev pub HasNoJournals : Form → Type 0
 HasNoJournals form.Journal = ⊥
 HasNoJournals other = Unit {0}
 
--- the endings of such a form that no failed call causes (own)
+-- the endings of such a form that no failed call causes
 abbrev pub IsCalmEnding : Status → Type 0
 IsCalmEnding AllRead = Unit {0}
 IsCalmEnding Usage = Unit {0}
@@ -62,7 +64,7 @@ IsCalmEnding WriteFault = ⊥
 IsCalmEnding OutOfMemory = Unit {0}
 IsCalmEnding JournalFull = ⊥
 
--- the form that a word names (own)
+-- the form that a word names
 abbrev pub form_named : List ℕ → Option Form
 form_named word =
     if bytes_eq word (codes "run") then Some form.Run
@@ -73,15 +75,15 @@ form_named word =
     else (if bytes_eq word (codes "inquire") then Some form.Inquire
     else (if bytes_eq word (codes "journal") then Some form.Journal else None))))))
 
--- the form that a word and a number name, which is at least one: `load` and how many rounds, `clerk` and its room, or `audit` and a
--- directory (own)
+-- the form that a word and a number name, which is at least one: `load` and how many rounds,
+-- `clerk` and its room, or `audit` and a directory
 abbrev pub form_numbered : (word number : List ℕ) → Option Form
 form_numbered word number =
     if bytes_eq word (codes "load") then option_map form.Load (number_to MOST_ROUNDS number)
     else (if bytes_eq word (codes "clerk") then option_map form.Clerk (number_to MOST_KEPT number)
     else (if bytes_eq word (codes "audit") then option_map form.Audit (number_to LAST_DIR number) else None))
 
--- the form that the words of the command line name (own)
+-- the form that the words of the command line name
 abbrev pub form_of : List (List ℕ) → Option Form
 form_of [] = None
 form_of (word ∷ []) = form_named word

@@ -1,4 +1,4 @@
--- What a run of the form `journal` wrote of a script (own).
+-- What a run of the form `journal` wrote of a script.
 use Rattle.std.specs.Prelude.{◌≡◌, List, ◌∷◌, ◌++◌, Some}
 use Rattle.tower_codec.specs.declared.binding.StringBinding.{StringBinding}
 use Rattle.ns_import.specs.Imports.{IsImport}
@@ -20,21 +20,23 @@ use Rattle.script_replay.specs.Scripts.{IsReplayBy, state_after_lines}
 
 -- ---- what is written
 
--- the effective commands of lines: those that the model has to do (own)
+-- the effective commands of lines: those that the model has to do
 abbrev pub effective : List (NumberedOf JournalLine) → List Command
 effective = commands_from (λ g l. (journal_said g l).steps) empty_cell
 
--- wherever one of these lines imports and is answered with bindings, these are those of exactly the entries that the search reaches, each once
--- and in its order, by what the cell behind the effective commands tells (own, after C706, importing bindings)
+-- wherever one of these lines imports and is answered with bindings, these are those of exactly the
+-- entries that the search reaches, each once and in its order, by what the cell after the effective
+-- commands tells (own, after C706, importing bindings)
 abbrev pub JournalFinds : List (NumberedOf JournalLine) → Type 0
 JournalFinds said =
     (early late : List (NumberedOf JournalLine)) (l : NumberedOf JournalLine) (i : Importing) (bindings : List StringBinding) → said ≡ early ++ l ∷ late
     → l.says ≡ line.Plain (import_line i) → reply_to (replay_from empty_cell (effective early)) (import_line i) ≡ Some (answer.Bindings bindings)
     → IsImport (cell_reader (replay_from empty_cell (effective early)) (Some i.house.0) i.high) i.wanted i.name bindings
 
--- A script was read, and the transcript of its effective commands was written. The cell behind each front of its lines is the model's behind their
--- effective commands; wherever one of these completes a skulk, the replicas of its epoch and of later ones agree from then on, also behind crashes inside a
--- step; and imports find what the search reaches (own, after C705, skulks)
+-- A script was read, and the transcript of its effective commands was written. The cell after each
+-- front of its lines is the model's after their effective commands; wherever one of these completes
+-- a skulk, the replicas of its epoch and of later ones agree from then on, also after crashes
+-- inside a step; and imports find what the search reaches (own, after C705, skulks)
 pub record IsJournalReplay (run : Run) : Type 0 where
   pub replay : IsReplayBy journal_dialogue empty_state run
   pub cells : (front rest : List (NumberedOf JournalLine)) → replay.said ≡ front ++ rest

@@ -1,4 +1,4 @@
--- Words of private contracts: what the octets held show of the next tower (own).
+-- Words of private contracts: what the octets held show of the next tower.
 use Rattle.std.specs.Prelude.{◌≡◌, ◌⊎◌, ℕ, ◌≤◌, ◌<◌, Bool, true, false, nat_lt, if◌then◌else◌, List, [], length, take}
 use Rattle.tower_codec.specs.declared.fault.TowerFault.{TowerFault}
 use Rattle.tower_codec.specs.declared.fault.TowerFault.TheVariants.{ShortCount, ShortLength, ShortPart, EmptyLeft}
@@ -20,7 +20,7 @@ EndsBy number octets stream.TooManyTowers = ⊥
 abbrev pub TellsFault : ℕ → List ℕ → (ended : Bool) → StreamFault → Type 0
 TellsFault number octets ended fault = ShowsFault number octets fault ⊎ ((ended ≡ true) × EndsBy number octets fault)
 
--- no tower and no fault stands in front: there is nothing, or a part of a tower
+-- no tower and no fault is in front: there is nothing, or a part of a tower
 abbrev pub IsUnended : ℕ → List ℕ → Type 0
 IsUnended number octets = (octets ≡ []) ⊎ ((fault : TowerFault) × EndsWithin number octets fault)
 

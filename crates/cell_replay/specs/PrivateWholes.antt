@@ -1,4 +1,4 @@
--- Words of private contracts: what is said of a whole input (own).
+-- Words of private contracts: what is said of a whole input.
 use Rattle.std.specs.Prelude.{◌≡◌, List, ℕ, Result, Ok, Err}
 use Rattle.std.specs.declared.alloc.AllocError.{AllocError}
 use Rattle.line_forms.specs.declared.endings.Status.{Status}
@@ -20,7 +20,8 @@ abbrev pub IsSaid : Said → Result (List ℕ) (List ℕ) → Type 0
 IsSaid (said.Text text) r = r ≡ Ok text.items
 IsSaid (said.Fault text) r = r ≡ Err text.items
 
--- a text goes out and the run ends so; or that of a fault does; or there was no memory, and nothing went out
+-- a text goes out and the run ends so; or that of a fault does; or there was no memory, and nothing
+-- went out
 abbrev pub SaysEnd : Result Said AllocError → (sink sink' : Side) → Status → Type 0
 SaysEnd (Ok (said.Text text)) sink sink' result = Finishes sink sink' text.items ends.Ok result
 SaysEnd (Ok (said.Fault text)) sink sink' result = Finishes sink sink' text.items ends.BadInput result

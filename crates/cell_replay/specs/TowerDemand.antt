@@ -1,4 +1,4 @@
--- What an input demands of `towers`: whole towers, and what stands behind the last of them (own).
+-- What an input demands of `towers`: whole towers, and what is after the last of them.
 use Rattle.std.specs.Prelude.{◌≡◌, ℕ, ◌+◌, ◌≤◌, ◌<◌, List, [], ◌∷◌, ◌++◌, length, take, codes}
 use Rattle.tower_codec.specs.declared.fault.TowerFault.{TowerFault}
 use Rattle.tower_codec.specs.declared.fault.TowerFault.TheVariants.{ShortCount, ShortLength, ShortPart, EmptyLeft}
@@ -11,20 +11,20 @@ use Rattle.script_answers.specs.Texts.{fault_text}
 use Rattle.reply_buffer.specs.TowerTexts.{tower_text}
 use Rattle.line_forms.specs.Demand.{Demand, faulty_with, ends_with, cut_short_with, with_front}
 
--- a tower of at most 1,024 octets, and there are at most 16,777,216 of them (own)
+-- a tower of at most 1,024 octets, and there are at most 16,777,216 of them
 abbrev pub IsTaken : ℕ → List Floor → List ℕ → Type 0
 IsTaken number floors octets = (number ≤ MOST_TOWERS) × (length octets ≤ LONGEST_TOWER) × IsTower floors octets
 
--- the octets that are looked at for one tower: one more than it may have (own)
+-- the octets that are looked at for one tower: one more than it may have
 abbrev pub in_sight : List ℕ → List ℕ
 in_sight octets = take TOWER_SIGHT octets
 
--- a tower that is taken stands in front (own)
+-- a tower that is taken is in front
 abbrev pub BeginsWithTower : ℕ → List ℕ → Type 0
 BeginsWithTower number octets = (floors : List Floor) × (front : List ℕ) × (rest : List ℕ) × IsTaken number floors front × (octets ≡ front ++ rest)
 
--- the octets show that tower number is at fault, whatever follows them: it is one too many; a left part is empty; or
--- there is neither that nor a whole tower before octet 1,025 (own)
+-- the octets show that tower number is at fault, whatever follows them: it is one too many; a left
+-- part is empty; or there is neither that nor a whole tower before octet 1,025
 abbrev pub ShowsFault : ℕ → List ℕ → StreamFault → Type 0
 ShowsFault number octets (stream.Tower (EmptyLeft place)) = (number ≤ MOST_TOWERS) × IsFault (in_sight octets) (EmptyLeft place)
 ShowsFault number octets (stream.Tower (ShortCount place)) = ⊥
@@ -35,24 +35,24 @@ ShowsFault number octets stream.TooLong =
     × ((place : ℕ) → ¬ (IsFault (in_sight octets) (EmptyLeft place)))
 ShowsFault number octets stream.TooManyTowers = (MOST_TOWERS < number) × (0 < length octets)
 
--- the input ends within tower number (own)
+-- the input ends within tower number
 abbrev pub EndsWithin : ℕ → List ℕ → TowerFault → Type 0
 EndsWithin number octets (EmptyLeft place) = ⊥
 EndsWithin number octets fault = (number ≤ MOST_TOWERS) × (0 < length octets) × (length octets ≤ LONGEST_TOWER) × IsFault octets fault
 
--- what stands behind the whole towers: nothing, a fault that shows, or a part of a tower (own)
+-- what is after the whole towers: nothing, a fault that shows, or a part of a tower
 pub data Rest : Type 0 where
   Nothing : Rest
   AtFault : (fault : StreamFault) → Rest
   PartOf : (fault : TowerFault) → Rest
 
--- this stands behind the whole towers, from tower number on (own)
+-- this is after the whole towers, from tower number on
 abbrev pub IsRest : ℕ → List ℕ → Rest → Type 0
 IsRest number octets Nothing = octets ≡ []
 IsRest number octets (AtFault fault) = ShowsFault number octets fault
 IsRest number octets (PartOf fault) = EndsWithin number octets fault
 
--- the octets are these towers, from tower number on, and then this (own)
+-- the octets are these towers, from tower number on, and then this
 abbrev pub AreTowers : ℕ → List ℕ → List (List Floor) → Rest → Type 0
 AreTowers number octets [] rest = IsRest number octets rest
 AreTowers number octets (floors ∷ towers) rest =
@@ -60,7 +60,7 @@ AreTowers number octets (floors ∷ towers) rest =
 
 -- ---- the texts
 
--- the line of a fault: its name and its place, which counts the octets of the tower at fault (own)
+-- the line of a fault: its name and its place, which counts the octets of the tower at fault
 abbrev pub stream_fault_text : ℕ → StreamFault → List ℕ
 stream_fault_text number (stream.Tower (ShortCount place)) = fault_text number (codes "ShortCount") place
 stream_fault_text number (stream.Tower (ShortLength place)) = fault_text number (codes "ShortLength") place
@@ -69,17 +69,17 @@ stream_fault_text number (stream.Tower (EmptyLeft place)) = fault_text number (c
 stream_fault_text number stream.TooLong = fault_text number (codes "TooLong") TOWER_SIGHT
 stream_fault_text number stream.TooManyTowers = fault_text number (codes "TooManyTowers") 1
 
--- what is due behind the last tower (own)
+-- what is due after the last tower
 abbrev pub rest_demand : ℕ → Rest → Demand
 rest_demand number Nothing = ends_with []
 rest_demand number (AtFault fault) = faulty_with (stream_fault_text number fault)
 rest_demand number (PartOf fault) = cut_short_with (stream_fault_text number (stream.Tower fault))
 
--- a line for each tower, and what is due behind the last one (own)
+-- a line for each tower, and what is due after the last one
 abbrev pub towers_demand : ℕ → List (List Floor) → Rest → Demand
 towers_demand number [] rest = rest_demand number rest
 towers_demand number (floors ∷ towers) rest = with_front (tower_text floors) (towers_demand (number + 1) towers rest)
 
--- what the octets demand, from tower number on (own)
+-- what the octets demand, from tower number on
 abbrev pub TowersDemand : ℕ → List ℕ → Demand → Type 0
 TowersDemand number octets d = (towers : List (List Floor)) × (rest : Rest) × AreTowers number octets towers rest × (towers_demand number towers rest ≡ d)

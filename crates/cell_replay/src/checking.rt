@@ -51,7 +51,7 @@ impl LineForm for Tally {
     }
 }
 
-// Whether a line says a command. (This stands apart, since the drop of a command is long to prove.)
+// Whether a line says a command. (This is apart, since the drop of a command is long to prove.)
 fn says_command(alloc: Global, line: &[u8]) -> Result<bool, AllocOr<ParseFault>>
     ensures { Answers result (has_command (said_in (words_of line.now))) }
 {

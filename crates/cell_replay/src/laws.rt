@@ -64,8 +64,8 @@ pub fn inputs_without_faults_are_scripts()
         × IsScript 1 lines said }
 {}
 
-/// Octets demand one thing of a form: they demand something, and nothing else. So it counts for nothing in
-/// which pieces they were read.
+/// Octets demand one thing of a form: they demand something, and nothing else. So it counts for
+/// nothing in which pieces they were read.
 pub fn one_demand()
     ensures some { (form : Form') (octets : List ℕ) → IsBytes octets
         → (d : Demand) × (reading_of form).demands octets d }
@@ -92,8 +92,9 @@ pub fn calm_runs_meet_no_failed_call()
         → ¬ (Rose run.writes run.writes') → NoCallFailed status }
 {}
 
-/// Only `journal` finds no room: no input demands that of another form, and no run of another form ends so. So a run of it in which
-/// neither count of failures rose ends Ok, Usage, BadInput or OutOfMemory.
+/// Only `journal` finds no room: no input demands that of another form, and no run of another form
+/// ends so. So a run of it in which neither count of failures rose ends Ok, Usage, BadInput or
+/// OutOfMemory.
 pub fn journals_alone_lack_room()
     ensures demands { (form : Form') (octets : List ℕ) (d : Demand) → HasNoJournals form
         → (reading_of form).demands octets d → d.verdict ≢ Filled }
@@ -123,7 +124,8 @@ pub fn towers_come_back()
         → line_demand spelling_rule tt (d.body ++ d.end) ≡ whole octets }
 {}
 
-/// In a cell that commands lead to, a command of the name service meets no refusal of its updates but want of stamps.
+/// In a cell that commands lead to, a command of the name service meets no refusal of its updates
+/// but want of stamps.
 pub fn name_commands_lack_stamps_alone()
     ensures exports { (g : Cell) (name : List (List ℕ)) (interface : Interface)
         (bindings : List StringBinding) (objects : List (List ℕ))
@@ -149,7 +151,9 @@ pub fn name_commands_lack_stamps_alone()
     profile_updates_are_accepted();
 }
 
-/// The limits of towers, of whole inputs, of updates, of the replies that wait, of the rounds of `load`, and of the answers of `clerk`. A tower is looked at up to one octet more than it may have.
+/// The limits of towers, of whole inputs, of updates, of the replies that wait, of the rounds of
+/// `load`, and of the answers of `clerk`. A tower is looked at up to one octet more than it may
+/// have.
 pub fn limits_of_towers()
     ensures longest { LONGEST_TOWER ≡ 1024 }
     ensures sight { TOWER_SIGHT ≡ LONGEST_TOWER + 1 }

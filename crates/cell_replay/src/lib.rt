@@ -1,5 +1,5 @@
-//! The forms of the program: a script replayed over one cell or checked, a script that is made, towers as octets and as text, and
-//! images in format 2 or audited.
+//! The forms of the program: a script replayed over one cell or checked, a script that is made,
+//! towers as octets and as text, and images in format 2 or audited.
 #![tactic(auto)]
 
 mod audits;

@@ -31,8 +31,9 @@ use line_forms::{Status, serve_form, serve_lines};
 use script_replay::Replayer;
 use std::alloc::{AllocError, Global};
 
-/// The form `journal` over these disks, that of house H at place H - 1: a script is replayed on a cell whose houses put their images into
-/// journals. All disks come back at each ending, with what the houses had put, and none of them is set to stop.
+/// The form `journal` over these disks, that of house H at place H - 1: a script is replayed on a
+/// cell whose houses put their images into journals. All disks come back at each ending, with what
+/// the houses had put, and none of them is set to stop.
 pub fn run_journal<S: Source, K: Sink>(
     alloc: Global,
     source: &mut S,

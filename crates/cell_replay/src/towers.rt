@@ -28,7 +28,7 @@ pub(crate) enum StreamFault {
 
 /// What the octets held show of the next tower.
 enum Seen<'a> {
-    /// It stands in front, in this many octets.
+    /// It is in front, in this many octets.
     Tower(TowerView<'a>, usize),
     /// It is at fault.
     Fault(StreamFault),
@@ -79,7 +79,8 @@ fn see_fault(len: usize, fault: TowerFault, ended: bool) -> Seen<'static>
     }
 }
 
-// What the octets held show of the tower of this number. Where the input has ended nothing follows them.
+// What the octets held show of the tower of this number. Where the input has ended nothing follows
+// them.
 fn look(number: u32, octets: &[u8], ended: bool) -> Seen<'_>
     requires { length octets.now ≤ TOWER_SIGHT }
     ensures seen { Sees number octets.now ended result }

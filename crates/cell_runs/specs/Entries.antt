@@ -1,4 +1,4 @@
--- What a house did, as its journal has it (own).
+-- What a house did, as its journal has it.
 use Rattle.std.specs.Prelude.{ℕ, List}
 use Rattle.cds_stamps.specs.Members.{Member}
 use Rattle.directory.specs.Updates.{Change}
@@ -15,13 +15,13 @@ pub data Order : Type 0 where
   Epoch : (d k : ℕ) → (ms : List Member) → (left : List ℕ) → Order
   Take : (octets : List ℕ) → Order
 
--- a message as octets, and the house that it goes to (own)
+-- a message as octets, and the house that it goes to
 pub record Post : Type 0 where
   pub to : ℕ
   pub octets : List ℕ
 
 -- a turn of a house: its clock, its order, the messages that it posted, its answer, and the octets
--- of its image after it (own)
+-- of its image after it
 pub record TurnEntry : Type 0 where
   pub clock : ℕ
   pub order : Order
@@ -29,7 +29,7 @@ pub record TurnEntry : Type 0 where
   pub answer : List ℕ
   pub image : List ℕ
 
--- an entry of a journal: a process began, with this image; or a turn (own)
+-- an entry of a journal: a process began, with this image; or a turn
 pub data Entry : Type 0 where
   Started : (image : List ℕ) → Entry
   Turned : (turn : TurnEntry) → Entry

@@ -1,4 +1,4 @@
--- Entries that a house wrote which does as the model does (own).
+-- Entries that a house wrote which does as the model does.
 use Rattle.std.specs.Prelude.{◌≡◌, ℕ, false, List, [], ◌∷◌}
 use Rattle.std.specs.FinMap.{get}
 use Rattle.cds_messages.specs.declared.image.Image.{Image}
@@ -13,7 +13,7 @@ use Rattle.cell_runs.specs.LineAnswers.{answer_said}
 use Rattle.cell_runs.specs.OrderSteps.{ArePosts, Carries, order_step}
 
 -- octets are the image of the house x of the model: its number, its node, its floor, and what it
--- has of each directory (own)
+-- has of each directory
 pub record IsImageOf (x : ℕ) (now : House) (octets : List ℕ) : Type 0 where
   pub image : Image
   pub octets_are : octets ≡ image_octets image
@@ -23,14 +23,14 @@ pub record IsImageOf (x : ℕ) (now : House) (octets : List ℕ) : Type 0 where
   pub dirs : (d : DirId) → get image.dirs d ≡ kept_in (now.slots d.0)
 
 -- an entry is a turn of the house x: its posts are the turn's, its answer is, and its image is that
--- of the house after it (own)
+-- of the house after it
 pub record IsTurnOf (x : ℕ) (e : TurnEntry) (step : HouseStep) (t : Turn) : Type 0 where
   pub step_is : step ≡ Turns t
   pub posts : ArePosts e.posts t.posts
   pub answer : (ns : List ℕ) → e.answer ≡ answer_said (t.answer ns)
   pub image : IsImageOf x t.house e.image
 
--- a house with another clock (own)
+-- a house with another clock
 abbrev pub at_clock : House → ℕ → House
 at_clock now clock = record now { clock = clock }
 
@@ -41,12 +41,12 @@ HasGoodList x (Root rs ss) = is_bad_list (x ∷ rs) ≡ false
 HasGoodList x (Mkdir d n made rs ss) = is_bad_list (x ∷ rs) ≡ false
 HasGoodList x other = Unit {0}
 
--- a house that crashed and started again (own)
+-- a house that crashed and started again
 abbrev pub restarted_house : House → House
 restarted_house now = started_house (crashed_house now)
 
 -- entries of the house x from this house of the model on: whichever message of the model the octets
--- were that it took, each turn is the step of the model (own)
+-- were that it took, each turn is the step of the model
 abbrev pub IsHonest : (x : ℕ) → House → List Entry → Type 0
 IsHonest x now [] = Unit {0}
 IsHonest x now (Started image ∷ es) = IsImageOf x (restarted_house now) image × IsHonest x (restarted_house now) es

@@ -94,7 +94,8 @@ secondary_is : says (codes "root 2 s1 3") ≡ Ok (Some (line.Cell (command.Root 
 unfolding said_by check_count take_words number_of
 secondary_is = refl
 
--- nothing but one small s stands before the number of a secondary house, and no s before a master's or a pointer's
+-- nothing but one small s is before the number of a secondary house, and no s before a master's or
+-- a pointer's
 no_secondaries : map (λ w. says (codes "root 1 2 " ++ w)) (codes "s" ∷ codes "s0" ∷ codes "S2" ∷ codes "ss2" ∷ codes "s256" ∷ [])
     ≡ replicate 5 (Err (BadWord 4))
 unfolding said_by check_count take_words number_of
@@ -174,7 +175,7 @@ odd_digits = refl
 
 -- ---- words of the name service
 
--- a0000000-0000-0000-0000-000000000001, and the UUID that ends in b1 behind zeros
+-- a0000000-0000-0000-0000-000000000001, and the UUID that ends in b1 after zeros
 abbrev uuid_a : List ℕ
 uuid_a = 160 ∷ 0 ∷ 0 ∷ 0 ∷ 0 ∷ 0 ∷ 0 ∷ 0 ∷ 0 ∷ 0 ∷ 0 ∷ 0 ∷ 0 ∷ 0 ∷ 0 ∷ 1 ∷ []
 
@@ -309,7 +310,8 @@ one_round : length (script 1) ≡ 81
 unfolding digits
 one_round = refl
 
--- its number makes it add a value to the entry `e14`, of which one house is told; the skulk behind it is the last part
+-- its number makes it add a value to the entry `e14`, of which one house is told; the skulk after
+-- it is the last part
 the_round : drop 56 (script 1)
     ≡ command.Add (record { 0 = 1 }) (record { 0 = 1 }) (codes "e14") (codes "A") (103 ∷ [])
     ∷ command.Deliver 35 ∷ command.Lose 35 ∷ command.Lose 36

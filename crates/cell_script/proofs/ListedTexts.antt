@@ -1,4 +1,4 @@
--- Lists of texts in one word, each read behind the others.
+-- Lists of texts in one word, each read after the others.
 use Rattle.std.proofs.Common.{◌≡◌, ℕ, Bor, Bool, true, false, List, [], ◌∷◌, ◌++◌, refl, sym, ap, ◌∙◌, append_assoc, append-nil, if◌then◌else◌}
 use Rattle.std.specs.Prelude.{Option, Some, None, ◌==◌}
 use Rattle.std.specs.Option.{option_map, option_map_or}
@@ -39,15 +39,15 @@ texts_at_cut w a b is = texts_of-cut w ∙ ap (texts_cut w) (sym is)
 pub texts_uncut : (w : List ℕ) → None ≡ cut_at_mark 44 w → texts_of w ≡ w ∷ []
 texts_uncut w is = texts_of-cut w ∙ ap (texts_cut w) (sym is)
 
--- what texts say, behind what was said
+-- what texts say, after what was said
 abbrev pub behind : {A : Type 0} → List A → Option (List A) → Option (List A)
 behind xs o = option_map (λ ys. xs ++ ys) o
 
--- what a text and the texts behind it say
+-- what a text and the texts after it say
 abbrev and_then : {A : Type 0} → Option A → Option (List A) → Option (List A)
 and_then o a = o >>= λ x. a >>= λ xs. Some (x ∷ xs)
 
--- behind nothing
+-- after nothing
 pub behind_none : {A : Type 0} (xs : List A) (o : Option (List A)) → xs ≡ [] → behind xs o ≡ o
 behind_none xs None none = refl
 behind_none xs (Some ys) none = ap (λ zs. Some (zs ++ ys)) none

@@ -37,7 +37,7 @@ regrouped value c P rest = grind (arith)
 more : (value c : ℕ) (cs : List ℕ) → value * 10 ^ length (c ∷ cs) + value_of (c ∷ cs) ≡ (10 * value + (c - 48)) * 10 ^ length cs + value_of cs
 more value c cs = ap (λ (p : ℕ). value * p + value_of (c ∷ cs)) (next_power (length cs)) ∙ regrouped value (c - 48) (10 ^ length cs) (value_of cs)
 
--- one more digit behind a number
+-- one more digit after a number
 pub number_on_digit : (value c : ℕ) (cs : List ℕ) → is_ascii_digit c ≡ true → number_on value (c ∷ cs) ≡ number_on (10 * value + (c - 48)) cs
 unfolding number_on
 number_on_digit value c cs digit = rw digit (ap (below (list_all is_ascii_digit cs)) (more value c cs))

@@ -5,7 +5,7 @@ use Rattle.cell_script.specs.declared.fault.ParseFault.{ParseFault}
 use Rattle.cell_script.specs.CommandRows.{some_line}
 use Rattle.cell_script.specs.WordForms.{◌>>=◌}
 
--- items behind others
+-- items after others
 abbrev pub behind : {A : Type 0} → List A → Result (List A) ParseFault → Result (List A) ParseFault
 behind xs r = r >>= λ more. Ok (xs ++ more)
 

@@ -69,14 +69,14 @@ changed x s ps is =
     let told : x / 256 / 32768 % 2 < 2 = omega arith in
     rw (is, one_told (x / 256 / 32768 % 2) s told) refl
 
--- ---- the place behind
+-- ---- the place after
 
 -- the part q is what is laid out
 laid_at : (q : Place) (cs ds ls rest : List Command) → commands_of q.work ≡ cs → fates_of q.fates ≡ ds ++ ls → behind q ≡ rest
     → left_at q ≡ cs ++ (ds ++ (ls ++ rest))
 laid_at q cs ds ls rest work fates more = rw (work, fates, more, append_assoc ds ls rest) refl
 
--- the parts that are left behind a round with the number x
+-- the parts that are left after a round with the number x
 abbrev pub parts_behind : Place → (x : ℕ) → (due : Bool) → List Part
 parts_behind p x due = skulk_if due ++ rounds_behind p.rounds (p.round + 1) x (p.rounds - (p.round + 1))
 

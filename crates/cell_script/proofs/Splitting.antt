@@ -1,4 +1,4 @@
--- The first word of a line, and the words behind it.
+-- The first word of a line, and the words after it.
 use Rattle.std.proofs.Common.{◌≡◌, ℕ, ◌+◌, ◌<◌, ◌≤◌, suc, Bool, true, false, List, [], ◌∷◌, ◌++◌, take, drop, drop-cons, get_or, add-one, append-nil}
 use Rattle.std.proofs.Common.{length, refl, ap, ◌∙◌, sym, arith}
 use Rattle.std.specs.Prelude.{not, ◌==◌, ◌&&◌, filter, if◌then◌else◌}
@@ -15,7 +15,7 @@ is_space b = b == 32
 abbrev is_other : ℕ → Bool
 is_other b = not (b == 32)
 
--- where the first word ends, the parts are that word and the parts behind it
+-- where the first word ends, the parts are that word and the parts after it
 abbrev Parts : List ℕ → Type 0
 Parts l = slice_split is_space l ≡ take (prefix_len is_other l) l ∷ drop 1 (slice_split is_space (drop (prefix_len is_other l) l))
 
@@ -46,7 +46,7 @@ kept : (w : List ℕ) (ws : List (List ℕ)) → 0 < length w → some_octets (w
 kept [] ws some = absurd (omega arith)
 kept (b ∷ bs) ws some = let full : (length (b ∷ bs) == 0) ≡ false = grind (arith, nat_tests) in rw full refl
 
--- a line that begins with a word has it, and the words of what stands behind it
+-- a line that begins with a word has it, and the words of what is after it
 pub first_word : (l : List ℕ) (n : ℕ) → n ≡ prefix_len is_other l → 0 < length (take n l) → words_of l ≡ take n l ∷ words_of (drop n l)
 first_word l n is some =
     let front : words_of l ≡ some_octets (take n l ∷ drop 1 (slice_split is_space (drop n l))) = rw is (ap some_octets (parts l)) in
@@ -55,11 +55,11 @@ first_word l n is some =
 
 -- ---- how many words there are
 
--- the octets behind the first word of these, and with one more octet in front that is no space
+-- the octets after the first word of these, and with one more octet in front that is no space
 behind_word : (b : ℕ) (bs : List ℕ) → (b == 32) ≡ false → drop (prefix_len is_other (b ∷ bs)) (b ∷ bs) ≡ drop (prefix_len is_other bs) bs
 behind_word b bs other = rw (other, one-add (prefix_len is_other bs)) refl
 
--- a word begins with an octet that is no space, behind none
+-- a word begins with an octet that is no space, after none
 pub word_begins : (b : ℕ) (bs : List ℕ) → (b == 32) ≡ false → words_behind false (b ∷ bs) ≡ suc (words_behind true bs)
 word_begins b bs other =
     let n : ℕ = prefix_len is_other (b ∷ bs) in
@@ -71,7 +71,7 @@ word_begins b bs other =
 pub word_goes_on : (b : ℕ) (bs : List ℕ) → (b == 32) ≡ false → words_behind true (b ∷ bs) ≡ words_behind true bs
 word_goes_on b bs other = ap (λ (l : List ℕ). length (words_of l)) (behind_word b bs other)
 
--- a space ends a word, or stands between words
+-- a space ends a word, or is between words
 pub space_between : (in_word : Bool) (b : ℕ) (bs : List ℕ) → (b == 32) ≡ true → words_behind in_word (b ∷ bs) ≡ words_behind false bs
 space_between true b bs space = rw (space, space) refl
 space_between false b bs space = rw space refl

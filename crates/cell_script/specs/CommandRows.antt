@@ -1,4 +1,4 @@
--- What a line of the script says: the table of its commands (own).
+-- What a line of the script says: the table of its commands.
 use Rattle.std.specs.Prelude.{ℕ, if◌then◌else◌, List, [], ◌∷◌, ◌++◌, nat_eq, Some, None, Option, Ok, Err, Result, codes}
 use Rattle.std.specs.List.{starts_with}
 use Rattle.std.specs.Str.{bytes_eq}
@@ -14,39 +14,41 @@ use Rattle.cell_script.specs.WordForms.{◌>>=◌, Form, House, Directory, Seria
 use Rattle.cell_script.specs.WordForms.{Interface, ElementInterface, InterfaceOrNone, Bindings, Objects, Object, Protocols, Priority, Note, Houses, Listeds, Words}
 use Rattle.cell_script.specs.WordForms.{Builds, followed_by, count_fault, read_as}
 
--- a command of any type of line: its first word, the forms of the words behind it, and what a line of them says (own)
+-- a command of any type of line: its first word, the forms of the words after it, and what a line
+-- of them says
 pub record RowOf (Line : Type 0) : Type 0 where
   pub word : List ℕ
   pub forms : List Form
   pub says : Builds forms Line
 
--- what the words behind the first one say, by the row of the first one, or where no row has it (own)
+-- what the words after the first one say, by the row of the first one, or where no row has it
 abbrev pub said_among : {Line : Type 0} → List (RowOf Line) → Result Line ParseFault → List ℕ → Words → Result Line ParseFault
 said_among [] other word s = other
 said_among (row ∷ rows) other word s =
     if bytes_eq word row.word then read_as row.forms row.says s else said_among rows other word s
 
--- the fault that shows before a word behind the first one is read: that of their number, by the row of the first one, or what is
--- told where no row has it (own)
+-- the fault that shows before a word after the first one is read: that of their number, by the row
+-- of the first one, or what is told where no row has it
 abbrev pub early_among : {Line : Type 0} → List (RowOf Line) → Option ParseFault → List ℕ → Words → Option ParseFault
 early_among [] other word s = other
 early_among (row ∷ rows) other word s = if bytes_eq word row.word then count_fault row.forms s else early_among rows other word s
 
--- a line of any type that says something, or its fault (own)
+-- a line of any type that says something, or its fault
 abbrev pub some_line : {Line : Type 0} → Result Line ParseFault → Result (Option Line) ParseFault
 some_line r = do
   l ← r
   Ok (Some l)
 
--- what a line says, where this is what the words behind its first one say: a line without words, or whose first word begins
--- with #, says nothing (own)
+-- what a line says, where this is what the words after its first one say: a line without words, or
+-- whose first word begins with #, says nothing
 abbrev pub line_in : {Line : Type 0} → (List ℕ → Words → Result Line ParseFault) → List (List ℕ) → Result (Option Line) ParseFault
 line_in says [] = Ok None
 line_in says (word ∷ words) =
     if starts_with nat_eq word (codes "#") then Ok None
     else some_line (says word (record { read = 1; rest = words }))
 
--- the fault of a line that shows early, where this is the fault of the words behind its first one that does (own)
+-- the fault of a line that shows early, where this is the fault of the words after its first one
+-- that does
 abbrev pub fault_in : (List ℕ → Words → Option ParseFault) → List (List ℕ) → Option ParseFault
 fault_in early [] = None
 fault_in early (word ∷ words) =
@@ -57,14 +59,14 @@ fault_in early (word ∷ words) =
 abbrev pub Row : Type 0
 Row = RowOf ScriptLine
 
--- a step of the cell, and a command that finds its entry by a full name, or asks (own)
+-- a step of the cell, and a command that finds its entry by a full name, or asks
 abbrev pub step : List ℕ → (forms : List Form) → Builds forms Command → Row
 step word forms build = record { word = word; forms = forms; says = followed_by line.Cell forms build }
 
 abbrev pub asks : List ℕ → (forms : List Form) → Builds forms Question → Row
 asks word forms build = record { word = word; forms = forms; says = followed_by line.Question forms build }
 
--- the commands that make houses and directories (own)
+-- the commands that make houses and directories
 abbrev pub making_rows : List Row
 making_rows =
     step (codes "house") (House ∷ Node ∷ []) command.House
@@ -74,7 +76,7 @@ making_rows =
     ∷ step (codes "repoint") (House ∷ Directory ∷ SimpleName ∷ House ∷ Houses ∷ []) command.Repoint
     ∷ []
 
--- the updates of an entry (own)
+-- the updates of an entry
 abbrev pub entry_rows : List Row
 entry_rows =
     step (codes "create") (House ∷ Directory ∷ SimpleName ∷ []) command.Create
@@ -82,7 +84,7 @@ entry_rows =
     ∷ step (codes "delete") (House ∷ Directory ∷ SimpleName ∷ []) command.Delete
     ∷ []
 
--- the changes of an entry's values (own)
+-- the changes of an entry's values
 abbrev pub value_rows : List Row
 value_rows =
     step (codes "add") (House ∷ Directory ∷ SimpleName ∷ AttrName ∷ Value ∷ []) command.Add
@@ -91,14 +93,14 @@ value_rows =
     ∷ step (codes "clear") (House ∷ Directory ∷ SimpleName ∷ AttrName ∷ []) command.Clear
     ∷ []
 
--- the commands about all replicas of a directory (own)
+-- the commands about all replicas of a directory
 abbrev pub replica_rows : List Row
 replica_rows =
     step (codes "epoch") (Directory ∷ House ∷ Listeds ∷ []) command.Epoch
     ∷ step (codes "skulk") (House ∷ Directory ∷ []) command.Skulk
     ∷ []
 
--- what befalls messages and houses (own)
+-- what befalls messages and houses
 abbrev pub event_rows : List Row
 event_rows =
     step (codes "deliver") (Serial ∷ []) command.Deliver
@@ -107,7 +109,7 @@ event_rows =
     ∷ step (codes "start") (House ∷ []) command.Start
     ∷ []
 
--- the questions (own)
+-- the questions
 abbrev pub question_rows : List Row
 question_rows =
     asks (codes "read") (House ∷ Confidence ∷ FullName ∷ AttrName ∷ []) question.Read
@@ -130,29 +132,29 @@ service_rows =
     (λ h c n i o p. question.Import h c n i o p.0 p.1)
     ∷ []
 
--- the commands (own)
+-- the commands
 abbrev pub rows : List Row
 rows = making_rows ++ (entry_rows ++ (value_rows ++ (replica_rows ++ (event_rows ++ (question_rows ++ service_rows)))))
 
--- the fault of a first word that no row has (own)
+-- the fault of a first word that no row has
 abbrev pub no_command : {Line : Type 0} → Result Line ParseFault
 no_command = Err (UnknownCommand 1)
 
 abbrev pub said_in_row : List Row → List ℕ → Words → Result ScriptLine ParseFault
 said_in_row rows word s = said_among rows no_command word s
 
--- what the words behind a first word say, by the row of that word among all commands (own)
+-- what the words after a first word say, by the row of that word among all commands
 unfoldable pub said_by : List ℕ → Words → Result ScriptLine ParseFault
 said_by = said_in_row rows
 
--- the fault of a first word of no command, or else of a wrong number of words behind it (own)
+-- the fault of a first word of no command, or else of a wrong number of words after it
 unfoldable pub early_by : List ℕ → Words → Option ParseFault
 early_by = early_among rows (Some (UnknownCommand 1))
 
--- what a line says (own)
+-- what a line says
 abbrev pub said_in : List (List ℕ) → Result (Option ScriptLine) ParseFault
 said_in = line_in said_by
 
--- the fault of a line that shows before any word but the first one is read (own)
+-- the fault of a line that shows before any word but the first one is read
 abbrev pub early_fault : List (List ℕ) → Option ParseFault
 early_fault = fault_in early_by

@@ -1,4 +1,4 @@
--- Words of private contracts: where an iterator over the script of `load` stands (own).
+-- Words of private contracts: where an iterator over the script of `load` is.
 use Rattle.std.specs.Prelude.{◌≡◌, ℕ, zero, suc, ◌+◌, ◌-◌, List, [], ◌∷◌, ◌++◌, map, Option, Some, None}
 use Rattle.std.specs.List.{range_with_len}
 use Rattle.cell_script.specs.declared.command.Command.{Command}
@@ -34,7 +34,7 @@ abbrev pub parts_left : Place → List Part
 parts_left p =
     map entry (range_with_len p.entries (16 - p.entries)) ++ (skulk_if p.skulk_is_due ++ rounds_behind p.rounds p.round p.draw (p.rounds - p.round))
 
--- what is behind the part that was begun
+-- what is after the part that was begun
 abbrev pub behind : Place → List Command
 behind p = laid_out p.serial (parts_left p)
 
@@ -47,7 +47,7 @@ pub record IsOver (p : Place) : Type 0 where
   pub work : commands_of p.work ≡ []
   pub fates : fates_of p.fates ≡ []
 
--- the part that was begun has a command left, or none is behind it either
+-- the part that was begun has a command left, or none is after it either
 abbrev pub IsBegun : Place → Type 0
 IsBegun p = IsOver p → behind p ≡ []
 

@@ -1,9 +1,9 @@
--- Words of private contracts: the bounds of what an iterator over the script of `load` keeps (own).
+-- Words of private contracts: the bounds of what an iterator over the script of `load` keeps.
 use Rattle.std.specs.Prelude.{◌≡◌, ℕ, ◌+◌, ◌*◌, ◌^◌, ◌≤◌, ◌<◌, Bool, true, nat_le, nat_lt, IsTrue}
 use Rattle.cell_script.specs.declared.work.Work.{Work}
 use Rattle.cell_script.specs.declared.work.Work.TheVariants as part
 
--- a part names an entry that there is, and houses up to the last, or the root behind it
+-- a part names an entry that there is, and houses up to the last, or the root after it
 abbrev pub is_work : Work → Bool
 is_work (part.Houses h) = nat_le h 4
 is_work (part.Create k) = nat_lt k 16
@@ -19,8 +19,8 @@ pub record IsFates (deliver step deliveries lose losses : ℕ) : Type 0 where
   pub delivered : deliver + 2 * deliveries ≤ 2 ^ 32
   pub lost : lose + losses ≤ 2 ^ 32
 
--- the serial number of the next message is at most this: behind the two first messages, two for each entry, and 14 for each round with its
--- skulk
+-- the serial number of the next message is at most this: after the two first messages, two for each
+-- entry, and 14 for each round with its skulk
 abbrev pub most_serial : (entries round : ℕ) → ℕ
 most_serial entries round = 3 + 2 * entries + 14 * round
 

@@ -6,8 +6,8 @@ use cell_names::FullName;
 use tower_codec::Interface;
 use uuid::Uuid;
 
-/// A command that is a step of the cell. Its fields stand in the order of its words, and all further houses of a
-/// replica set are one list.
+/// A command that is a step of the cell. Its fields stand in the order of its words, and all
+/// further houses of a replica set are one list.
 #[derive(Drop)]
 pub enum Command {
     House(HouseNo, Node),
@@ -32,8 +32,8 @@ pub enum Command {
     Start(HouseNo),
 }
 
-/// A command that finds its entry by a full name, or asks. A `bool` behind the number of a house is the confidence, true for
-/// high.
+/// A command that finds its entry by a full name, or asks. A `bool` after the number of a house is
+/// the confidence, true for high.
 #[derive(Drop)]
 pub enum Question {
     Read(HouseNo, bool, FullName, AttrName),
@@ -45,12 +45,13 @@ pub enum Question {
     /// A group, and the member that comes to it, or leaves it.
     Groupadd(FullName, FullName),
     Groupdel(FullName, FullName),
-    /// A profile gets an element for an interface, or a default element: its member, its priority and its annotation.
+    /// A profile gets an element for an interface, or a default element: its member, its priority
+    /// and its annotation.
     Profadd(FullName, Option<Interface>, FullName, u8, Note),
     /// It loses the elements for an interface, or the default elements, that have this member.
     Profdel(FullName, Option<Interface>, FullName),
-    /// The bindings of an interface, for an object or nil, over TCP where the first of the last two says so, and over UDP where
-    /// the last one does.
+    /// The bindings of an interface, for an object or nil, over TCP where the first of the last two
+    /// says so, and over UDP where the last one does.
     Import(HouseNo, bool, FullName, Interface, Uuid, bool, bool),
     /// What a house holds of a directory.
     Dump(HouseNo, DirId),
@@ -58,7 +59,7 @@ pub enum Question {
     OctetsMsg(u64),
     /// The octets of a house's image.
     OctetsHouse(HouseNo),
-    /// Which message stands at the front of these octets.
+    /// Which message is at the front of these octets.
     Decode(Octets),
 }
 

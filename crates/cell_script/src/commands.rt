@@ -1,4 +1,5 @@
-// The commands that make houses and directories: under the word of each, how many words follow it, and what they are.
+// The commands that make houses and directories: under the word of each, how many words follow it,
+// and what they are.
 #![tactic(auto, unfolding(crate::specs::PrivateRows::by_all_rows))]
 
 ghost use Rattle.std.specs.Prelude.{codes};

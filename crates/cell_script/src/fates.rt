@@ -3,7 +3,8 @@ ghost use Rattle.cell_script.specs.PrivateWorks.{IsFates};
 
 use crate::command::Command;
 
-/// The messages of a part that are still to be delivered, by their serial numbers, and those that are still to be lost.
+/// The messages of a part that are still to be delivered, by their serial numbers, and those that
+/// are still to be lost.
 #[derive(Clone, Copy)]
 pub(crate) struct Fates {
     deliver: u64,
@@ -20,7 +21,8 @@ impl Fates {
     ghost use Rattle.cell_script.specs.PrivateGenerated.{IsFirst, fates_of, numbers_by_steps};
     ghost use Rattle.cell_script.specs.declared.command.Command.TheVariants as command;
 
-    /// So many messages are delivered, the first and then each by a step behind the one before, and so many from the first on are lost.
+    /// So many messages are delivered, the first and then each by a step after the one before, and
+    /// so many from the first on are lost.
     pub(crate) fn new(first: u64, step: u64, deliveries: u64, losses: u64) -> Fates
         requires first { first ≤ 2 ^ 31 }
         requires step { step ≤ 2 }

@@ -7,7 +7,8 @@ use crate::place::Place;
 use std::alloc::{AllocError, Global};
 use std::marker::Model;
 
-/// The commands of the script with so many rounds that are still to come. It keeps a few numbers and no list.
+/// The commands of the script with so many rounds that are still to come. It keeps a few numbers
+/// and no list.
 #[derive(Drop)]
 pub struct ScriptIter {
     place: Place,
@@ -36,7 +37,8 @@ pub fn script_of(n: u32) -> ScriptIter
 }
 
 impl ScriptIter {
-    /// The next command, and None exactly behind the last one. After want of memory it is still to come.
+    /// The next command, and None exactly after the last one. After it ran out of memory it is
+    /// still to come.
     pub fn next(&mut self, alloc: Global) -> Result<Option<ScriptLine>, AllocError>
         ensures ok { IfOk result (TakesFirst self.old self.new) }
         ensures err { OnErr result (self.new ≡ self.old) }

@@ -40,7 +40,7 @@ impl HouseNos {
         }
     }
 
-    /// Puts a number behind the others.
+    /// Puts a number after the others.
     pub fn push(&mut self, house: HouseNo) -> Result<(), AllocError>
         ensures ok { OnOk result (self.new ≡ self.old ++ house ∷ []) }
         ensures err { OnErr result (self.new ≡ self.old) }
@@ -63,7 +63,8 @@ pub struct Listed {
     pub secondary: bool,
 }
 
-/// The other houses of a replica set. Their numbers stand apart as well, so that nobody needs memory to compare them.
+/// The other houses of a replica set. Their numbers stand apart as well, so that nobody needs
+/// memory to compare them.
 pub struct Listeds {
     list: Vec<Listed>,
     houses: Vec<HouseNo>,
@@ -150,7 +151,7 @@ impl Octets {
         }
     }
 
-    /// Puts an octet behind the others.
+    /// Puts an octet after the others.
     pub fn push(&mut self, octet: u8) -> Result<(), AllocError>
         ensures ok { OnOk result (self.new ≡ self.old ++ octet ∷ []) }
         ensures err { OnErr result (self.new ≡ self.old) }
@@ -210,7 +211,7 @@ impl StringBindings {
         StringBindings { items }
     }
 
-    /// Puts a binding behind the others.
+    /// Puts a binding after the others.
     pub fn push(&mut self, binding: StringBinding) -> Result<(), AllocError>
         ensures ok { OnOk result (self.new ≡ self.old ++ binding ∷ []) }
         ensures err { OnErr result (self.new ≡ self.old) }
@@ -255,7 +256,7 @@ impl Uuids {
         }
     }
 
-    /// Puts a UUID behind the others.
+    /// Puts a UUID after the others.
     pub fn push(&mut self, uuid: Uuid) -> Result<(), AllocError>
         ensures ok { OnOk result (self.new ≡ self.old ++ uuid ∷ []) }
         ensures err { OnErr result (self.new ≡ self.old) }
@@ -302,7 +303,8 @@ impl Model for Note {
 }
 
 impl Note {
-    /// The annotation of these octets, where each of them can stand in one. No memory is asked for where one can't.
+    /// The annotation of these octets, where each of them can stand in one. No memory is asked for
+    /// where one can't.
     #[tactic(auto, unfolding(crate::specs::Notes::note_in))]
     pub fn new(alloc: Global, octets: &[u8]) -> Result<Option<Note>, AllocError>
         ensures note { IfOk result (λ note. note ≡ note_in octets.now) }

@@ -13,8 +13,9 @@ use crate::{commands, questions, replicas, service, updates};
 use cds_stamps::AllocOr;
 use std::alloc::Global;
 
-/// What the words behind the first one say, whatever the first one is: a command, or the fault that tells that no command has
-/// this first word; or else that there are too few or too many words; or else the first word that is not of its form.
+/// What the words after the first one say, whatever the first one is: a command, or the fault that
+/// tells that no command has this first word; or else that there are too few or too many words; or
+/// else the first word that is not of its form.
 #[tactic(auto, using(crate::proofs::Families::says_answers, crate::proofs::Families::says_early))]
 pub fn line_behind(alloc: Global, word: &[u8], words: &mut Words<'_>) -> Parsed<ScriptLine>
     ensures answer { Answers result (said_by word.now words.old) }
@@ -23,7 +24,8 @@ pub fn line_behind(alloc: Global, word: &[u8], words: &mut Words<'_>) -> Parsed<
     made(alloc, word, words)
 }
 
-// What they say where the first one is of a command that makes houses or directories, or of another.
+// What they say where the first one is of a command that makes houses or directories, or of
+// another.
 #[tactic(auto, unfolding(crate::specs::PrivateRows::by_all_rows))]
 fn made(alloc: Global, word: &[u8], words: &mut Words<'_>) -> Parsed<ScriptLine>
     ensures { Says result (by_all_rows word.now words.old) }
@@ -140,8 +142,8 @@ fn asked(alloc: Global, word: &[u8], words: &mut Words<'_>) -> Parsed<ScriptLine
     served(alloc, word, words)
 }
 
-// The same of a command that finds or changes what servers export, of groups and of profiles, or the fault of a word of no
-// command.
+// The same of a command that finds or changes what servers export, of groups and of profiles, or
+// the fault of a word of no command.
 #[tactic(auto, unfolding(crate::specs::PrivateRows::by_service_rows))]
 fn served(alloc: Global, word: &[u8], words: &mut Words<'_>) -> Parsed<ScriptLine>
     ensures { Says result (by_service_rows word.now words.old) }
@@ -170,9 +172,9 @@ fn served(alloc: Global, word: &[u8], words: &mut Words<'_>) -> Parsed<ScriptLin
     Err(AllocOr::Fault(ParseFault::UnknownCommand(1)))
 }
 
-/// What a line says: a command, or nothing where it has no words or is a comment, which takes no memory. A fault tells the
-/// first word of no command; or else that there are too few or too many words; or else the first word that is not of its
-/// form.
+/// What a line says: a command, or nothing where it has no words or is a comment, which takes no
+/// memory. A fault tells the first word of no command; or else that there are too few or too many
+/// words; or else the first word that is not of its form.
 pub fn parse_line(alloc: Global, line: &[u8]) -> Result<Option<ScriptLine>, AllocOr<ParseFault>>
     ensures answer { Answers result (said_in (words_of line.now)) }
     ensures passed_over { said_in (words_of line.now) ≡ Ok None → result ≡ Ok None }

@@ -6,7 +6,7 @@ use crate::fates::Fates;
 use crate::work::{Work, ends_with_skulk, next_draw, value_changed};
 use std::alloc::{AllocError, Global};
 
-/// A place in the script: the part that was begun, and what comes behind it.
+/// A place in the script: the part that was begun, and what comes after it.
 #[derive(Clone, Copy)]
 pub(crate) struct Place {
     // How many rounds there are, and how many were begun.
@@ -17,7 +17,7 @@ pub(crate) struct Place {
     // How many entries were made, or are being made.
     entries: u8,
     skulk_is_due: bool,
-    // The serial number of the first message behind the part.
+    // The serial number of the first message after the part.
     serial: u64,
     work: Work,
     fates: Fates,

@@ -1,4 +1,5 @@
-// The commands about all replicas of a directory, and those that tell what befalls messages and houses.
+// The commands about all replicas of a directory, and those that tell what befalls messages and
+// houses.
 #![tactic(auto, unfolding(crate::specs::PrivateRows::by_replica_rows))]
 
 ghost use Rattle.std.specs.Prelude.{codes};

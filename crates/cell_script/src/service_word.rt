@@ -117,7 +117,7 @@ impl Said for Uuid {
     }
 }
 
-// The first text of a list, and the list behind its comma, if there is one.
+// The first text of a list, and the list after its comma, if there is one.
 #[tactic(auto, using(crate::proofs::ListedTexts::texts_at_cut, crate::proofs::ListedTexts::texts_uncut))]
 fn split_first_text(list: &[u8]) -> (&[u8], Option<&[u8]>)
     ensures { texts_of list.now

@@ -31,7 +31,7 @@ const MOST_DIGITS: usize = 2 * LONGEST_VALUE;
 // The most digits for which little room is made.
 const USUAL_DIGITS: usize = 32;
 
-// Whether a zero stands in front of further octets.
+// Whether a zero is in front of further octets.
 #[tactic(auto, unfolding(crate::specs::Words::number_of))]
 fn has_leading_zero(word: &[u8]) -> bool
     ensures none { result ≡ true → number_of word.now ≡ None }
@@ -84,7 +84,7 @@ pub(crate) fn house(word: &[u8]) -> Option<HouseNo>
     }
 }
 
-/// A house of a replica set's list: its number, behind an `s` where it is secondary.
+/// A house of a replica set's list: its number, after an `s` where it is secondary.
 pub(crate) fn listed(word: &[u8]) -> Option<Listed>
     ensures { result ≡ listed_of word.now }
 {

@@ -27,7 +27,7 @@ use std::marker::Model;
 // Octets that are looked at together.
 const STRIDE: usize = 128;
 
-/// What words say, or the fault of their line, or want of memory.
+/// What words say, or the fault of their line, or out of memory.
 pub type Parsed<T> = Result<T, AllocOr<ParseFault>>;
 
 /// The words of a line that are still to be read.
@@ -50,7 +50,7 @@ impl<'a> Model for Words<'a> {
     ghost invariant = { λ v. v.read + length v.rest.now < 2 ^ 64 };
 }
 
-// What stands behind the spaces at the front.
+// What is after the spaces at the front.
 fn skip_spaces(octets: &[u8]) -> &[u8]
     ensures words { words_of result.now ≡ words_of octets.now }
     ensures word { 0 < length result.now → get_or result.now 0 0 ≢ 32 }
@@ -78,8 +78,8 @@ fn word_len(octets: &[u8]) -> usize
     octets.len()
 }
 
-// How many words begin in a few octets, behind a word that goes on in them or not, and whether one goes on behind them. A count of
-// one octet lets many octets be looked at together.
+// How many words begin in a few octets, after a word that goes on in them or not, and whether one
+// goes on after them. A count of one octet lets many octets be looked at together.
 fn words_begun(octets: &[u8], in_word: bool) -> (u8, bool)
     requires { length octets.now ≤ STRIDE }
     ensures begun { (rest : List ℕ)
@@ -305,7 +305,8 @@ impl<'a> Words<'a> {
         self.said(octets)
     }
 
-    /// Whose octets are asked for: `msg` and the number of a message, or `house` and that of a house.
+    /// Whose octets are asked for: `msg` and the number of a message, or `house` and that of a
+    /// house.
     pub fn encoded(&mut self) -> Parsed<Question>
         ensures { Takes result self.new (take_words form.Encoded self.old) }
     {
@@ -332,7 +333,8 @@ impl<'a> Words<'a> {
         Ok(houses)
     }
 
-    /// Houses of a replica set, as many as there are words: each a number, behind an `s` where the house is secondary.
+    /// Houses of a replica set, as many as there are words: each a number, after an `s` where the
+    /// house is secondary.
     pub fn listeds(&mut self, alloc: Global) -> Parsed<Listeds>
         ensures { Takes result self.new (take_words form.Listeds self.old) }
     {

@@ -50,7 +50,7 @@ fn reader(house: u8) -> Listed
     }
 }
 
-// A house, or the root directory behind the last house.
+// A house, or the root directory after the last house.
 fn house_made(alloc: Global, house: u8) -> Result<Command, AllocError>
     requires { house ≤ 4 }
     ensures { IfOk result (λ c. Some c ≡ slice_get (commands_of (Work.Houses house)) 0) }
@@ -123,7 +123,7 @@ impl Work {
         Ok(Some(command))
     }
 
-    /// What is to be done behind it.
+    /// What is to be done after it.
     pub(crate) fn rest(self) -> Work
         requires { IsTrue (is_work self) }
         ensures commands { commands_of result ≡ drop 1 (commands_of self) }
@@ -159,7 +159,7 @@ pub(crate) fn value_changed(draw: u64) -> Work
     }
 }
 
-/// The number behind this one.
+/// The number after this one.
 pub(crate) fn next_draw(draw: u64) -> u64
     requires { draw < 2147483648 }
     ensures next { result ≡ script.next_draw draw }
@@ -168,7 +168,7 @@ pub(crate) fn next_draw(draw: u64) -> u64
     (draw * 1_103_515_245 + 12_345) % 2_147_483_648
 }
 
-/// Whether a skulk comes behind a round.
+/// Whether a skulk comes after a round.
 pub(crate) fn ends_with_skulk(last: u32, round: u32) -> bool
     ensures { result ≡ script.ends_with_skulk last round }
 {

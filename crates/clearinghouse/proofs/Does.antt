@@ -335,7 +335,8 @@ does_or msg old mid new done result P self is each ok err =
     subst (λ x. DoesOr msg old x result) (sym self)
     (subst (DoesOr msg old mid) (sym is) (record { does = if_ok_map P (λ t. Does msg old mid t.answer t.outgoing) done each ok; wants = err }))
 
--- a call with a message that is neither a Join nor a Leave does what is promised, or wants for memory and changes nothing
+-- a call with a message that is neither a Join nor a Leave does what is promised, or wants for
+-- memory and changes nothing
 pub done_other : (msg : Message) (old mid new : Clearinghouse) (done result : Result (Turn Taken) AllocError) → new ≡ mid → result ≡ done
     → ((ms : List declared.Member) (r : Replica) → msg.body ≡ body.Join ms r → ⊥) → (msg.body ≡ body.Leave → ⊥)
     → IfOk done (λ t. TakesOther msg old mid t.answer t.outgoing) → OnErr done (mid ≡ old) → DoesOr msg old new result

@@ -215,7 +215,7 @@ pub at_held_always : (A : command.Answer → Type 0) (o : Option Outgoing) (step
 at_held_always A o step c now dir old new floor here le stands steps =
     at_held (λ (x : Unit {0}). A) (λ x. o) step c now dir old new floor (Ok tt) here le stands steps
 
--- ---- want of memory in a part of a call
+-- ---- out of memory in a part of a call
 
 module _ {T : Type 0} (mid new : Clearinghouse) (done result : Result T AllocError) (is : result ≡ done) (heeds : Heeds mid new done) where
   -- what holds of the value

@@ -46,7 +46,8 @@ use Rattle.clearinghouse.proofs.Houses.{house_holds, got_here, slot_looks, step_
 use Rattle.house_directory.proofs.Posts.{posts_none}
 use Rattle.house_directory.proofs.TakeSteps.{replica_taken, message_is, latest_is, other_step, other_looks}
 
--- what a house has of a directory stands for a slot, where it looks like it, and its replica is the one of the history
+-- what a house has of a directory stands for a slot, where it looks like it, and its replica is the
+-- one of the history
 slot_stands : (me floor : ℕ) (s : DirState) (slot : model.Slot) → LooksSlot me (Some s) slot
     → ((h : Held) (q : model.Replica) → s ≡ state.Held h → slot ≡ model.Held q → h.replica ≡ replica_of q.history q.all_up_to) → FineSlot floor slot
     → StandsSlot me floor (Some s) slot
@@ -71,7 +72,8 @@ module _ (msg : Message) (now : model.House) (old new : Clearinghouse) (a : Take
   abbrev said : model.Body → model.Message
   said c = record { receiver = old.house.0; dir = msg.dir.0; sender = msg.from.0; epoch = msg.epoch.0; floor = msg.floor; body = c }
 
-  -- what becomes of the house, in the model and in the program: nothing, or it has something else of the directory, and posts nothing
+  -- what becomes of the house, in the model and in the program: nothing, or it has something else
+  -- of the directory, and posts nothing
   data Comes (n : ℕ) (c : model.Body) (s : HouseStep) : Type 0 where
     stays : (answer : Taken) (says : command.Answer) → s ≡ Stays says → IsTakeAnswer answer says → Answers old new answer a o → Comes n c s
     turns : (has : DirState) (slot : model.Slot) → s ≡ take_and_answer now (said c) slot [] → a ≡ answers.Taken → o ≡ None

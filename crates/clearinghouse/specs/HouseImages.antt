@@ -1,4 +1,5 @@
--- What a clearinghouse keeps over a crash, and which one starts of that (own, after C705, clearinghouses).
+-- What a clearinghouse keeps over a crash, and which one starts of that (own, after C705,
+-- clearinghouses).
 use Rattle.std.specs.Prelude.{ℕ, false, List, map, Result, Ok, Err}
 use Rattle.std.specs.FinMap.{entries, from_entries}
 use Rattle.cds_records.specs.Migration.{whole_image}

@@ -1,4 +1,5 @@
--- What a clearinghouse has to post, and letters, which are its octets (own, after C705, updates, skulks and new epochs).
+-- What a clearinghouse has to post, and letters, which are its octets (own, after C705, updates,
+-- skulks and new epochs).
 use Rattle.std.specs.Prelude.{◌≡◌, List, [], ◌++◌, Option, Some, None}
 use Rattle.std.specs.FinMap.{get}
 use Rattle.cds_stamps.specs.declared.numbers.DirId.{DirId}
@@ -26,12 +27,14 @@ sender_of c dir = record { house = c.house; dir = dir; floor = c.floor.time }
 abbrev pub posts_at : Clearinghouse → DirId → Option Outgoing → List Posted
 posts_at c dir o = posts_if (sender_of c dir) (get c.dirs dir) o
 
--- what the master of a new epoch has to post: the Joins, and then a Leave to each house that is a member no more; nothing where it refused (own)
+-- what the master of a new epoch has to post: the Joins, and then a Leave to each house that is a
+-- member no more; nothing where it refused (own)
 abbrev pub epoch_posts_at : Clearinghouse → DirId → EpochNo → List HouseNo → Option EpochRefusal → List Posted
 epoch_posts_at c dir k leaving None = posts_at c dir (Some out.Join) ++ posts_to (numbers_of leaving) (leave_of (sender_of c dir) k)
 epoch_posts_at c dir k leaving (Some r) = []
 
--- a message to each of the receivers, whose octets these are: they are the whole of it if it is valid (own)
+-- a message to each of the receivers, whose octets these are: they are the whole of it if it is
+-- valid (own)
 pub record AreLetters (ls : Letters) (ps : List Posted) : Type 0 where
   pub message : Message
   pub posts : ps ≡ posts_to (numbers_of ls.receivers.items) message

@@ -1,4 +1,5 @@
--- That a call of a clearinghouse is a step of the house of the model for which it stands (own, after C705, clearinghouses and replicas).
+-- That a call of a clearinghouse is a step of the house of the model for which it is (own, after
+-- C705, clearinghouses and replicas).
 use Rattle.std.specs.Prelude.{◌≡◌, ℕ, false, List, [], Some, Result, IfOk, is_err}
 use Rattle.std.specs.FinMap.{get, insert}
 use Rattle.std.specs.declared.alloc.AllocError.{AllocError}
@@ -21,7 +22,8 @@ pub record IsTurn (turn : Turn) (new : Clearinghouse) (posted : List Posted) : T
   pub stands : StandsHouse new turn.house
   pub each : StandEach posted turn.posts
 
--- a call is a step of the house: what it answers passes the test, and all stays as it was and nothing is posted, or it is the turn (own)
+-- a call is a step of the house: what it answers passes the test, and all stays as it was and
+-- nothing is posted, or it is the turn (own)
 abbrev pub IsStep : (command.Answer → Type 0) → HouseStep → (old new : Clearinghouse) → List Posted → Type 0
 IsStep Answers (Stays answer) old new posted = Answers answer × (new ≡ old) × (posted ≡ [])
 IsStep Answers (Turns turn) old new posted = ((ns : List ℕ) → Answers (turn.answer ns)) × IsTurn turn new posted
@@ -31,14 +33,16 @@ abbrev pub LooksStep : (command.Answer → Type 0) → HouseStep → DirId → (
 LooksStep Answers (Stays answer) dir new = Answers answer
 LooksStep Answers (Turns turn) dir new = ((ns : List ℕ) → Answers (turn.answer ns)) × LooksHouse new dir turn.house
 
--- a call leaves who the clearinghouse is; it is Ok only where that was not spent, which it is then exactly after want of memory (own)
+-- a call leaves who the clearinghouse is; it is Ok only where that was not spent, which it is then
+-- exactly after it ran out of memory (own)
 pub record IsCall {T : Type 0} (old new : Clearinghouse) (result : Result T AllocError) : Type 0 where
   pub house : new.house ≡ old.house
   pub node : new.node ≡ old.node
   pub spent : new.spent ≡ is_err result
   pub usable : IfOk result (λ _. old.spent ≡ false)
 
--- the directory that was held is held in this epoch with these members, and no skulk runs; nothing else is changed (own)
+-- the directory that was held is held in this epoch with these members, and no skulk runs; nothing
+-- else is changed (own)
 pub record Enters (old new : Clearinghouse) (dir : DirId) (epoch : EpochNo) (members : List declared.Member) : Type 0 where
   pub held : Held
   pub before : get old.dirs dir ≡ Some (state.Held held)

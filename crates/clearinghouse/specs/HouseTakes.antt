@@ -1,4 +1,5 @@
--- What a message makes of a clearinghouse, without any model (own, after C705, updates, skulks and new epochs).
+-- What a message makes of a clearinghouse, without any model (own, after C705, updates, skulks and
+-- new epochs).
 use Rattle.std.specs.Prelude.{◌≡◌, ℕ, max, nat_le, if◌then◌else◌, List, Option, None}
 use Rattle.std.specs.Prelude.{MatchBool, MatchOption}
 use Rattle.std.specs.FinMap.{get, insert}
@@ -49,7 +50,8 @@ pub record Merges (m : Message) (ms : List declared.Member) (copy : Replica) (ol
 abbrev pub Copies : Message → List declared.Member → Replica → (old new : Clearinghouse) → Type 0
 Copies m ms copy old new = new ≡ record old { dirs = insert old.dirs m.dir (state.Held (copy_of m.epoch ms copy)) }
 
--- a house that held the directory in its present term merges the copy in, and any other has it (own)
+-- a house that held the directory in its present term merges the copy in, and any other has it
+-- (own)
 abbrev pub HasCopy : Message → List declared.Member → Replica → (old new : Clearinghouse) → Type 0
 HasCopy m ms copy old new =
     MatchOption (held_in (get old.dirs m.dir)) (Copies m ms copy old new)

@@ -1,4 +1,5 @@
--- What an update that is accepted, and a skulk that begins, make of a clearinghouse, without any model (own, after C705, updates and skulks).
+-- What an update that is accepted, and a skulk that begins, make of a clearinghouse, without any
+-- model (own, after C705, updates and skulks).
 use Rattle.std.specs.Prelude.{◌≡◌, List, Option, Some}
 use Rattle.std.specs.FinMap.{get, insert}
 use Rattle.cds_stamps.specs.declared.numbers.DirId.{DirId}
@@ -13,7 +14,8 @@ use Rattle.house_directory.specs.declared.states.DirState.TheVariants as state
 use Rattle.clearinghouse.specs.HouseLetters.{posts_at}
 use Rattle.house_directory.specs.DirectoryUpdates.{HeldTakes, stamp_of, HeldBegins}
 
--- an update at a clearinghouse that holds the directory: its floor is the stamp's time, and nothing else of it is changed (own)
+-- an update at a clearinghouse that holds the directory: its floor is the stamp's time, and nothing
+-- else of it is changed (own)
 pub record TakesUpdate (dir : DirId) (u : Change) (s : Stamp) (old new : Clearinghouse) (o : Option Outgoing) : Type 0 where
   pub before : Held
   pub holds : get old.dirs dir ≡ Some (state.Held before)
@@ -27,7 +29,8 @@ pub record PostsUpdate (dir : DirId) (u : Change) (s : Stamp) (old new : Clearin
   pub takes : TakesUpdate dir u s old new outgoing
   pub posts : posted ≡ posts_at new dir outgoing
 
--- a skulk that begins at a clearinghouse that holds the directory: its floor is the stamp's time, and nothing else of it is changed (own)
+-- a skulk that begins at a clearinghouse that holds the directory: its floor is the stamp's time,
+-- and nothing else of it is changed (own)
 pub record BeginsSkulk (dir : DirId) (b : Begun) (old new : Clearinghouse) : Type 0 where
   pub before : Held
   pub holds : get old.dirs dir ≡ Some (state.Held before)

@@ -1,4 +1,5 @@
--- Clearinghouses whose tables are valid, whose floor is above all their times, and whose skulks are their own (own, after C705, timestamps and skulks).
+-- Clearinghouses whose tables are valid, whose floor is above all their times, and whose skulks are
+-- their own (own, after C705, timestamps and skulks).
 use Rattle.std.specs.Prelude.{◌≡◌, Some}
 use Rattle.std.specs.FinMap.{get}
 use Rattle.cds_stamps.specs.declared.numbers.DirId.{DirId}

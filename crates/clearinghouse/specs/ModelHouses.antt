@@ -1,4 +1,5 @@
--- Which house of the model a clearinghouse stands for (own, after C705, clearinghouses and replicas).
+-- Which house of the model a clearinghouse stands for (own, after C705, clearinghouses and
+-- replicas).
 use Rattle.std.specs.Prelude.{◌≡◌, ℕ}
 use Rattle.std.specs.FinMap.{get}
 use Rattle.cds_stamps.specs.declared.numbers.DirId.{DirId}
@@ -10,7 +11,8 @@ use Rattle.house_directory.specs.ModelReplicas.{LooksSlot, StandsSlot}
 abbrev pub LooksHouse : Clearinghouse → DirId → model.House → Type 0
 LooksHouse c dir now = LooksSlot c.house.0 (get c.dirs dir) (now.slots dir.0)
 
--- a clearinghouse stands for a house of the model; whether that is up, and its clock, are the cell's (own)
+-- a clearinghouse stands for a house of the model; whether that is up, and its clock, are the
+-- cell's (own)
 pub record StandsHouse (c : Clearinghouse) (now : model.House) : Type 0 where
   pub node : now.node ≡ c.node
   pub floor : now.floor ≡ c.floor.time

@@ -29,7 +29,8 @@ use house_directory::{
 };
 use std::alloc::{AllocError, Global};
 
-/// A clearinghouse: who it is, the floor of its stamps, what it has of directories, and whether it is spent.
+/// A clearinghouse: who it is, the floor of its stamps, what it has of directories, and whether it
+/// is spent.
 #[derive(Drop)]
 pub struct Clearinghouse {
     pub(crate) house: HouseNo,
@@ -74,8 +75,9 @@ impl Clearinghouse {
         self.floor.time
     }
 
-    /// True once a call ran out of memory. From then on each call that can answer so answers so. Send nothing more of this house, drop
-    /// it, and `start` it from the last image that was put: what it did since then was not sent, so no other house misses it.
+    /// True once a call ran out of memory. From then on each call that can answer so answers so.
+    /// Send nothing more of this house, drop it, and `start` it from the last image that was put:
+    /// what it did since then was not sent, so no other house misses it.
     pub fn is_spent(&self) -> bool
         ensures { result ≡ self.now.spent }
     {
@@ -104,9 +106,10 @@ impl Clearinghouse {
         })
     }
 
-    /// Makes a directory of which it is the master: in epoch 1, with a replica that is empty. It posts Joins to the other
-    /// members. It requires that the house never had the directory, not even one that it left (test: `state(dir).is_none()`), and
-    /// that the list names this house as the master (test: `members.master() == number()`).
+    /// Makes a directory of which it is the master: in epoch 1, with a replica that is empty. It
+    /// posts Joins to the other members. It requires that the house never had the directory, not
+    /// even one that it left (test: `state(dir).is_none()`), and that the list names this house as
+    /// the master (test: `members.master() == number()`).
     pub fn create_directory(
         &mut self,
         alloc: Global,
@@ -129,8 +132,9 @@ impl Clearinghouse {
         self.posted(alloc, dir, Some(&outgoing))
     }
 
-    /// Makes a directory, as `create_directory` does and with what that requires: `state(dir).is_none()`, and `members.master() ==
-    /// number()`. What is to be posted: put the `image` first, and then give it to `letters`.
+    /// Makes a directory, as `create_directory` does and with what that requires:
+    /// `state(dir).is_none()`, and `members.master() == number()`. What is to be posted: put the
+    /// `image` first, and then give it to `letters`.
     pub fn found(
         &mut self,
         alloc: Global,
@@ -172,8 +176,9 @@ impl Clearinghouse {
         Ok(Outgoing::Join)
     }
 
-    /// Takes an update of a directory, stamps it, and posts it to each other member. Or refuses it: where it holds no
-    /// replica, where it does not accept updates, as the table refuses it, and where no stamp is left.
+    /// Takes an update of a directory, stamps it, and posts it to each other member. Or refuses it:
+    /// where it holds no replica, where it does not accept updates, as the table refuses it, and
+    /// where no stamp is left.
     pub fn accept(
         &mut self,
         alloc: Global,
@@ -203,7 +208,8 @@ impl Clearinghouse {
         }
     }
 
-    /// Takes an update, as `accept` does, or refuses it. What is to be posted: put the `image` first, and then give it to `letters`.
+    /// Takes an update, as `accept` does, or refuses it. What is to be posted: put the `image`
+    /// first, and then give it to `letters`.
     pub fn accept_update(
         &mut self,
         alloc: Global,
@@ -261,8 +267,9 @@ impl Clearinghouse {
         }
     }
 
-    /// Begins a skulk of a directory of which it is the master: it posts its first round. Or refuses it: where it holds no
-    /// replica, where it is not the master, and where no stamp is left.
+    /// Begins a skulk of a directory of which it is the master: it posts its first round. Or
+    /// refuses it: where it holds no replica, where it is not the master, and where no stamp is
+    /// left.
     pub fn start_skulk(
         &mut self,
         alloc: Global,
@@ -293,8 +300,9 @@ impl Clearinghouse {
         }
     }
 
-    /// Begins a skulk, as `start_skulk` does. It takes no memory. What is to be posted: put the `image` first, and then give it to
-    /// `letters`. (The image has the floor, and so the stamp of the skulk is given once; a skulk itself ends at a crash.)
+    /// Begins a skulk, as `start_skulk` does. It takes no memory. What is to be posted: put the
+    /// `image` first, and then give it to `letters`. (The image has the floor, and so the stamp of
+    /// the skulk is given once; a skulk itself ends at a crash.)
     pub fn begin_skulk(
         &mut self,
         clock: u64,
@@ -342,9 +350,9 @@ impl Clearinghouse {
         }
     }
 
-    /// Takes a new epoch of a directory, of which it is to be the master, and posts Joins to the other members and Leaves to
-    /// the houses that are members no more. Or refuses it. It requires that the list names this house as the master (test:
-    /// `members.master() == number()`).
+    /// Takes a new epoch of a directory, of which it is to be the master, and posts Joins to the
+    /// other members and Leaves to the houses that are members no more. Or refuses it. It requires
+    /// that the list names this house as the master (test: `members.master() == number()`).
     pub fn new_epoch(
         &mut self,
         alloc: Global,
@@ -381,9 +389,10 @@ impl Clearinghouse {
         Ok(EpochSet::Done(posted))
     }
 
-    /// Takes a new epoch, as `new_epoch` does and with what that requires: `members.master() == number()`. Or refuses it. A Join is
-    /// to be posted, and a Leave to each house that is a member no more: put the `image` first, and then give `Outgoing::Join` to
-    /// `letters`, and those houses to `leaves`.
+    /// Takes a new epoch, as `new_epoch` does and with what that requires: `members.master() ==
+    /// number()`. Or refuses it. A Join is to be posted, and a Leave to each house that is a member
+    /// no more: put the `image` first, and then give `Outgoing::Join` to `letters`, and those
+    /// houses to `leaves`.
     pub fn enter_epoch(
         &mut self,
         alloc: Global,
@@ -437,7 +446,8 @@ impl Clearinghouse {
         }
     }
 
-    /// The messages that say this about a directory, to each receiver its own; none where nothing is to be posted.
+    /// The messages that say this about a directory, to each receiver its own; none where nothing
+    /// is to be posted.
     pub(crate) fn posted(
         &mut self,
         alloc: Global,
@@ -489,7 +499,7 @@ impl Clearinghouse {
         }
     }
 
-    /// Want of memory, where it is spent.
+    /// Out of memory, where it is spent.
     pub(crate) fn usable(&self) -> Result<(), AllocError>
         ensures { is_err result ≡ self.now.spent }
     {

@@ -55,7 +55,7 @@ fn started_dirs(alloc: Global, kept: ImageDirs) -> Result<DirStates, AllocError>
     Ok(dirs)
 }
 
-/// Writes what is kept of the directory of this number behind the others of an image.
+/// Writes what is kept of the directory of this number after the others of an image.
 fn write_state(state: &DirState, image: &mut ImageWriter, dir: DirId) -> Result<(), AllocError>
     ensures octets { OnOk result
         (image.new ≡ image.old ++ (dir_octets dir ++ kept_octets (kept_of state.now))) }
@@ -67,7 +67,7 @@ fn write_state(state: &DirState, image: &mut ImageWriter, dir: DirId) -> Result<
     }
 }
 
-/// Writes what is kept of the directories behind the head of an image.
+/// Writes what is kept of the directories after the head of an image.
 fn write_states(states: &DirStates, image: &mut ImageWriter) -> Result<(), AllocError>
     ensures octets { OnOk result
         (image.new ≡ image.old
@@ -83,8 +83,9 @@ fn write_states(states: &DirStates, image: &mut ImageWriter) -> Result<(), Alloc
 }
 
 impl Clearinghouse {
-    /// The octets of what it keeps over a crash. `start` makes of them the clearinghouse that a crash and a start leave. Put them into
-    /// a journal after each call that changes the house, and before anything of that call is sent.
+    /// The octets of what it keeps over a crash. `start` makes of them the clearinghouse that a
+    /// crash and a start leave. Put them into a journal after each call that changes the house, and
+    /// before anything of that call is sent.
     pub fn image(&self, alloc: Global) -> Result<Vec<u8>, AllocError>
         ensures usable { IfOk result (λ _. self.now.spent ≡ false) }
         ensures octets { IfOk result (λ v. v.items ≡ image_octets (image_of self.now)) }
@@ -99,9 +100,11 @@ impl Clearinghouse {
         Ok(image.octets())
     }
 
-    /// The house that kept these octets, in either format, with no skulk that runs; its floor is raised to the greatest time in
-    /// them. Memory is asked for only after a whole head of an image, so a fault in the head is never answered as out of memory.
-    /// Start a house from its last image and from no earlier one, and only once: from an earlier one it gives stamps a second time.
+    /// The house that kept these octets, in either format, with no skulk that runs; its floor is
+    /// raised to the greatest time in them. Memory is asked for only after a whole head of an
+    /// image, so a fault in the head is never answered as out of memory. Start a house from its
+    /// last image and from no earlier one, and only once: from an earlier one it gives stamps a
+    /// second time.
     pub fn start(alloc: Global, octets: &[u8]) -> Result<Clearinghouse, AllocOr<StartFault>>
         ensures answer { Answers result (start_of_octets octets.now) }
         ensures wanting { IfWant (WantsForImage 1 2 octets.now) result }

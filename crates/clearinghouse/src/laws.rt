@@ -13,14 +13,15 @@ ghost use Rattle.house_directory.specs.HouseMessages.{LooksMessage};
 ghost use Rattle.clearinghouse.specs.ModelHouses.{LooksHouse, StandsHouse};
 ghost use Rattle.clearinghouse.specs.declared.house.Clearinghouse.{Clearinghouse};
 
-/// A house starts of the octets that it kept, if its numbers fit their fields: no other fault is found than want of memory.
+/// A house starts of the octets that it kept, if its numbers fit their fields: no other fault is
+/// found than out of memory.
 pub fn a_house_starts_of_its_image()
     ensures { (c : Clearinghouse) → IsLawful c → FitsImage (image_of c)
         → start_of_octets (image_octets (image_of c)) ≡ Ok (house_after_restart c) }
 {}
 
-/// A clearinghouse that crashes and starts again stands for the house of the model that does so. It is lawful again, and who it
-/// was. Its floor stays, since no time in what it keeps is above it.
+/// A clearinghouse that crashes and starts again stands for the house of the model that does so. It
+/// is lawful again, and who it was. Its floor stays, since no time in what it keeps is above it.
 pub fn a_crash_and_a_start_are_those_of_the_model()
     ensures down { (c : Clearinghouse) (now : model.House) → StandsHouse c now
         → StandsHouse (house_after_restart c) (crashed_house now) }
@@ -33,9 +34,10 @@ pub fn a_crash_and_a_start_are_those_of_the_model()
     ensures floor { (c : Clearinghouse) → IsLawful c → (house_after_restart c).floor ≡ c.floor }
 {}
 
-/// Each lawful clearinghouse looks like some house of the model, in all directories at once, and each message like one of the
-/// model. So what `Clearinghouse::take` promises of those that look so binds it at every call. That its numbers fit their fields,
-/// and its members are lists of members, holds of each clearinghouse of a program, by its types: `Clearinghouse::image` says so.
+/// Each lawful clearinghouse looks like some house of the model, in all directories at once, and
+/// each message like one of the model. So what `Clearinghouse::take` promises of those that look so
+/// binds it at every call. That its numbers fit their fields, and its members are lists of members,
+/// holds of each clearinghouse of a program, by its types: `Clearinghouse::image` says so.
 pub fn each_lawful_clearinghouse_looks_like_a_house()
     ensures houses { (c : Clearinghouse) → IsLawful c → FitsImage (image_of c)
         → (now : model.House) × ((dir : DirId) → LooksHouse c dir now) }

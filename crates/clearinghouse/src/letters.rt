@@ -1,4 +1,5 @@
-// Messages as octets, encoded from what a house holds. Nothing is copied for them but what a delta has of a replica.
+// Messages as octets, encoded from what a house holds. Nothing is copied for them but what a delta
+// has of a replica.
 ghost use Rattle.std.specs.Prelude.{◌≡◌, ◌<◌, ◌≤◌, [], false, Some, IfOk, IfSome, MatchOption, length};
 ghost use Rattle.record_fields.specs.Decoding.{IsWhole};
 ghost use Rattle.cds_records.specs.RecordOctets.{message_octets, message_with};
@@ -15,7 +16,8 @@ use cds_stamps::{DirId, EpochNo, HouseNo};
 use house_directory::{Held, Outgoing, Sender};
 use std::alloc::{AllocError, Global};
 
-/// A message as octets, and the houses that it goes to, in ascending order: all get the same octets.
+/// A message as octets, and the houses that it goes to, in ascending order: all get the same
+/// octets.
 #[derive(Drop)]
 pub struct Letters {
     pub receivers: Vec<HouseNo>,
@@ -23,9 +25,10 @@ pub struct Letters {
 }
 
 impl Clearinghouse {
-    /// The message about a directory that says this, and its receivers; none if there is no receiver. It encodes what the house holds
-    /// *now*: call it before the next call that changes the house. And put the `image` first: a crash undoes at the sender what is on
-    /// no disk, and the sender would give the stamp that others have to a second update.
+    /// The message about a directory that says this, and its receivers; none if there is no
+    /// receiver. It encodes what the house holds *now*: call it before the next call that changes
+    /// the house. And put the `image` first: a crash undoes at the sender what is on no disk, and
+    /// the sender would give the stamp that others have to a second update.
     pub fn letters(
         &self,
         alloc: Global,
@@ -46,8 +49,8 @@ impl Clearinghouse {
         }
     }
 
-    /// The Leave of an epoch to each of these houses. As with `letters`: after the `image` is put, and before the next call that
-    /// changes the house.
+    /// The Leave of an epoch to each of these houses. As with `letters`: after the `image` is put,
+    /// and before the next call that changes the house.
     pub fn leaves(
         &self,
         alloc: Global,

@@ -1,4 +1,5 @@
-//! A clearinghouse: one house with what it has of directories, its calls, its letters, and its image.
+//! A clearinghouse: one house with what it has of directories, its calls, its letters, and its
+//! image.
 #![tactic(auto)]
 
 mod house;

@@ -30,8 +30,8 @@ use skulk_core::Skulk;
 use std::alloc::{AllocError, Global};
 
 impl Clearinghouse {
-    /// Takes a message of another house, and posts what it says to it. The floor rises to the greatest time in a message
-    /// that is taken.
+    /// Takes a message of another house, and posts what it says to it. The floor rises to the
+    /// greatest time in a message that is taken.
     pub fn take(&mut self, alloc: Global, message: &Message) -> Result<Took, AllocError>
         ensures call { IsCall self.old self.new result }
         ensures kept { IsValidMessage message.now → IsLawful self.old → IsLawful self.new }
@@ -61,8 +61,9 @@ impl Clearinghouse {
         })
     }
 
-    /// Takes a message, as `take` does. What is to be posted: put the `image` first, and then give it to `letters`. Any message that
-    /// `decode` gives may be taken; one that is not taken changes nothing and posts nothing.
+    /// Takes a message, as `take` does. What is to be posted: put the `image` first, and then give
+    /// it to `letters`. Any message that `decode` gives may be taken; one that is not taken changes
+    /// nothing and posts nothing.
     pub fn take_message(
         &mut self,
         alloc: Global,
@@ -159,8 +160,8 @@ impl Clearinghouse {
         }
     }
 
-    /// Merges the copy in that came with a Join, where the house held the directory in its present term, or else has that copy
-    /// in the place of what it had.
+    /// Merges the copy in that came with a Join, where the house held the directory in its present
+    /// term, or else has that copy in the place of what it had.
     fn take_copy(
         &mut self,
         alloc: Global,

@@ -30,7 +30,8 @@ new_clerk room prefer = record { prefer = prefer; kept = record { entries = []; 
 abbrev pub pointer_asked : Pointer → ChildPointer
 pointer_asked p = record { dir = record { 0 = p.dir }; houses = record { master = p.master; others = p.others } }
 
--- a question of this clerk: what is seen of a name in a directory, or which values an attribute of it has
+-- a question of this clerk: what is seen of a name in a directory, or which values an attribute of
+-- it has
 abbrev pub query_of : Clerk → Pointer → List ℕ → (attr : Option (List ℕ)) → Query
 query_of c at name attr = record { prefer = c.prefer; at = pointer_asked at; name = name; attr = attr }
 
@@ -38,7 +39,8 @@ query_of c at name attr = record { prefer = c.prefer; at = pointer_asked at; nam
 abbrev pub is_pointer : ChildPointer → ChildPointer → Bool
 is_pointer p q = p.dir.0 == q.dir.0 && is_houses p.houses q.houses
 
--- two questions are the same: in the house that is preferred, the pointer, the name and the attribute
+-- two questions are the same: in the house that is preferred, the pointer, the name and the
+-- attribute
 abbrev pub is_query : Query → Query → Bool
 is_query q r =
     q.prefer.0 == r.prefer.0
@@ -76,7 +78,8 @@ kept_values q c = option_and_then (λ k. values_told k.told) (lookup (is_query q
 abbrev pub to_front : Query → Clerk → Clerk
 to_front q c = record c { kept = record c.kept { entries = promoted (is_query q) c.kept.entries } }
 
--- a new answer goes to the front, with the line at which it was given; of a full list the last one is dropped
+-- a new answer goes to the front, with the line at which it was given; of a full list the last one
+-- is dropped
 abbrev pub note : Query → Told → (now : ℕ) → Clerk → Clerk
 note q told now c = record c { kept = record c.kept { entries = put_entries is_query c.kept q (record { told = told; line = now }) } }
 
@@ -95,7 +98,8 @@ abbrev pub sight_by : (kept : Option Sight) → Query → (now : ℕ) → (fresh
 sight_by (Some s) q now fresh c = (s, to_front q c)
 sight_by None q now fresh c = (fresh, note_sight q fresh now c)
 
--- what a clerk answers that is seen of a name, at low confidence; and the clerk then (after C705, caches of clerks)
+-- what a clerk answers that is seen of a name, at low confidence; and the clerk then (after C705,
+-- caches of clerks)
 abbrev pub sight_answer : (now : ℕ) → Reader → Pointer → List ℕ → Clerk → Sight × Clerk
 sight_answer now reader at name c = let q = query_of c at name None in sight_by (kept_sight q c) q now (reader.sees at name) c
 
@@ -131,7 +135,8 @@ values_by (Some vs) q now fresh c = (Some vs, to_front q c)
 values_by None q now None c = (None, c)
 values_by None q now (Some vs) c = (Some vs, note q (told.Values vs) now c)
 
--- the values that a clerk answers, at low confidence; and the clerk then (after C705, caches of clerks)
+-- the values that a clerk answers, at low confidence; and the clerk then (after C705, caches of
+-- clerks)
 abbrev pub values_answer : (now : ℕ) → Reader → Pointer → (name attr : List ℕ) → Clerk → Option (List (List ℕ)) × Clerk
 values_answer now reader at name attr c =
     let q = query_of c at name (Some attr) in values_by (kept_values q c) q now (shown_values reader at name attr) c

@@ -82,9 +82,9 @@ impl Clerk {
         Ok(seen)
     }
 
-    /// The values of an attribute that the entry of a name shows. None where the reader answers, and
-    /// sees no entry of the name. The reader looks the name up first, past the list, and then shows
-    /// the values at the house that it names. Values that the clerk keeps get the line `now`.
+    /// The values of an attribute that the entry of a name shows. None where the reader answers,
+    /// and sees no entry of the name. The reader looks the name up first, past the list, and then
+    /// shows the values at the house that it names. Values that the clerk keeps get the line `now`.
     pub fn values<R: EntryReader>(
         &mut self,
         alloc: Global,

@@ -15,11 +15,11 @@ use resolver::{End, EntryReader, Found, Refusal, Walk};
 use std::alloc::{AllocError, Global};
 
 impl Clerk {
-    /// The entry that a full name leads to, links followed, and the pointer to the directory where it
-    /// was found: the walk of `resolver::resolve`, each look-up at low confidence through the clerk,
-    /// at the line `now`. Whatever it answers, a refusal or out of memory too, what its look-ups did
-    /// to the list stays. Where memory runs out a component of the name is still to be passed, and
-    /// once that is looked up the walk is not refused there.
+    /// The entry that a full name leads to, links followed, and the pointer to the directory where
+    /// it was found: the walk of `resolver::resolve`, each look-up at low confidence through the
+    /// clerk, at the line `now`. Whatever it answers, a refusal or out of memory too, what its
+    /// look-ups did to the list stays. Where memory runs out a component of the name is still to be
+    /// passed, and once that is looked up the walk is not refused there.
     pub fn resolve<R: EntryReader>(
         &mut self,
         alloc: Global,

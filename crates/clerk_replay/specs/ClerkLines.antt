@@ -1,4 +1,4 @@
--- What a replayer with a clerk stands for, and how it replies to a line (own).
+-- What a replayer with a clerk stands for, and how it replies to a line.
 use Rattle.std.specs.Prelude.{◌≡◌, ℕ, List, Some}
 use Rattle.cell_script.specs.declared.command.ScriptLine.{ScriptLine}
 use Rattle.script_answers.specs.declared.answer.Answer.{Answer}
@@ -9,16 +9,16 @@ use Rattle.reply_buffer.specs.LineEnds.{Ends}
 use Rattle.clerk_replay.specs.declared.replayer.ClerkReplayer.{ClerkReplayer}
 use Rattle.clerk_replay.specs.Clerking.{Clerked, clerked_after, reply_by_clerk}
 
--- its cell stands for the model's, and its clerk is this one (own)
+-- its cell stands for the model's, and its clerk is this one
 pub record Stands (r : ClerkReplayer) (s : Clerked) : Type 0 where
   pub cell : cell.Stands r.replayer.cell s.cell
   pub clerk : r.clerk ≡ s.clerk
 
--- an answer is the reply to a line, and the replayer goes on behind it (own)
+-- an answer is the reply to a line, and the replayer goes on after it
 pub record IsAnswer (a : Answer) (r : ClerkReplayer) (number : ℕ) (s : Clerked) (l : ScriptLine) : Type 0 where
   pub answer : (reply_by_clerk number s l).0 ≡ Some a
   pub stands : Stands r (clerked_after number s l)
 
--- the replayer goes on behind the line (own)
+-- the replayer goes on after the line
 abbrev pub Replays : LineEnd → ResponseOf Clerked → (waited waits : List ℕ) → ClerkReplayer → Type 0
 Replays end r waited waits replayer = Ends end r waited waits (Stands replayer)

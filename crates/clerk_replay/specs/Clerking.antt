@@ -1,4 +1,5 @@
--- What `clerk` answers: as `run`, but that `read` at low confidence goes through one clerk (own, after C705, caches of clerks).
+-- What `clerk` answers: as `run`, but that `read` at low confidence goes through one clerk (own,
+-- after C705, caches of clerks).
 use Rattle.std.specs.Prelude.{ℕ, false, if◌then◌else◌, List, [], Option, Some, None, Result, Ok, Err}
 use Rattle.std.specs.Option.{option_map_or}
 use Rattle.cds_stamps.specs.declared.numbers.HouseNo.{HouseNo}
@@ -29,13 +30,15 @@ pub record Clerked : Type 0 where
   pub cell : model.Cell
   pub clerk : Clerk
 
--- at the start no house is there and no answer is kept; each question names the house that it prefers first (own)
+-- at the start no house is there and no answer is kept; each question names the house that it
+-- prefers first (own)
 abbrev pub start : (room : ℕ) → Clerked
 start room = record { cell = model.empty_cell; clerk = new_clerk room (record { 0 = 1 }) }
 
 -- ---- what is read
 
--- values that are answered; or that the house that is asked now does not show the entry to which a kept answer led, or that none answers (own)
+-- values that are answered; or that the house that is asked now does not show the entry to which a
+-- kept answer led, or that none answers (own)
 abbrev pub values_or_vanished : Option (List (List ℕ)) → Answer
 values_or_vanished None = answer.Refused why.Vanished
 values_or_vanished (Some vs) = answer.Values vs
@@ -44,14 +47,14 @@ values_or_vanished (Some vs) = answer.Values vs
 abbrev pub values_told : (now : ℕ) → Reader → Pointer → (name attr : List ℕ) → Clerk → Answer × Clerk
 values_told now reader at name attr c = let r = values_answer now reader at name attr c in (values_or_vanished r.0, r.1)
 
--- the same behind a walk; each walk that finds an entry ends in a directory (own)
+-- the same after a walk; each walk that finds an entry ends in a directory (own)
 abbrev pub read_behind : (now : ℕ) → Reader → (attr : List ℕ) → Result (Option Pointer × Found) Refusal → Clerk → Answer × Clerk
 read_behind now reader attr (Ok (Some at, found)) c = values_told now reader at found.name attr c
 read_behind now reader attr (Ok (None, found)) c = (answer.Refused why.Vanished, c)
 read_behind now reader attr (Err r) c = (answer.Refused (refusal_of_walk r), c)
 
--- what is answered of the values of an attribute of the entry that a name leads to, each question through the clerk; and the clerk
--- then (own, after C705, caches of clerks)
+-- what is answered of the values of an attribute of the entry that a name leads to, each question
+-- through the clerk; and the clerk then (own, after C705, caches of clerks)
 abbrev pub read_by_clerk : (now : ℕ) → Reader → (name : List (List ℕ)) → (attr : List ℕ) → Clerk → Answer × Clerk
 read_by_clerk now reader name attr c = let r = resolution_of (clerk_reader now reader) c name in read_behind now reader attr r.0 r.1
 
@@ -72,14 +75,16 @@ low_read other = None
 abbrev pub prefer_house : HouseNo → Clerk → Clerk
 prefer_house h c = record c { prefer = h }
 
--- what such a `read` is answered, and the clerk then: a house that is not there is no house to prefer (own)
+-- what such a `read` is answered, and the clerk then: a house that is not there is no house to
+-- prefer (own)
 abbrev pub read_at : (number : ℕ) → Clerked → LowRead → Answer × Clerk
 read_at number s q =
     if has q.house.0 s.cell.made
     then read_by_clerk number (cell_reader s.cell (Some q.house.0) false) q.name q.attr (prefer_house q.house s.clerk)
     else (answer.Refused why.NoHouse, s.clerk)
 
--- what a line is answered, and the clerk then: only `read` at low confidence touches the clerk (own)
+-- what a line is answered, and the clerk then: only `read` at low confidence touches the clerk
+-- (own)
 abbrev pub reply_at : (number : ℕ) → Clerked → ScriptLine → Option LowRead → Option Answer × Clerk
 reply_at number s l (Some q) = let r = read_at number s q in (Some r.0, r.1)
 reply_at number s l None = (reply_to s.cell l, s.clerk)
@@ -92,7 +97,7 @@ reply_by_clerk number s l = reply_at number s l (low_read l)
 abbrev pub reply_text : ℕ → Clerked → ScriptLine → List ℕ
 reply_text number s l = option_map_or (answer_text number) (reply_by_clerk number s l).0 []
 
--- the cell and the clerk behind a line (own)
+-- the cell and the clerk after a line (own)
 abbrev pub clerked_after : ℕ → Clerked → ScriptLine → Clerked
 clerked_after number s l = record { cell = cell_after s.cell l; clerk = (reply_by_clerk number s l).1 }
 

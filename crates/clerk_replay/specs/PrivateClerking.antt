@@ -1,4 +1,4 @@
--- Words of private contracts: what a line of the program asks for (own).
+-- Words of private contracts: what a line of the program asks for.
 use Rattle.clerk_replay.specs.Clerking as asks
 use Rattle.clerk_replay.specs.declared.low_read.LowRead.{LowRead}
 

@@ -1,5 +1,5 @@
-//! What a line of a script comes to where a clerk keeps answers: `read` at low confidence goes through the clerk, and each other
-//! line to the cell alone.
+//! What a line of a script comes to where a clerk keeps answers: `read` at low confidence goes
+//! through the clerk, and each other line to the cell alone.
 #![tactic(auto)]
 
 mod form;

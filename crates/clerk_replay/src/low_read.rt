@@ -8,7 +8,8 @@ use cds_stamps::{AttrName, HouseNo};
 use cell_names::FullName;
 use cell_script::{Question, ScriptLine};
 
-/// What `read` at low confidence asks for: the house that is preferred, the name, and the attribute.
+/// What `read` at low confidence asks for: the house that is preferred, the name, and the
+/// attribute.
 #[derive(Clone, Copy)]
 pub(crate) struct LowRead<'a> {
     pub(crate) house: HouseNo,

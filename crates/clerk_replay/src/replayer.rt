@@ -41,7 +41,7 @@ impl ClerkReplayer {
         })
     }
 
-    /// Replays a line: its reply waits behind the others.
+    /// Replays a line: its reply waits after the others.
     pub fn replay_line(
         &mut self,
         alloc: Global,
@@ -84,7 +84,7 @@ impl ClerkReplayer {
         }
     }
 
-    // The reply to a line waits behind the others.
+    // The reply to a line waits after the others.
     fn answer(
         &mut self,
         alloc: Global,
@@ -116,7 +116,8 @@ impl ClerkReplayer {
         }
     }
 
-    // What the clerk replies to `read` at low confidence. The house that it prefers has to be there.
+    // What the clerk replies to `read` at low confidence. The house that it prefers has to be
+    // there.
     fn read(&mut self, alloc: Global, now: u32, read: LowRead<'_>) -> Result<Answer, AllocError>
         ensures answer { (s : Clerked) → Stands self.old s
             → IfOk result (λ a. (a, self.new.clerk) ≡ read_at now s (read_of read.entry)) }

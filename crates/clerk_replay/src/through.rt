@@ -11,8 +11,8 @@ use resolver::EntryReader;
 use script_answers::{Answer, ScriptRefusal, Values};
 use std::alloc::{AllocError, Global};
 
-/// The values of an attribute of the entry that a name leads to, links followed, each question at low confidence through the clerk.
-/// What it keeps gets the line `now`.
+/// The values of an attribute of the entry that a name leads to, links followed, each question at
+/// low confidence through the clerk. What it keeps gets the line `now`.
 pub(crate) fn read_through<R: EntryReader>(
     alloc: Global,
     clerk: &mut Clerk,

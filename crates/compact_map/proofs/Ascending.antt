@@ -29,7 +29,8 @@ module _ {K X : Type 0} (cmp : K → K → Ordering) where
   insert_first e [] s = refl
   insert_first e (f ∷ es) s = ap (λ o. match_ordering o (e ∷ f ∷ es) ((f.0, e.1) ∷ es) (f ∷ insert_entry cmp es e.0 e.1)) s.0.0
 
-  -- an entry that is moved from the end of some entries to the front of others leaves all of them in order
+  -- an entry that is moved from the end of some entries to the front of others leaves all of them
+  -- in order
   pub moved_first : (e : K × X) (es rest fs gs all : List (K × X)) → es ≡ rest ++ e ∷ [] → gs ≡ insert_entry cmp fs e.0 e.1
       → es ++ fs ≡ all → IsOrdered cmp all → rest ++ gs ≡ all
   moved_first e es rest fs gs all last put whole s =

@@ -1,4 +1,5 @@
--- Entries in order, with the place of a key among them: what the key has, and what an edit at its place is to the map that they are.
+-- Entries in order, with the place of a key among them: what the key has, and what an edit at its
+-- place is to the map that they are.
 use Rattle.std.proofs.Common.{◌≡◌, ℕ, zero, suc, ◌≤◌, ◌<◌, List, [], ◌∷◌, length, get_or, set, refl, sym, ap, ◌∙◌, arith, inl}
 use Rattle.std.proofs.Common.{Some, None, Result, Ok, Err, OnErr}
 use Rattle.std.specs.Prelude.{slice_get}
@@ -39,7 +40,7 @@ set_same_key (x ∷ es) zero e w is = ap (λ x. (x.0, w) ∷ es) is
 set_same_key (x ∷ es) (suc i) e w is = ap (λ l. x ∷ l) (set_same_key es i e w is)
 
 module _ {K X : Type 0} {cmp : K → K → Ordering} (o : IsTotalOrder cmp) (k : K) (es : List (K × X)) where
-  -- the key stands at the place i
+  -- the key is at the place i
   module _ (i : ℕ) (place : Ok i ≡ seek (cmp k) es) where
     pub in_range : i < length es
     in_range = (seek-Ok (cmp k) es i (sym place)).0

@@ -1,4 +1,5 @@
--- Where a query stands among entries: what a search from the first one on has found so far, and what it ends at.
+-- Where a query is among entries: what a search from the first one on has found so far, and what it
+-- ends at.
 use Rattle.std.proofs.Common.{◌≡◌, ℕ, zero, suc, ◌+◌, ◌≤◌, ◌<◌, List, [], ◌∷◌, length, get_or, refl, sym, ap, ◌∙◌, subst, arith, Ok, Err}
 use Rattle.std.specs.declared.cmp.Ordering.{Ordering}
 use Rattle.std.specs.declared.cmp.Ordering.TheVariants.{Less, Equal, Greater}

@@ -1,4 +1,5 @@
--- What the loop of `retain` keeps: the entries that are done, those to come, and what is known of the closure.
+-- What the loop of `retain` keeps: the entries that are done, those to come, and what is known of
+-- the closure.
 use Rattle.std.proofs.Common.{◌≡◌, ℕ, zero, suc, ◌+◌, ◌≤◌, ◌<◌, Bool, true, false, List, [], ◌∷◌, ◌++◌, length, get_or, set}
 use Rattle.std.proofs.Common.{refl, sym, ap, ◌∙◌, subst, append_assoc, length-append, arith}
 use Rattle.std.specs.declared.cmp.Ordering.{Ordering}
@@ -9,7 +10,7 @@ use Rattle.std_collections.proofs.Pairwise.{Pairwise-retained, from_sorted, to_s
 use Rattle.compact_map.specs.MapEntries.{IsOrdered}
 
 module _ {X : Type 0} where
-  -- the first of those to come stands at the next place
+  -- the first of those to come is at the next place
   next : (done todo : List X) (i : ℕ) (e : X) → i ≡ length done → i < length (done ++ todo) → e ≡ get_or (done ++ todo) i e
       → (tail : List X) × (todo ≡ e ∷ tail)
   next [] [] i e p l is = absurd (omega arith)
@@ -34,7 +35,8 @@ module _ {X : Type 0} where
   none_to_come done (x ∷ todo) l = absurd (omega (arith, length-append done (x ∷ todo)))
 
 module _ {F K X : Type 0} (T : F → K → X → Bool → X → F → Type 0) (Q : F → K → X → Type 0) (f₀ : F) (es₀ : List (K × X)) where
-  -- the entries at which the closure was called and that it kept, with those to come, are es, and the next one is at i
+  -- the entries at which the closure was called and that it kept, with those to come, are es, and
+  -- the next one is at i
   pub record Sifting (f : F) (es : List (K × X)) (i : ℕ) : Type 0 where
     pub done : List (K × X)
     pub todo : List (K × X)
@@ -52,7 +54,7 @@ module _ {F K X : Type 0} (T : F → K → X → Bool → X → F → Type 0) (Q
         subst (RetainsPairs T f₀ es₀) (ap (λ l. s.done ++ l) (sym none) ∙ sym s.parts)
         (s.rest [] (subst (λ l. RetainsPairs T f l []) (sym none) refl))
 
-    -- e stands at the next place
+    -- e is at the next place
     module _ (e : K × X) (l : i < length es) (is : e ≡ get_or es i e) where
       here : (tail : List (K × X)) × (s.todo ≡ e ∷ tail)
       here = next s.done s.todo i e s.place (subst (λ es. i < length es) s.parts l) (subst (λ es. e ≡ get_or es i e) s.parts is)

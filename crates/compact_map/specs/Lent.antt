@@ -6,7 +6,8 @@ use Rattle.std.specs.BTreeMap.Lent.{OrdMembers}
 use Rattle.compact_map.specs.MapEntries.{WritesThrough}
 use Rattle.compact_map.specs.contracts.map.CompactMap.{the_row}
 
--- it has the last value that is written through r, at the key that the query finds, and at `None` stays as it is (own)
+-- it has the last value that is written through r, at the key that the query finds, and at `None`
+-- stays as it is
 abbrev pub lends_get : (K V : RattleType) (g : OrdMembers K.Denot) → MutBor (List (K.Denot × V.Denot)) → (K.Denot → Ordering)
     → Option (MutBor V.Denot) → Fml
 lends_get K V g m compare r =

@@ -8,7 +8,8 @@ use Rattle.compact_map.specs.Tables.{entries_of}
 use Rattle.compact_map.specs.declared.table.Table.{Table}
 use Rattle.compact_map.specs.contracts.table.Table.{the_row}
 
--- it has the last value that is written through r, at the key that the query finds, and at `None` stays as it is (own)
+-- it has the last value that is written through r, at the key that the query finds, and at `None`
+-- stays as it is
 abbrev pub table_lends_get : (K V : RattleType) (g : OrdMembers K.Denot) → MutBor (Table K.Denot V.Denot) → (K.Denot → Ordering)
     → Option (MutBor V.Denot) → Fml
 table_lends_get K V g m compare r =

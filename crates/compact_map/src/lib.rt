@@ -1,4 +1,5 @@
-//! A map in the order of its keys: a sorted vector while it has few entries, and a tree from then on.
+//! A map in the order of its keys: a sorted vector while it has few entries, and a tree from then
+//! on.
 #![tactic(auto)]
 
 mod iter;

@@ -14,7 +14,8 @@ use crate::table::Table;
 use std::alloc::{AllocError, AllocFailed, Global};
 use std::marker::Model;
 
-/// How many entries a vector holds. The next one moves them to a tree, which needs more room at first.
+/// How many entries a vector holds. The next one moves them to a tree, which needs more room at
+/// first.
 const FEW: usize = 8;
 
 /// A map in the order of its keys, small where it has few entries.
@@ -43,7 +44,8 @@ impl<K: Ord + Drop, V: Drop> Drop for CompactMap<K, V> {
 impl<K: Ord + Clone, V: Clone> Clone for CompactMap<K, V> {
     ghost is_clone = { λ m n. IsClone K.is_clone V.is_clone m n };
 
-    /// It fails too where the clones of the keys do not ascend, since `Clone` has no law that a clone is equal.
+    /// It fails too where the clones of the keys do not ascend, since `Clone` has no law that a
+    /// clone is equal.
     fn clone(&self) -> Result<CompactMap<K, V>, AllocError> {
         match &self.table {
             Table::Few(few) => Ok(CompactMap {

@@ -72,7 +72,7 @@ impl<K: Ord, V> SortedVec<K, V> {
         &self.entries
     }
 
-    /// Where the key stands, or where it would go.
+    /// Where the key is, or where it would go.
     #[inline]
     fn find(&self, key: &K) -> Result<usize, usize>
         ensures place { result ≡ seek (K.cmp key.now) self.now }
@@ -199,7 +199,8 @@ impl<K: Ord, V> SortedVec<K, V> {
     }
 }
 
-/// Room for one entry where there is none, since most maps get no second one. An insertion asks for more, or for what this could not get.
+/// Room for one entry where there is none, since most maps get no second one. An insertion asks for
+/// more, or for what this could not get.
 #[inline]
 fn make_room<K, V>(entries: &mut Vec<(K, V)>)
     ensures items { entries.new.items ≡ entries.old.items }
@@ -210,7 +211,7 @@ fn make_room<K, V>(entries: &mut Vec<(K, V)>)
     }
 }
 
-/// Where the key stands among entries in order, or where it would go.
+/// Where the key is among entries in order, or where it would go.
 #[inline]
 fn place_of<K: Ord, V>(entries: &[(K, V)], key: &K) -> Result<usize, usize>
     ensures { result ≡ seek (K.cmp key.now) entries.now }
@@ -250,7 +251,8 @@ fn asks<K, V, F: FnMut(&K, &mut V) -> bool>(f: &mut F, entry: &mut (K, V)) -> bo
     f(&entry.0, &mut entry.1)
 }
 
-/// Moves the entries to a tree whose keys are above theirs, the last first. Whether there was memory for all.
+/// Moves the entries to a tree whose keys are above theirs, the last first. Whether there was
+/// memory for all.
 fn move_to<K: Ord + Drop, V: Drop>(entries: &mut Vec<(K, V)>, tree: &mut BTreeMap<K, V>) -> bool
     requires { IsOrdered K.cmp (entries.old.items ++ tree.old.entries) }
     ensures all { entries.new.items ++ tree.new.entries ≡ entries.old.items ++ tree.old.entries }

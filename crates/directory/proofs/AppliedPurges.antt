@@ -1,4 +1,5 @@
--- An accepted update in a purged table: its marks are later than what was dropped, so the table is the purged one with them.
+-- An accepted update in a purged table: its marks are later than what was dropped, so the table is
+-- the purged one with them.
 use Rattle.std.proofs.Common.{◌≡◌, ℕ, Bool, true, false, List, [], ◌∷◌, ◌++◌, Option, Some, None, refl, sym, ap, subst, ◌∙◌, ◌⊎◌, inl, inr, ⊎_elim}
 use Rattle.std.specs.Prelude.{◌&&◌, not, is_none, IfSome, if◌then◌else◌}
 use Rattle.std.specs.FinMap.{get, same_map}
@@ -223,7 +224,8 @@ module _ (h : List Mark) (n : List ℕ) (s : Stamp) (ms : List Mark) (known : Is
           ∙ ap (take_entry t (option_and_then (entry_left t) (entry_of h q))) (some_same (entry_of all q))
           ∙ entry_taken t h all can q None refl ∙ sym (get-purged (h ++ all) (Some t) q))
 
--- an accepted update that is applied to the purged table of a history, and is stamped later than what was dropped
+-- an accepted update that is applied to the purged table of a history, and is stamped later than
+-- what was dropped
 pub applied-purged : (h : List Mark) (u : Change) (s : Stamp) → IsHistory h → IsBefore h s → refusal_of (shown_of_name h (changed_name u)) u ≡ None
     → (a : Option Stamp) → IfSome a (λ t. is_earlier t s ≡ true) → (old new : Entries) → old ≡ purged_entries h a
     → TakesIn old new (changed_name u) (marks_of (shown_in old (changed_name u)) u s)

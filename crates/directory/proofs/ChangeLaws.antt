@@ -345,7 +345,7 @@ module _ (h : List Mark) (n : List ℕ) (e : Shown) (s : IsSeen h n e) (a v : Li
   abbrev mark : Bool → AttrMark
   mark present = Marked v (record { present = present; stamp = t })
 
-  -- behind an addition
+  -- after an addition
   pub added : ChangesValues e a (λ w. (w ≡ v) ⊎ Contains (e.values a) w) (record {
     birth = e.birth;
     kind = e.kind;
@@ -356,7 +356,7 @@ module _ (h : List Mark) (n : List ℕ) (e : Shown) (s : IsSeen h n e) (a v : Li
       let law = shown_values-added known_marks v t (attrs_before h n e.birth a t earlier) w in
       (λ c. ⊎_elim inl (λ old. inr ((values_before w).0 old)) (law.0 c), λ c. law.1 (⊎_elim inl (λ old. inr ((values_before w).1 old)) c)))
 
-  -- behind a removal
+  -- after a removal
   pub removed : ChangesValues e a (λ w. (w ≢ v) × Contains (e.values a) w) (record {
     birth = e.birth;
     kind = e.kind;
@@ -367,11 +367,11 @@ module _ (h : List Mark) (n : List ℕ) (e : Shown) (s : IsSeen h n e) (a v : Li
       let law = shown_values-removed known_marks v t (attrs_before h n e.birth a t earlier) w in
       (λ c. ((law.0 c).0, (values_before w).0 (law.0 c).1), λ c. law.1 (c.0, (values_before w).1 c.1)))
 
-  -- behind a put
+  -- after a put
   pub replaced : ChangesValues e a (λ w. w ≡ v) (record { birth = e.birth; kind = e.kind; values = values_after h n e s a (Cleared t ∷ mark true ∷ []) })
   replaced = changes-values h n e s a (Cleared t ∷ mark true ∷ []) (λ w. w ≡ v) (λ w. shown_values-put known_marks v t (attrs_before h n e.birth a t earlier) w)
 
-  -- behind a clear
+  -- after a clear
   pub cleared : ChangesValues e a (λ _. ⊥) (record { birth = e.birth; kind = e.kind; values = values_after h n e s a (Cleared t ∷ []) })
   cleared =
       changes-values h n e s a (Cleared t ∷ []) (λ _. ⊥) (λ w. (shown_values-cleared known_marks v t (attrs_before h n e.birth a t earlier) w, λ c. absurd c))

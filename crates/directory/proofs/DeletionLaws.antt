@@ -1,4 +1,5 @@
--- Which deletions a table has: after joins, after updates, and without one of them; and what is purged where one is left out.
+-- Which deletions a table has: after joins, after updates, and without one of them; and what is
+-- purged where one is left out.
 use Rattle.std.proofs.Common.{◌≡◌, ℕ, Bool, true, false, cond, List, [], ◌∷◌, Option, Some, None, refl, sym, ap, subst, ◌∙◌, ◌⊎◌, inl, inr, ⊎_elim}
 use Rattle.std.specs.Prelude.{◌≢◌, not, ◌&&◌, ◌||◌, if◌then◌else◌, IfSome}
 use Rattle.std.specs.Option.{option_and_then}
@@ -147,13 +148,14 @@ raised_valid m n k e valid entry raised q =
 
 -- ---- updates
 
--- what was lost of an entry that has one attribute, and no death: the attribute's clear, or a value of it
+-- what was lost of an entry that has one attribute, and no death: the attribute's clear, or a value
+-- of it
 abbrev CellLost : List ℕ → AttrCell → Stamp → What → Type 0
 CellLost a c s Death = ⊥
 CellLost a c s (Clear b) = (b ≡ a) × (is_at c.cleared s ≡ true)
 CellLost a c s (Absent b v) = (b ≡ a) × (is_absent (get c.values v) s ≡ true)
 
--- what is found in a map of one key is what stands there
+-- what is found in a map of one key is what is there
 in_one : {X : Type 0} (p : Option X → Bool) (a : List ℕ) (x : X) (q : List ℕ) → p None ≡ false → p (get (insert {R = octets_cmp} empty a x) q) ≡ true
     → (q ≡ a) × (p (Some x) ≡ true)
 in_one p a x q none h = at (is_octets q a) refl

@@ -1,4 +1,5 @@
--- The order of deletions: the derived one is that of the definitions, which is total, and in which deletions that tie are one.
+-- The order of deletions: the derived one is that of the definitions, which is total, and in which
+-- deletions that tie are one.
 use Rattle.std.proofs.Common.{◌≡◌, ℕ, List, false, refl, sym, ap, ◌∙◌}
 use Rattle.std.specs.declared.cmp.Ordering.{Ordering}
 use Rattle.std.specs.declared.cmp.Ordering.TheVariants.{Less, Equal, Greater}

@@ -1,4 +1,5 @@
--- Sets of deletions: what an insertion, a removal and a `retain` leave, what comes first, and loops that add what a map has.
+-- Sets of deletions: what an insertion, a removal and a `retain` leave, what comes first, and loops
+-- that add what a map has.
 use Rattle.std.proofs.Common.{◌≡◌, ◌⊎◌, inl, inr, ℕ, ◌<◌, Bool, true, false, not, cond, List, [], ◌∷◌}
 use Rattle.std.proofs.Common.{slice_get, length, Option, Some, None, Result, Ok, Err, OnOk, OnErr}
 use Rattle.std.proofs.Common.{arith, refl, sym, ap, subst, ◌∙◌}
@@ -108,7 +109,8 @@ on_result (Err e) p q f g = g q
 pub adds_none : (n : List ℕ) (x : Deletions) → AddsAt n x x
 adds_none n x = (λ d has. has, λ d apart. refl)
 
--- deletions that are added in two turns, all in the entry of one name, are added in that entry alone
+-- deletions that are added in two turns, all in the entry of one name, are added in that entry
+-- alone
 pub adds_both : (n : List ℕ) (x y z : Deletions) → AddsAt n x y → AddsAt n y z → AddsAt n x z
 adds_both n x y z a b = (λ d has. b.0 d (a.0 d has), λ d apart. b.1 d apart ∙ a.1 d apart)
 
@@ -230,7 +232,8 @@ kept_of test (x ∷ ds) d = by_case (is_deletion d x) refl (test x) refl (kept_o
     by_case false at false is rest = rest ∙ sym (ap (λ b. (b || list_any (is_at (deletion_cmp d)) ds) && test d) at)
 
 module _ {K X : Type 0} {R : K → K → Ordering} where
-  -- a loop over entries has met each value of the map m, which P says, but for those that are still to come
+  -- a loop over entries has met each value of the map m, which P says, but for those that are still
+  -- to come
   abbrev pub MetOrToCome : FinMap R X → (K → X → Type 0) → List (K × X) → Type 0
   MetOrToCome m P es = (q : K) → (find R q es ≡ get m q) ⊎ IfSome (get m q) (P q)
 

@@ -1,4 +1,5 @@
--- What is later than a stamp of an entry: taken up to a later stamp, it is what is taken of the entry.
+-- What is later than a stamp of an entry: taken up to a later stamp, it is what is taken of the
+-- entry.
 use Rattle.std.proofs.Common.{◌≡◌, ℕ, Bool, true, false, List, Option, Some, None, refl, sym, ap, subst, ◌++◌, ◌∙◌, arith}
 use Rattle.std.proofs.lemmas.Bool.Decides.{nat_tests}
 use Rattle.std.specs.Prelude.{◌&&◌, ◌==◌, not, is_none, IfSome, if◌then◌else◌}
@@ -127,7 +128,8 @@ module _ (s t : Stamp) (is : maybe later_stamp (Some s) (Some t) ≡ Some t) whe
       at true p false q = kept
       at false p bare q = kept
 
--- of two histories that can be merged, the same is taken of the other's delta as of its table, at each name
+-- of two histories that can be merged, the same is taken of the other's delta as of its table, at
+-- each name
 pub delta_taken : (h g : List Mark) (t : Stamp) → CanMerge h g (Some t) → (n : List ℕ) (s : Stamp) → maybe later_stamp (Some s) (Some t) ≡ Some t
     → take_entry t (option_and_then (entry_left t) (entry_of h n)) (option_and_then (delta_entry s) (option_and_then (entry_left s) (entry_of g n)))
     ≡ take_entry t (option_and_then (entry_left t) (entry_of h n)) (option_and_then (entry_left s) (entry_of g n))
@@ -227,7 +229,8 @@ delta_table_taken h g s t is can =
     ∙ ap (λ x. take_entry t x (get (purged_entries g (Some s)) n)) (get-purged h (Some t) n)
     ∙ ap (take_entry t (option_and_then (entry_left t) (entry_of h n))) (get-purged g (Some s) n)))
 
--- what is left of a history, with what is taken of the delta of another that can be merged, is what is left of both
+-- what is left of a history, with what is taken of the delta of another that can be merged, is what
+-- is left of both
 pub taken-delta : (h g : List Mark) (b : Option Stamp) (t : Stamp) → maybe later_stamp b (Some t) ≡ Some t → CanMerge h g (Some t)
     → take_table t (purged_entries h (Some t)) (delta_table b (purged_entries g b)) ≡ purged_entries (h ++ g) (Some t)
 taken-delta h g None t later can = taken_table h g None t later can

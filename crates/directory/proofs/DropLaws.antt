@@ -1,4 +1,5 @@
--- What is taken up to a stamp and then dropped up to it: the same as what is taken beside what was left.
+-- What is taken up to a stamp and then dropped up to it: the same as what is taken beside what was
+-- left.
 use Rattle.std.proofs.Common.{◌≡◌, Bool, true, false, List, ◌++◌, Option, Some, None, refl, sym, ap, subst, ◌∙◌, arith}
 use Rattle.std.specs.Prelude.{◌&&◌, ◌||◌, not, if◌then◌else◌, IfSome}
 use Rattle.std.specs.FinMap.{FinMap, get, same_map}
@@ -159,7 +160,8 @@ purged-ordered t h a after n = subst (λ x. IfSome x (IsOrdered t)) (sym (get-pu
     by_birth None = tt
     by_birth (Some b) = left a (entry_at h n b) (dead_after_birth t h after n b.at)
 
--- the purged table of a history, with what is taken of another that can be merged, is after the drop the purged table of both
+-- the purged table of a history, with what is taken of another that can be merged, is after the
+-- drop the purged table of both
 pub dropped-taken : (h g : List Mark) (a s : Option Stamp) (t : Stamp) → maybe later_stamp a (Some t) ≡ Some t → maybe later_stamp s (Some t) ≡ Some t
     → CanMerge h g (Some t) → purged_table t (take_table t (purged_entries h a) (purged_entries g s)) ≡ purged_entries (h ++ g) (Some t)
 dropped-taken h g a s t mine theirs can =

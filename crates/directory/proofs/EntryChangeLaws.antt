@@ -49,7 +49,7 @@ pub changes_accepted : (us : List Change) (h : List Mark) (n : List ℕ) (e : Sh
 changes_accepted [] h n e is all = tt
 changes_accepted (u ∷ us) h n e is all = one_accepted h n e u us is all.0 (λ g f shows. changes_accepted us g n f shows all.1)
 
--- and behind the creation of the entry where it is absent
+-- and after the creation of the entry where it is absent
 pub creation_accepted : (h : List Mark) (n : List ℕ) (us : List Change) → IsHistory h → AllByRecursion (ChangesValue n) us
     → AreAccepted h (creation n (is_none (shown_of_name h n)) ++ us)
 creation_accepted h n us known all = by_shown (shown_of_name h n) refl
@@ -69,7 +69,7 @@ pub each_changes : {X : Type 0} (n : List ℕ) (f : X → Change) → ((x : X) �
 each_changes n f changes [] = tt
 each_changes n f changes (x ∷ xs) = (changes x, each_changes n f changes xs)
 
--- changes of values behind others
+-- changes of values after others
 pub all_change : (n : List ℕ) (us vs : List Change) → AllByRecursion (ChangesValue n) us → AllByRecursion (ChangesValue n) vs
     → AllByRecursion (ChangesValue n) (us ++ vs)
 all_change n [] vs first second = second

@@ -185,7 +185,8 @@ pub record IsDropped (y : Deletions) (m n : Entries) : Type 0 where
   pub left : n ≡ without m d
   pub known : IsKnown y n
 
--- where the first deletion in the index goes from both, it was the first of the table, and the index knows of those left
+-- where the first deletion in the index goes from both, it was the first of the table, and the
+-- index knows of those left
 pub first_dropped : (x y : Deletions) (m n : Entries) (d : Deletion) → IsIndexed x m
     → (is_indexed x d ≡ true) × ((e : Deletion) → is_indexed x e ≡ true → is_before e d ≡ false)
     → ((e : Deletion) → is_indexed y e ≡ (if is_deletion e d then false else is_indexed x e))

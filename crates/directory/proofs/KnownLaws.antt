@@ -1,4 +1,5 @@
--- What a history knows already of marks that can be merged into it: their births, deaths and attributes up to a stamp.
+-- What a history knows already of marks that can be merged into it: their births, deaths and
+-- attributes up to a stamp.
 use Rattle.std.proofs.Common.{◌≡◌, ℕ, Bool, true, false, not, List, [], ◌∷◌, Option, Some, None, refl, sym, ap, ◌∙◌, ⊎_elim, arith}
 use Rattle.std.specs.Prelude.{◌&&◌, if◌then◌else◌}
 use Rattle.std.specs.List.{Contains, list_any}
@@ -23,7 +24,7 @@ use Rattle.directory.proofs.MemberLaws.{found_in, finds}
 use Rattle.directory.proofs.SeenLaws.{birth_among}
 use Rattle.directory.proofs.UpdateLaws.{all_at, or_left, or_right, not_both}
 
--- what the other has up to t is known (own)
+-- what the other has up to t is known
 abbrev pub Covers : Stamp → List Mark → List Mark → Type 0
 Covers t h g = (m : Mark) → Contains (up_to g (Some t)) m → Contains h m
 

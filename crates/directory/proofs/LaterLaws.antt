@@ -1,5 +1,6 @@
--- What is taken of another table up to a stamp: what is later of an entry changes nothing where the entry changes nothing; and the
--- loops that take it in turn, that make an index of deletions, and a table of what is later.
+-- What is taken of another table up to a stamp: what is later of an entry changes nothing where the
+-- entry changes nothing; and the loops that take it in turn, that make an index of deletions, and a
+-- table of what is later.
 use Rattle.std.proofs.Common.{◌≡◌, Bool, true, false, cond, List, [], ◌∷◌, Option, Some, None, refl, sym, ap, subst, ◌∙◌, ◌⊎◌, inl, inr, ⊎_elim}
 use Rattle.std.proofs.Common.{is_eq, arith, Result, Ok, Err, OnOk, OnErr}
 use Rattle.std.proofs.lemmas.Bool.{false≢true}
@@ -131,7 +132,7 @@ put_elsewhere old new k l y put name q other =
     at true same = absurd (other (ties_are_equal octets_exact q l same ∙ name))
     at false same = refl
 
--- a pair behind others is inserted into their table
+-- a pair after others is inserted into their table
 pub inserted_last : (old new : List (List ℕ × EntryCell)) (k : List ℕ) (x : EntryCell) → new ≡ old ++ (k, x) ∷ []
     → insert_each new ≡ insert (insert_each old) k x
 inserted_last old new k x is = ap insert_each is ∙ fold-append (λ m p. insert m p.0 p.1) empty old ((k, x) ∷ [])
@@ -153,7 +154,7 @@ module _ {K X Y : Type 0} {R : K → K → Ordering} (o : IsTotalOrder R) (same 
   abbrev Stands : FinMap R X → FinMap R Y → List (K × X) → K → Type 0
   Stands m new es q = ((get new q ≡ get base q) × (lookup (is_at (R q)) es ≡ get m q)) ⊎ ((lookup (is_at (R q)) es ≡ None) × P q (get new q))
 
-  -- each key of the new map stands so, beside the entries still to come
+  -- each key of the new map is so, beside the entries still to come
   abbrev pub InTurn : FinMap R X → FinMap R Y → List (K × X) → Type 0
   InTurn m new es = IsStrictlySortedBy R (keys_of es) × ((q : K) → Stands m new es q)
 
@@ -294,7 +295,8 @@ pub rest_starts : (x : Deletions) (m : Entries) (items : List (List ℕ × Entry
 rest_starts x m items all d has = inl (ap (λ e. is_lost e d.stamp d.what)
     (ap (lookup (is_at (octets_cmp d.name))) all ∙ lookup-entries nat_list_cmp_total octets_exact m d.name) ∙ has)
 
--- each deletion is known or still to come where the index got to know of those of the entry that came
+-- each deletion is known or still to come where the index got to know of those of the entry that
+-- came
 pub rest_step : (x y : Deletions) (m : Entries) (k : List ℕ) (e : EntryCell) (es rest : List (List ℕ × EntryCell)) → es ≡ (k, e) ∷ rest → Keeps x y
     → ((s : Stamp) (w : What) → has_lost e s w ≡ true → is_indexed y (record { stamp = s; name = k; what = w }) ≡ true)
     → KnowsRest x m es → KnowsRest y m rest
@@ -328,7 +330,8 @@ module _ (x y : Deletions) (m n : Entries) (indexed : IsIndexed x m) (keeps : Ke
   pub stays_known : (next : Entries) → next ≡ m → IsValidTable next × KnowsAll y next
   stays_known next is = subst (λ m. IsValidTable m × KnowsAll y m) (sym is) (indexed.valid, λ d has. keeps d (indexed.all d has))
 
-  -- so are entries that others are joined into, whose deletions it knows too, whether there was memory or not
+  -- so are entries that others are joined into, whose deletions it knows too, whether there was
+  -- memory or not
   pub joins_known : {A E : Type 0} (r : Result A E) (next : Entries) → IsValidTable n → KnowsAll y n
       → OnOk r (IsValidTable m → IsValidTable n → next ≡ join_tables m n) → OnErr r (next ≡ m) → IsValidTable next × KnowsAll y next
   joins_known (Err e) next valid knows ok err = stays_known next err

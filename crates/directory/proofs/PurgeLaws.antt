@@ -1,4 +1,5 @@
--- Tables of which deletions are dropped: again, beside what is later, valid, and showing what they showed.
+-- Tables of which deletions are dropped: again, beside what is later, valid, and showing what they
+-- showed.
 use Rattle.std.proofs.Common.{◌≡◌, ℕ, Bool, true, false, List, [], ◌∷◌, Option, Some, None, refl, sym, ap, subst, ◌∙◌, arith}
 use Rattle.std.specs.Prelude.{not, if◌then◌else◌, IfSome}
 use Rattle.std.specs.FinMap.{FinMap, IsAntisymmetric, get, insert, same_map}

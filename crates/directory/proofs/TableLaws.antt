@@ -65,7 +65,8 @@ table_of-marks h ms n e p q about made k =
 pub table_of-nil : table_of [] ≡ empty
 table_of-nil = same_map nat_list_cmp_total octets_exact (table_of []) empty (λ n. get-table_of [] n ∙ sym (get-empty octets_cmp n))
 
--- a table into which the entry of the marks of one name was joined is the table of the history with these marks
+-- a table into which the entry of the marks of one name was joined is the table of the history with
+-- these marks
 pub joined-table_of : (h ms : List Mark) (n : List ℕ) (e : EntryCell) (old new : Entries) → HasBirths h → HasBirths ms
     → AllByRecursion (λ m. name_in m ≡ n) ms → entry_of ms n ≡ Some e → old ≡ table_of h
     → (IfSome (get old n) IsValidEntry → IsValidEntry e → RaisesAt join_entries old new n e) → new ≡ table_of (h ++ ms)

@@ -1,4 +1,5 @@
--- What is taken up to a stamp of another table: of two histories that can be merged it makes the purged table of both.
+-- What is taken up to a stamp of another table: of two histories that can be merged it makes the
+-- purged table of both.
 use Rattle.std.proofs.Common.{◌≡◌, ℕ, Bool, true, false, List, [], ◌∷◌, ◌++◌, Option, Some, None, refl, sym, ap, subst, ◌∙◌, arith}
 use Rattle.std.specs.Prelude.{◌&&◌, ◌||◌, not, if◌then◌else◌}
 use Rattle.std.specs.FinMap.{get, same_map}

@@ -1,4 +1,5 @@
--- What an update may undo: each deletion that it does not touch the table still has, and it adds none such to the index.
+-- What an update may undo: each deletion that it does not touch the table still has, and it adds
+-- none such to the index.
 use Rattle.std.proofs.Common.{◌≡◌, ℕ, Bool, true, false, cond, List, [], ◌∷◌, Option, Some, None, refl, sym, ap, subst, ◌∙◌}
 use Rattle.std.specs.Prelude.{◌≢◌, ◌&&◌, is_none, if◌then◌else◌, IfSome}
 use Rattle.std.specs.Option.{option_and_then, IsSomeAnd}

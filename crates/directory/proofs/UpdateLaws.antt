@@ -41,7 +41,7 @@ all_map : {X : Type 0} (P Q : X → Type 0) → ((x : X) → P x → Q x) → (x
 all_map P Q f [] p = tt
 all_map P Q f (x ∷ xs) p = (f x p.0, all_map P Q f xs p.1)
 
--- what holds of each item holds of one that stands there
+-- what holds of each item holds of one that is there
 pub all_at : {X : Type 0} (P : X → Type 0) (xs : List X) (x : X) → AllByRecursion P xs → Contains xs x → P x
 all_at P [] x p c = absurd (Contains-none x c)
 all_at P (y ∷ xs) x p c = ⊎_elim (λ same. subst P same p.0) (λ r. all_at P xs x p.1 r) (Contains-cases y xs x c)
@@ -279,7 +279,8 @@ module _ (h : List Mark) (u : Change) (s : Stamp) (known : IsHistory h) (before 
   pub marks_of-names : AllByRecursion (λ m. name_in m ≡ changed_name u) (marks_of (shown_of_name h (changed_name u)) u s)
   marks_of-names = subst (AllByRecursion (λ m. name_in m ≡ changed_name u)) (sym update.marks) (names_of_all h (changed_name u) s _ known before update)
 
-  -- the table of a house that accepts it: its fragment is joined in, and the table is that of the history with the marks
+  -- the table of a house that accepts it: its fragment is joined in, and the table is that of the
+  -- history with the marks
   pub accepted-table_of : (old new : Entries) (f : Fragment) → old ≡ table_of h → f.name ≡ changed_name u
       → entry_of (marks_of (shown_in old (changed_name u)) u s) f.name ≡ Some f.entry
       → (IfSome (get old f.name) IsValidEntry → IsValidEntry f.entry → RaisesAt join_entries old new f.name f.entry)

@@ -1,4 +1,5 @@
--- Words of a private model: values that tell two ways back apart, which a log of changed cells is told apart by (own).
+-- Words of a private model: values that tell two ways back apart, which a log of changed cells is
+-- told apart by.
 use Rattle.std.specs.Prelude.{◌≡◌, ℕ, ◌⊎◌, List, Option, refl}
 use Rattle.std.proofs.Common.{inl, inr}
 use Rattle.std.specs.Coded.{Coded, code_by, coded×, coded⊎, coded_list, coded_option}

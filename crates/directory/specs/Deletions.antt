@@ -1,4 +1,5 @@
--- Deletions in a table: of what, in which order, and what is left without one (own, after C705, deletions and their timestamps).
+-- Deletions in a table: of what, in which order, and what is left without one (own, after C705,
+-- deletions and their timestamps).
 use Rattle.std.specs.Prelude.{Bool, true, false, not, ◌&&◌, ◌≡◌, ℕ, List, [], Option, Some, None}
 use Rattle.std.specs.declared.cmp.Ordering.{Ordering}
 use Rattle.std.specs.Ordering.{nat_cmp, ordering_then, is_lt, eq_by_cmp}

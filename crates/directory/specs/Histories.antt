@@ -18,8 +18,8 @@ use Rattle.directory.specs.declared.entry.EntryCell.{EntryCell}
 use Rattle.directory.specs.Entries.{Entries}
 use Rattle.directory.specs.Kinds.{kind_cmp}
 
--- A stamped fact about the entry n that was born at c: its birth with its kind, its death at s, or a mark of its
--- attribute a, which is a clear or a value that is present or absent (own)
+-- A stamped fact about the entry n that was born at c: its birth with its kind, its death at s, or
+-- a mark of its attribute a, which is a clear or a value that is present or absent (own)
 pub data Mark : Type 0 where
   Birth : (n : List ℕ) → (kind : Kind) → (c : Stamp) → Mark
   Death : (n : List ℕ) → (c s : Stamp) → Mark
@@ -105,8 +105,8 @@ entry_at h n b = record { birth = b.at; kind = b.kind; death = death_of h n b.at
 abbrev pub entry_of : List Mark → List ℕ → Option EntryCell
 entry_of h n = option_map (entry_at h n) (birth_of h n)
 
--- the table of a history: of each name the greatest birth, its least death, and of each attribute the greatest clear
--- and the greatest marks that it keeps (own)
+-- the table of a history: of each name the greatest birth, its least death, and of each attribute
+-- the greatest clear and the greatest marks that it keeps (own)
 abbrev pub table_of : List Mark → Entries
 table_of h = of_keys (map name_in h) (entry_of h)
 
@@ -147,7 +147,8 @@ IsBefore h s = (m : Mark) → Contains h m → is_earlier (stamp_in m) s ≡ tru
 abbrev pub SameMarks : List Mark → List Mark → Type 0
 SameMarks g h = (m : Mark) → Contains g m ↔ Contains h m
 
--- these marks can be merged into this history: what they have up to t it has, and both and their union are histories (own)
+-- these marks can be merged into this history: what they have up to t it has, and both and their
+-- union are histories (own)
 pub record CanMerge (history marks : List Mark) (t : Option Stamp) : Type 0 where
   pub covered : (m : Mark) → Contains (up_to marks t) m → Contains history m
   pub mine : IsHistory history

@@ -1,4 +1,5 @@
--- Updates of an entry that a table has: a deletion, and changes of an attribute (own, after C705, updates to replicas).
+-- Updates of an entry that a table has: a deletion, and changes of an attribute (own, after C705,
+-- updates to replicas).
 use Rattle.std.specs.Prelude.{◌≡◌, ℕ, Bool, true, false, List, Option, Some, None, Result, IfOk, OnOk, OnErr}
 use Rattle.std.specs.Result.{result_err}
 use Rattle.cds_stamps.specs.declared.stamp.Stamp.{Stamp}
@@ -24,7 +25,8 @@ is_own (MakeChild n pointer) = false
 is_own (Repoint n master others) = false
 is_own u = true
 
--- an update of an entry of this kind is refused: the deletion of a child, or a change of a reserved attribute (own)
+-- an update of an entry of this kind is refused: the deletion of a child, or a change of a reserved
+-- attribute (own)
 abbrev pub is_wrong : OwnUpdate → Kind → Bool
 is_wrong own.Delete k = is_child k
 is_wrong (own.Change a c) k = is_reserved a.now
@@ -39,7 +41,8 @@ abbrev pub own_made : OwnUpdate → EntryCell → Stamp → EntryCell
 own_made own.Delete e s = deleted_entry e s
 own_made (own.Change a c) e s = changed_entry e a.now (change_marks c s)
 
--- o is what the update u does to an entry: it is refused as u is, and makes what the marks of u make (own)
+-- o is what the update u does to an entry: it is refused as u is, and makes what the marks of u
+-- make (own)
 pub record IsOwnUpdate (u : Change) (o : OwnUpdate) : Type 0 where
   pub refusal : (e : Option Shown) → refusal_of e u ≡ own_refusal e o
   pub entry : (e : EntryCell) (s : Stamp) → entry_of (marks_of (Some (face_of e)) u s) (changed_name u) ≡ Some (own_made o e s)

@@ -1,4 +1,5 @@
--- What a reader sees of a history or of a table, and what an update means there (own, after C705, reading and updating a replica).
+-- What a reader sees of a history or of a table, and what an update means there (own, after C705,
+-- reading and updating a replica).
 use Rattle.std.specs.Prelude.{◌≡◌, ◌≢◌, ◌↔◌, ℕ, Bool, true, false, ◌&&◌, ◌||◌, not, ◌==◌}
 use Rattle.std.specs.Prelude.{List, [], ◌∷◌, length, filter, count_by, Option, Some, None, is_none, is_some, if◌then◌else◌}
 use Rattle.std.specs.FinMap.{get, entries}
@@ -33,13 +34,15 @@ targets = filter is_full_name
 abbrev pub pointers : List (List ℕ) → List (List ℕ)
 pointers = filter is_child_pointer
 
--- the octets say where an entry of this kind leads: a link by a full name, a child by a child pointer (own)
+-- the octets say where an entry of this kind leads: a link by a full name, a child by a child
+-- pointer (own)
 abbrev pub is_readable : Kind → List ℕ → Bool
 is_readable Object = λ _. false
 is_readable Link = is_full_name
 is_readable Child = is_child_pointer
 
--- an object needs no value; a link and a child need exactly one readable value of their attribute (own)
+-- an object needs no value; a link and a child need exactly one readable value of their attribute
+-- (own)
 abbrev pub leads : Kind → (List ℕ → List (List ℕ)) → Bool
 leads Object values = true
 leads Link values = length (targets (values link_target)) == 1
@@ -51,7 +54,8 @@ only_one [] = None
 only_one (x ∷ []) = Some x
 only_one (x ∷ y ∷ xs) = None
 
--- where a link or a child leads: its one readable value; none, where there is not exactly one, and for an object (own)
+-- where a link or a child leads: its one readable value; none, where there is not exactly one, and
+-- for an object (own)
 abbrev pub lead_of : Shown → Option (List ℕ)
 lead_of e = lead_by e.kind e.values
   where
@@ -88,7 +92,8 @@ shown_entry e = shown_if_live e.death (face_of e)
 abbrev pub shown_in : Entries → List ℕ → Option Shown
 shown_in t n = option_and_then shown_entry (get t n)
 
--- f shows what e does, except that of the attribute a it shows exactly the values for which P holds (own)
+-- f shows what e does, except that of the attribute a it shows exactly the values for which P holds
+-- (own)
 pub record ChangesValues (e : Shown) (a : List ℕ) (P : List ℕ → Type 0) (f : Shown) : Type 0 where
   pub birth : f.birth ≡ e.birth
   pub kind : f.kind ≡ e.kind

@@ -19,7 +19,8 @@ pub record AcceptsUpdate {E : Type 0} (old new : Entries) (u : Change) (s : Stam
   pub refused : IfOk r (λ a. OnErr a (new ≡ old))
   pub err : OnErr r (new ≡ old)
 
--- an update with a stamp is applied, and its fragment is told; or it is told why it is refused (own)
+-- an update with a stamp is applied, and its fragment is told; or it is told why it is refused
+-- (own)
 pub record TellsUpdate {E : Type 0} (old new : Entries) (u : Change) (s : Stamp) (r : Result (Result Fragment UpdateRefusal) E) : Type 0 where
   pub answer : IfOk r (λ a. result_err a ≡ refusal_of (shown_in old (changed_name u)) u)
   pub ok : IfOk r (λ a. OnOk a (TakesIn old new (changed_name u) (marks_of (shown_in old (changed_name u)) u s)))

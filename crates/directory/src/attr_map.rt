@@ -47,8 +47,8 @@ impl Model for AttrMap {
     ghost view = { λ m. map.from_entries m.cells };
 }
 
-/// What takes changes of a map of cells back: each attribute that was changed, and what mends its cell; none, where the
-/// attribute was new.
+/// What takes changes of a map of cells back: each attribute that was changed, and what mends its
+/// cell; none, where the attribute was new.
 #[derive(Drop)]
 pub(crate) struct CellLog {
     changes: Vec<(AttrName, Option<CellUndo>)>,
@@ -136,7 +136,8 @@ impl AttrMap {
         self.clone()
     }
 
-    /// The cell of the attribute whose name has these octets. It takes no memory, and goes through the attributes.
+    /// The cell of the attribute whose name has these octets. It takes no memory, and goes through
+    /// the attributes.
     pub(crate) fn find(&self, octets: &[u8]) -> Option<&AttrCell>
         ensures { option_copied result ≡ map.get self.now octets.now }
     {
@@ -161,7 +162,8 @@ impl AttrMap {
         }
     }
 
-    /// Adds the marks of a change to the cell of an attribute, in place, with at most one insertion.
+    /// Adds the marks of a change to the cell of an attribute, in place, with at most one
+    /// insertion.
     pub(crate) fn change(
         &mut self,
         alloc: Global,

@@ -55,8 +55,9 @@ impl Drop for Deletion {
     }
 }
 
-/// The deletions that a table has, and some that it had: those are thrown away when they come first, or when it knows of more
-/// than `most`. That is twice as many as the last sweep left, and so at most twice what the table held then, or `FEW`.
+/// The deletions that a table has, and some that it had: those are thrown away when they come
+/// first, or when it knows of more than `most`. That is twice as many as the last sweep left, and
+/// so at most twice what the table held then, or `FEW`.
 #[derive(Drop)]
 pub(crate) struct Deletions {
     known: BTreeSet<Deletion>,
@@ -84,7 +85,8 @@ fn deletion_of(alloc: Global, update: &Update, stamp: Stamp) -> Result<Option<De
     }))
 }
 
-/// Whether an update may undo what was deleted of its entry: one of a value undoes the absence of that value alone.
+/// Whether an update may undo what was deleted of its entry: one of a value undoes the absence of
+/// that value alone.
 fn reaches(update: &Update, what: &What) -> bool
     ensures { result ≡ may_undo (change_of update.now) what.now }
 {
@@ -297,7 +299,8 @@ impl Deletions {
         Ok(())
     }
 
-    /// Throws away what comes first and is no deletion of the entries any more, or all that is none, where it knows of too many.
+    /// Throws away what comes first and is no deletion of the entries any more, or all that is
+    /// none, where it knows of too many.
     pub(crate) fn settle(&mut self, entries: &EntryMap)
         ensures all { KnowsAll self.old entries.now → KnowsAll self.new entries.now }
         ensures fewer { Keeps self.new self.old }
@@ -310,7 +313,8 @@ impl Deletions {
         while self.pop_outdated(entries) {}
     }
 
-    /// Settles after a change of the entry of this name alone: where another name comes first, that is no less a deletion than before.
+    /// Settles after a change of the entry of this name alone: where another name comes first, that
+    /// is no less a deletion than before.
     pub(crate) fn settle_at(&mut self, entries: &EntryMap, name: &SimpleName)
         ensures all { KnowsAll self.old entries.now → KnowsAll self.new entries.now }
         ensures first { BeginsWellElsewhere name.now self.old entries.now
@@ -334,7 +338,8 @@ impl Deletions {
         }
     }
 
-    /// Settles after an update: where what comes first is a deletion that it cannot undo, that is no less one than before.
+    /// Settles after an update: where what comes first is a deletion that it cannot undo, that is
+    /// no less one than before.
     pub(crate) fn settle_after(&mut self, entries: &EntryMap, update: &Update)
         ensures all { KnowsAll self.old entries.now → KnowsAll self.new entries.now }
         ensures first { BeginsWellBeside (change_of update.now) self.old entries.now
@@ -376,7 +381,8 @@ impl Deletions {
         }
     }
 
-    /// Throws away all that is no deletion of the entries any more. From then on it may keep twice as many as are left.
+    /// Throws away all that is no deletion of the entries any more. From then on it may keep twice
+    /// as many as are left.
     fn sweep(&mut self, entries: &EntryMap)
         ensures left { (d : Deletion)
             → is_indexed self.new d ≡ (is_indexed self.old d && has_deletion entries.now d) }

@@ -103,8 +103,9 @@ impl EntryCell {
         self.clone()
     }
 
-    /// Whether it shows: it is not known to be dead, and a link or a child has exactly one readable value of its attribute.
-    /// It takes no memory. Of a link or a child it goes through the attributes, and through the values of one.
+    /// Whether it shows: it is not known to be dead, and a link or a child has exactly one readable
+    /// value of its attribute. It takes no memory. Of a link or a child it goes through the
+    /// attributes, and through the values of one.
     pub fn is_live(&self) -> bool
         ensures { result ≡ is_some (shown_entry self.now) }
     {
@@ -119,7 +120,8 @@ impl EntryCell {
         if self.is_live() { Some(self) } else { None }
     }
 
-    /// The values of an attribute that are present, ascending. Where it has no cell no memory is asked for.
+    /// The values of an attribute that are present, ascending. Where it has no cell no memory is
+    /// asked for.
     pub fn values(&self, alloc: Global, attr: &AttrName) -> Result<Vec<Value>, AllocError>
         ensures values { IfOk result (λ found. found.items ≡ entry_values self.now attr.now) }
         ensures none { map.get self.now.attrs attr.now ≡ None → IsOk result }
@@ -130,8 +132,9 @@ impl EntryCell {
         }
     }
 
-    /// Where it leads: for a link the value that spells its target, for a child the value of its pointer. None for an
-    /// object, and where not exactly one value that is present reads so, whether the entry is dead or not. Takes no memory.
+    /// Where it leads: for a link the value that spells its target, for a child the value of its
+    /// pointer. None for an object, and where not exactly one value that is present reads so,
+    /// whether the entry is dead or not. Takes no memory.
     pub fn lead(&self) -> Option<&Value>
         ensures { option_copied result ≡ lead_of (face_of self.now) }
     {
@@ -163,7 +166,8 @@ impl EntryCell {
         }
     }
 
-    /// The value that is present in an attribute and reads by the entry's kind, if it is the only one.
+    /// The value that is present in an attribute and reads by the entry's kind, if it is the only
+    /// one.
     fn only_readable(&self, attr: &[u8]) -> Option<&Value>
         ensures { option_copied result
             ≡ only_one (filter (is_readable self.now.kind) (entry_values self.now attr.now)) }
@@ -233,7 +237,8 @@ impl EntryCell {
         Ok(Ok(()))
     }
 
-    /// Adds the marks of an update, in place, and gives the fragment of them, for the name; or refuses it.
+    /// Adds the marks of an update, in place, and gives the fragment of them, for the name; or
+    /// refuses it.
     pub(crate) fn accept_told(
         &mut self,
         alloc: Global,
@@ -354,8 +359,8 @@ impl EntryCell {
         false
     }
 
-    /// Joins another entry in. What takes it back. Where the other birth is later, the old entry is kept whole. Where it is
-    /// earlier no memory is asked for.
+    /// Joins another entry in. What takes it back. Where the other birth is later, the old entry is
+    /// kept whole. Where it is earlier no memory is asked for.
     pub(crate) fn join_logged(
         &mut self,
         alloc: Global,
@@ -438,7 +443,8 @@ impl EntryCell {
         }
     }
 
-    /// What of it is later than t, with its birth, however old: its death, and the clears and the marks of its attributes.
+    /// What of it is later than t, with its birth, however old: its death, and the clears and the
+    /// marks of its attributes.
     pub fn after(&self, alloc: Global, t: Stamp) -> Result<EntryCell, AllocError>
         ensures { IfOk result (λ e. e ≡ after_entry t self.now) }
     {
@@ -482,7 +488,8 @@ impl EntryCell {
         self.death.is_none() && self.attrs.len() == 0
     }
 
-    /// Whether each of its cells is valid and not empty, as those of a table are. It takes no memory.
+    /// Whether each of its cells is valid and not empty, as those of a table are. It takes no
+    /// memory.
     pub fn is_valid(&self) -> bool
         ensures { IsTrue result ↔ IsValidEntry self.now }
     {
@@ -500,7 +507,8 @@ impl EntryCell {
         }
     }
 
-    /// Drops a clear of an attribute or the mark of a value, and an attribute of which nothing is left. A death stays.
+    /// Drops a clear of an attribute or the mark of a value, and an attribute of which nothing is
+    /// left. A death stays.
     pub(crate) fn drop_lost(&mut self, what: &What)
         ensures { IfSome (entry_without what.now self.old) (λ e. self.new ≡ e) }
     {
@@ -511,7 +519,8 @@ impl EntryCell {
         }
     }
 
-    /// The entry itself, its death, and the clears and marks of its attributes, counted as far as 64 bits go.
+    /// The entry itself, its death, and the clears and marks of its attributes, counted as far as
+    /// 64 bits go.
     pub fn held(&self) -> u64
         ensures { result ≡ min (held_in_entry self.now) most_held }
     {

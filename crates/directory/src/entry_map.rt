@@ -1,4 +1,4 @@
-// A map of entries by name. What updates and other tables do to it stands in the modules below.
+// A map of entries by name. What updates and other tables do to it is in the modules below.
 ghost use Rattle.std.specs.Prelude.{◌≡◌, Some, IfOk, IfSome, OnOk, OnErr, option_copied};
 ghost use Rattle.std.specs.FinMap as map;
 ghost use Rattle.std.specs.BTreeMap as tree;
@@ -93,8 +93,8 @@ impl EntryMap {
         Ok(self.entries.insert(name, entry)?)
     }
 
-    /// The table of these entries, inserted in turn, and faster than that where their names ascend: each is compared with the
-    /// next one alone.
+    /// The table of these entries, inserted in turn, and faster than that where their names ascend:
+    /// each is compared with the next one alone.
     pub(crate) fn from_pairs(
         alloc: Global,
         pairs: Vec<(SimpleName, EntryCell)>,

@@ -11,7 +11,8 @@ use std::alloc::{AllocError, Global};
 use std::collections::btree_map::Iter;
 use std::marker::Model;
 
-/// Entries of a table, valid, in ascending order of their names, without an index of their deletions: what is read or written once.
+/// Entries of a table, valid, in ascending order of their names, without an index of their
+/// deletions: what is read or written once.
 pub struct Excerpt {
     pub(crate) entries: EntryMap,
 }
@@ -62,8 +63,8 @@ impl Excerpt {
         self.entries.iter()
     }
 
-    /// The excerpt of these entries, inserted in turn, and faster than that where their names ascend: each is compared with the
-    /// next one alone.
+    /// The excerpt of these entries, inserted in turn, and faster than that where their names
+    /// ascend: each is compared with the next one alone.
     pub fn from_pairs(
         alloc: Global,
         pairs: Vec<(SimpleName, EntryCell)>,

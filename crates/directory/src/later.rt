@@ -36,7 +36,8 @@ pub(crate) fn take_later(
     taken
 }
 
-/// Joins in what of other entries is later than t, and adds its deletions. Where memory runs out the entries are as before.
+/// Joins in what of other entries is later than t, and adds its deletions. Where memory runs out
+/// the entries are as before.
 fn take_all(
     entries: &mut EntryMap,
     deletions: &mut Deletions,
@@ -61,7 +62,8 @@ fn take_all(
     Ok(())
 }
 
-/// Joins in what of each other entry is later than t, logged before the next one, and adds its deletions.
+/// Joins in what of each other entry is later than t, logged before the next one, and adds its
+/// deletions.
 fn take_each(
     entries: &mut EntryMap,
     deletions: &mut Deletions,
@@ -85,8 +87,8 @@ fn take_each(
     Ok(())
 }
 
-/// Joins in what of one other entry is later than t, unless it is passed by or changes nothing. A copy is made only where not all of
-/// it is later.
+/// Joins in what of one other entry is later than t, unless it is passed by or changes nothing. A
+/// copy is made only where not all of it is later.
 fn take_one(
     entries: &mut EntryMap,
     deletions: &mut Deletions,
@@ -154,8 +156,8 @@ pub(crate) fn add_deletions(
     Ok(())
 }
 
-/// What of each entry is later than t, with its birth: a copy of that, and of nothing else. Entries of which a birth up to t
-/// alone is left are not in it.
+/// What of each entry is later than t, with its birth: a copy of that, and of nothing else. Entries
+/// of which a birth up to t alone is left are not in it.
 pub(crate) fn later_entries(alloc: Global, own: &EntryMap, t: Stamp) -> Result<EntryMap, AllocError>
     ensures { IfOk result (λ d. d ≡ delta_table (Some t) own.now) }
 {
@@ -167,7 +169,8 @@ pub(crate) fn later_entries(alloc: Global, own: &EntryMap, t: Stamp) -> Result<E
     EntryMap::from_pairs(alloc, later)
 }
 
-/// Puts what is later than t of the entry of a name after that of other names, unless it is a birth up to t alone.
+/// Puts what is later than t of the entry of a name after that of other names, unless it is a birth
+/// up to t alone.
 fn put_delta(
     later: &mut Vec<(SimpleName, EntryCell)>,
     alloc: Global,
@@ -187,7 +190,8 @@ fn put_delta(
     Ok(())
 }
 
-/// Whether nothing is taken up to t of an entry, beside the one that its name has: it is passed by, or changes nothing.
+/// Whether nothing is taken up to t of an entry, beside the one that its name has: it is passed by,
+/// or changes nothing.
 fn is_known(own: Option<&EntryCell>, entry: &EntryCell, t: Stamp) -> bool
     ensures known { IsTrue result → IfSome (option_copied own.entry) IsValidEntry
         → IsValidEntry entry.now →

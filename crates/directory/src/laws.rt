@@ -51,7 +51,8 @@ pub fn marks_of_one_name_join_in()
         entry_of marks n ≡ Some e → RaisesAt join_entries (table_of h) (table_of (h ++ marks)) n e }
 {}
 
-/// The marks of an accepted update, stamped later than the history, belong together, with the history and to one name.
+/// The marks of an accepted update, stamped later than the history, belong together, with the
+/// history and to one name.
 pub fn accepted_marks_belong()
     ensures together { (h : List Mark) (u : Change) (s : Stamp) → IsHistory h → IsBefore h s
         → refusal_of (shown_of_name h (changed_name u)) u ≡ None →
@@ -65,7 +66,8 @@ pub fn accepted_marks_belong()
         (marks_of (shown_of_name h (changed_name u)) u s) }
 {}
 
-/// A table that stands for a history stands for it with the marks of one name, once their entry is joined in.
+/// A table that stands for a history stands for it with the marks of one name, once their entry is
+/// joined in.
 pub fn joined_tables_stand()
     ensures { (h marks : List Mark) (n : List ℕ) (e : EntryCell) (old new : Entries) → HasBirths h
         → HasBirths marks →
@@ -94,10 +96,11 @@ pub fn applied_tables_stand()
         → new ≡ table_of (h ++ marks_of (shown_of_name h (changed_name u)) u s) }
 {}
 
-/// An accepted update, stamped later than the history, shows at once, and changes what shows of its name alone: a created
-/// object shows with no values, a new link and a new child show with their one value, a deleted entry no longer shows, and
-/// of a live entry one attribute is changed alone. A repointed child is still a child of the same birth, and its pointer
-/// is the new one alone, to the same directory.
+/// An accepted update, stamped later than the history, shows at once, and changes what shows of its
+/// name alone: a created object shows with no values, a new link and a new child show with their
+/// one value, a deleted entry no longer shows, and of a live entry one attribute is changed alone.
+/// A repointed child is still a child of the same birth, and its pointer is the new one alone, to
+/// the same directory.
 pub fn accepted_updates_show()
     ensures others { (h : List Mark) (u : Change) (s : Stamp) → IsHistory h → IsBefore h s
         → refusal_of (shown_of_name h (changed_name u)) u ≡ None →
@@ -147,8 +150,8 @@ pub fn accepted_updates_show()
         → (s : Stamp) → shown_of_name (h ++ marks_of (shown_of_name h n) (Delete n) s) n ≡ None }
 {}
 
-/// A new link leads to its target, and a new or repointed child by its new pointer. An entry that shows leads somewhere,
-/// unless it is an object, and where one leads reads as what its kind needs.
+/// A new link leads to its target, and a new or repointed child by its new pointer. An entry that
+/// shows leads somewhere, unless it is an object, and where one leads reads as what its kind needs.
 pub fn accepted_updates_lead()
     ensures linked { (h : List Mark) (n : List ℕ) (target : List (List ℕ)) (s : Stamp) → IsHistory h
         → IsBefore h s → IsComponentList target →
@@ -171,8 +174,8 @@ pub fn accepted_updates_lead()
     ensures read { (e : Shown) (v : List ℕ) → lead_of e ≡ Some v → is_readable e.kind v ≡ true }
 {}
 
-/// Changes of an entry's values are accepted one after the other where the entry shows, and behind its creation where it is
-/// absent.
+/// Changes of an entry's values are accepted one after the other where the entry shows, and after
+/// its creation where it is absent.
 pub fn entry_changes_are_accepted()
     ensures shown { (h : List Mark) (n : List ℕ) (e : Shown) (us : List Change)
         → shown_of_name h n ≡ Some e
@@ -193,8 +196,9 @@ pub fn purged_tables_show_histories()
         → shown_in (purged_entries h t) n ≡ shown_of_name h n }
 {}
 
-/// What is taken up to a stamp of a purged table, of marks that can be merged, makes the purged table of both: beside a table
-/// that was purged up to that stamp, and beside one that was purged up to an earlier one, where deletions are dropped afterwards.
+/// What is taken up to a stamp of a purged table, of marks that can be merged, makes the purged
+/// table of both: beside a table that was purged up to that stamp, and beside one that was purged
+/// up to an earlier one, where deletions are dropped afterwards.
 pub fn purged_tables_merge()
     ensures purged { (h g : List Mark) (s : Option Stamp) (t : Stamp)
         → maybe later_stamp s (Some t) ≡ Some t → CanMerge h g (Some t) →
@@ -207,8 +211,8 @@ pub fn purged_tables_merge()
         ≡ purged_entries (h ++ g) (Some t) }
 {}
 
-/// A purged table stands for a history with the marks of an accepted update, once it is applied in place: where the update is
-/// stamped later than what was dropped.
+/// A purged table stands for a history with the marks of an accepted update, once it is applied in
+/// place: where the update is stamped later than what was dropped.
 pub fn applied_purged_tables_stand()
     ensures { (h : List Mark) (u : Change) (s : Stamp) → IsHistory h → IsBefore h s
         → refusal_of (shown_of_name h (changed_name u)) u ≡ None →

@@ -34,8 +34,8 @@ use std::alloc::{AllocError, Global};
 use std::collections::btree_map::Iter;
 use std::marker::Model;
 
-/// A valid entry for each simple name, in ascending order of the names; and an index of their deletions, on which `first_deletion`,
-/// `drop_first` and `drop_up_to` rest.
+/// A valid entry for each simple name, in ascending order of the names; and an index of their
+/// deletions, on which `first_deletion`, `drop_first` and `drop_up_to` rest.
 pub struct Table {
     entries: EntryMap,
     deletions: Deletions,
@@ -112,8 +112,8 @@ impl Table {
         self.entries.get(name)
     }
 
-    /// The table of these entries, inserted in turn, and faster than that where their names ascend: each is compared with the
-    /// next one alone.
+    /// The table of these entries, inserted in turn, and faster than that where their names ascend:
+    /// each is compared with the next one alone.
     pub fn from_pairs(
         alloc: Global,
         pairs: Vec<(SimpleName, EntryCell)>,
@@ -145,8 +145,8 @@ impl Table {
         self.entries.live(name)
     }
 
-    /// The values of an attribute that show of a name, ascending; none, where the name has no entry that shows, and then no
-    /// memory is asked for.
+    /// The values of an attribute that show of a name, ascending; none, where the name has no entry
+    /// that shows, and then no memory is asked for.
     pub fn values(
         &self,
         alloc: Global,
@@ -200,8 +200,8 @@ impl Table {
         self.entries.fragment(alloc, update, stamp)
     }
 
-    /// Adds the marks of an accepted update with this stamp, in place: what joining its fragment in would do. Of a change of an
-    /// attribute nothing is copied but what is new to the table.
+    /// Adds the marks of an accepted update with this stamp, in place: what joining its fragment in
+    /// would do. Of a change of an attribute nothing is copied but what is new to the table.
     pub fn apply(&mut self, alloc: Global, update: &Update, stamp: Stamp) -> Result<(), AllocError>
         requires { refusal_of (shown_in self.old (changed_name (change_of update.now)))
             (change_of update.now) ≡ None }
@@ -214,9 +214,9 @@ impl Table {
         apply_update(&mut self.entries, &mut self.deletions, alloc, update, stamp)
     }
 
-    /// Adds the marks of an update with this stamp in place, or refuses it: as check and apply do, but that the name of a deletion
-    /// or of a change of an attribute is looked up once. Memory for the index is asked for first, so that a refused update too may be
-    /// told as want of it.
+    /// Adds the marks of an update with this stamp in place, or refuses it: as check and apply do,
+    /// but that the name of a deletion or of a change of an attribute is looked up once. Memory for
+    /// the index is asked for first, so that a refused update too may be told as want of it.
     pub fn accept(
         &mut self,
         alloc: Global,
@@ -238,10 +238,11 @@ impl Table {
         accept_update(&mut self.entries, &mut self.deletions, alloc, update, stamp)
     }
 
-    /// Adds the marks of an update with this stamp in place, and gives its fragment; or refuses it: what check answers, what fragment
-    /// gives of the table as it was, and what apply leaves, by one call. The name of a deletion or of a change of an attribute is
-    /// looked up once, and that of a new entry twice, where the table has none of its name, dead or alive. Memory for the index is
-    /// asked for first, so that a refused update too may be told as want of it.
+    /// Adds the marks of an update with this stamp in place, and gives its fragment; or refuses it:
+    /// what check answers, what fragment gives of the table as it was, and what apply leaves, by
+    /// one call. The name of a deletion or of a change of an attribute is looked up once, and that
+    /// of a new entry twice, where the table has none of its name, dead or alive. Memory for the
+    /// index is asked for first, so that a refused update too may be told as want of it.
     pub fn accept_told(
         &mut self,
         alloc: Global,
@@ -268,8 +269,9 @@ impl Table {
         tell_update(&mut self.entries, &mut self.deletions, alloc, update, stamp)
     }
 
-    /// Joins what an update adds in, in place, with at most one insertion at each level of the entry: of one mark the cost
-    /// grows with the logarithm of the number of entries, attributes and values. An entry that is not valid is left out.
+    /// Joins what an update adds in, in place, with at most one insertion at each level of the
+    /// entry: of one mark the cost grows with the logarithm of the number of entries, attributes
+    /// and values. An entry that is not valid is left out.
     pub fn join_entry(&mut self, alloc: Global, fragment: &Fragment) -> Result<(), AllocError>
         ensures ok { OnOk result
             (JoinsEntry self.old self.new fragment.now.name fragment.now.entry) }
@@ -287,7 +289,8 @@ impl Table {
 
 // Deletions.
 impl Table {
-    /// The least stamp of a deletion: of a death, of the clear of an attribute, or of a value that is absent. It is at hand.
+    /// The least stamp of a deletion: of a death, of the clear of an attribute, or of a value that
+    /// is absent. It is at hand.
     pub fn first_deletion(&self) -> Option<Stamp>
         ensures first { IfSome result (λ s. (d : Deletion) × ((d.stamp ≡ s) × IsFirst self.now d)) }
         ensures none { IfNone result (HasNone self.now) }
@@ -299,10 +302,11 @@ impl Table {
         }
     }
 
-    /// Drops the first deletion: an entry that died whole, else a clear, or the mark of an absent value, and an attribute of which
-    /// nothing is left. Deletions of one stamp are ordered by name, deaths before clears before values, then by attribute and by
-    /// value. How many entries, deaths, clears and marks of values that were, or the last number of 64 bits where there were more.
-    /// It takes no memory.
+    /// Drops the first deletion: an entry that died whole, else a clear, or the mark of an absent
+    /// value, and an attribute of which nothing is left. Deletions of one stamp are ordered by
+    /// name, deaths before clears before values, then by attribute and by value. How many entries,
+    /// deaths, clears and marks of values that were, or the last number of 64 bits where there were
+    /// more. It takes no memory.
     pub fn drop_first(&mut self) -> u64
         requires { (d : Deletion) × (has_deletion self.old d ≡ true) }
         ensures dropped { (d : Deletion) → IsFirst self.old d → self.new ≡ without self.old d }
@@ -312,8 +316,8 @@ impl Table {
         drop_first_deletion(&mut self.entries, &mut self.deletions)
     }
 
-    /// Drops each entry that died up to t, and the deletions of attributes that are stamped at most t. It takes no memory, and
-    /// looks at no entry but those.
+    /// Drops each entry that died up to t, and the deletions of attributes that are stamped at most
+    /// t. It takes no memory, and looks at no entry but those.
     pub fn drop_up_to(&mut self, t: Stamp)
         ensures dropped { self.new ≡ purged_table t self.old }
         ensures histories { (h : List Mark) (a : Option Stamp)
@@ -324,8 +328,8 @@ impl Table {
         drop_deletions_up_to(&mut self.entries, &mut self.deletions, t);
     }
 
-    /// What of each entry is later than t, with its birth; entries of which a birth up to t alone is left are not in it.
-    /// Nothing is copied but what is later.
+    /// What of each entry is later than t, with its birth; entries of which a birth up to t alone
+    /// is left are not in it. Nothing is copied but what is later.
     pub fn later_than(&self, alloc: Global, t: Stamp) -> Result<Excerpt, AllocError>
         ensures { IfOk result (λ d. d ≡ delta_table (Some t) self.now) }
     {
@@ -342,8 +346,8 @@ impl Table {
         })
     }
 
-    /// Takes of another table what is later than t, but no entry that was born up to t and is not the one that its name has. Of
-    /// what it has already nothing is copied.
+    /// Takes of another table what is later than t, but no entry that was born up to t and is not
+    /// the one that its name has. Of what it has already nothing is copied.
     pub fn take_up_to(&mut self, alloc: Global, other: &Table, t: Stamp) -> Result<(), AllocError>
         ensures ok { OnOk result (self.new ≡ take_table t self.old other.now) }
         ensures err { OnErr result (self.new ≡ self.old) }

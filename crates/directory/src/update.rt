@@ -77,7 +77,8 @@ impl Update {
         }
     }
 
-    /// What it is of an entry that the table has: a deletion, or a change of an attribute. None for the others.
+    /// What it is of an entry that the table has: a deletion, or a change of an attribute. None for
+    /// the others.
     pub(crate) fn own(&self) -> Option<OwnUpdate<'_>>
         ensures some { is_some result ≡ is_own (change_of self.now) }
         ensures own { IfSome result (IsOwnUpdate (change_of self.now)) }

@@ -20,11 +20,11 @@ module _ (file : List ℕ) (place : ℕ) (rest : IsAtRest file place) (image oct
   r : Rests file place
   r = rests file place rest
 
-  -- whatever stands behind the closed gate
+  -- whatever is after the closed gate
   shut_images : (x c : List ℕ) → c ≡ joined r.records ++ 0 ∷ x → images c ≡ images file
   shut_images x c c_is = ap images c_is ∙ closed_images r.records r.are 0 x (λ e. cc (e)) ∙ sym r.images
 
-  -- a write behind the closed gate
+  -- a write after the closed gate
   written_behind : (z piece : List ℕ) → (x : List ℕ) × (with_piece (file ++ z) (place + 1) piece ≡ joined r.records ++ 0 ∷ x)
   written_behind z piece =
       let x = piece ++ drop (place + 1 + length piece) (file ++ z) in

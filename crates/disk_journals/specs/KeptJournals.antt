@@ -1,4 +1,4 @@
--- The journal of one house on its disk, the images in it, and what a stop of a put leaves (own).
+-- The journal of one house on its disk, the images in it, and what a stop of a put leaves.
 use Rattle.std.specs.Prelude.{◌≡◌, ◌⊎◌, ℕ, ◌+◌, ◌-◌, ◌^◌, ◌≤◌, nat_le, Bool, false, if◌then◌else◌, List, [], ◌∷◌, ◌++◌, length, Option, Some, None}
 use Rattle.std.specs.List.{last_or}
 use Rattle.std.specs.Option.{option_map_or}
@@ -17,20 +17,20 @@ use Rattle.disk_journals.specs.declared.kept.KeptHouse.{KeptHouse}
 
 -- ---- images
 
--- an image is the last of a journal (own)
+-- an image is the last of a journal
 abbrev pub is_last : List ℕ → List (List ℕ) → Bool
 is_last image list = option_map_or (bytes_eq image) (last_or None list) false
 
--- a journal with an image, unless that is its last (own)
+-- a journal with an image, unless that is its last
 abbrev pub noted_image : List ℕ → List (List ℕ) → List (List ℕ)
 noted_image image list = if is_last image list then list else list ++ image ∷ []
 
--- how many octets a journal has: of each image 9 and its own, and a gate (own)
+-- how many octets a journal has: of each image 9 and its own, and a gate
 abbrev pub size_of : List (List ℕ) → ℕ
 size_of [] = 1
 size_of (image ∷ images) = size_of images + 9 + length image
 
--- a put that is stopped at this call leaves its image: the gate of the record is written, and kept (own)
+-- a put that is stopped at this call leaves its image: the gate of the record is written, and kept
 abbrev pub stops_after : (call : ℕ) → Leave → Bool
 stops_after call Keep = nat_le 3 call
 stops_after call Drop = false
@@ -38,21 +38,21 @@ stops_after call Torn = false
 
 -- ---- disks
 
--- a journal of these images is on a disk, and can be opened, whatever a crash leaves (own)
+-- a journal of these images is on a disk, and can be opened, whatever a crash leaves
 abbrev pub Holds : MemState → List (List ℕ) → Type 0
 Holds m list = (c : List ℕ) → left_now m.steps m.octets c → (images c ≡ list) × IsOpenable c
 
--- one of these is (own)
+-- one of these is
 abbrev pub HoldsEither : MemState → (list other : List (List ℕ)) → Type 0
 HoldsEither m list other = (c : List ℕ) → left_now m.steps m.octets c → ((images c ≡ list) ⊎ (images c ≡ other)) × IsOpenable c
 
--- a disk as it is made (own)
+-- a disk as it is made
 pub record IsNew (m : MemState) : Type 0 where
   pub octets : m.octets ≡ []
   pub steps : m.steps ≡ []
   pub never : m.stop ≡ Never
 
--- a journal is open on its disk, which is synced and never stops (own)
+-- a journal is open on its disk, which is synced and never stops
 pub record IsOpen (j : JournalState) (m : MemState) : Type 0 where
   pub whole : j.broken ≡ false
   pub rest : IsAtRest m.octets j.place
@@ -61,28 +61,31 @@ pub record IsOpen (j : JournalState) (m : MemState) : Type 0 where
   pub small : length m.octets ≤ 2 ^ 40
   pub never : m.stop ≡ Never
 
--- a house's journal is open on its disk, and its last image is at hand; a house without a journal has a new disk (own)
+-- a house's journal is open on its disk, and its last image is at hand; a house without a journal
+-- has a new disk
 abbrev pub IsKept : Option KeptHouse → MemState → Type 0
 IsKept None m = IsNew m
 IsKept (Some k) m = IsOpen k.journal m × (last_image m.octets ≡ Some k.image.items)
 
 -- ---- what disks tell of their calls
 
--- what a disk tells once its journal was opened (own)
+-- what a disk tells once its journal was opened
 abbrev pub told_opened : MemState → Told
 told_opened m = told_after (length (open_calls m.octets)) (open_calls m.octets) m.octets (told_of m)
 
--- a disk tells that an image was put, where the closed gate of its list was at this place: the four calls were done (own)
+-- a disk tells that an image was put, where the closed gate of its list was at this place: the four
+-- calls were done
 pub record TellsPutAt (place : ℕ) (image : List ℕ) (old new : MemState) : Type 0 where
   pub octets : List ℕ
   pub whole : IsRecordOf image octets
   pub told : told_of new ≡ told_after 4 (put_calls place octets) old.octets (told_of old)
 
--- a disk that is to stop at this call (own)
+-- a disk that is to stop at this call
 abbrev pub stopping : (call : ℕ) → Leave → MemState → MemState
 stopping call leave m = record m { stop = stop_with call leave m.stop }
 
--- a put was stopped at this of its calls, counted from 1: those before it were done, it failed, and the disk has stopped by it (own)
+-- a put was stopped at this of its calls, counted from 1: those before it were done, it failed, and
+-- the disk has stopped by it
 pub record StopsPutAt (place : ℕ) (image : List ℕ) (call : ℕ) (leave : Leave) (old new : MemState) : Type 0 where
   pub octets : List ℕ
   pub whole : IsRecordOf image octets
@@ -90,7 +93,7 @@ pub record StopsPutAt (place : ℕ) (image : List ℕ) (call : ℕ) (leave : Lea
   pub stopped : new.stop ≡ Stopped leave
   pub rose : Rose old.faults new.faults
 
--- a put was stopped so, the disk was restarted, and then its journal was opened (own)
+-- a put was stopped so, the disk was restarted, and then its journal was opened
 pub record StopsAndOpens (place : ℕ) (image : List ℕ) (call : ℕ) (leave : Leave) (old new : MemState) : Type 0 where
   pub between : MemState
   pub stops : StopsPutAt place image call leave old between

@@ -1,4 +1,5 @@
-// Journals on disks in memory that never stop but where they are told to. After each call they do not stop any more.
+// Journals on disks in memory that never stop but where they are told to. After each call they do
+// not stop any more.
 ghost use Rattle.std.specs.Prelude.{◌≡◌, ◌≢◌, ◌+◌, ◌^◌, ◌<◌, ◌≤◌, ◌++◌, ◌∷◌, [], ℕ, List, true, Some, Err, IfOk, OnOk, OnErr, length, if◌then◌else◌};
 ghost use Rattle.std.specs.Option.{option_map};
 ghost use Rattle.house_journal.specs.JournalRecords.{images, last_image};
@@ -16,7 +17,8 @@ use house_journal::laws::{a_put_is_told_by_its_calls, a_stop_comes_at_its_call};
 use house_journal::{Journal, JournalFault, Leave, MemDisk};
 use std::alloc::Global;
 
-/// Opens the journal of a disk, and answers its last image. A crash leaves the images that were there.
+/// Opens the journal of a disk, and answers its last image. A crash leaves the images that were
+/// there.
 pub fn open(alloc: Global, disk: &mut MemDisk) -> Result<(Journal, Option<Vec<u8>>), Unkept>
     requires size { length disk.old.octets ≤ 2 ^ 40 }
     requires opens { CanBeOpened disk.old }
@@ -65,9 +67,10 @@ pub fn put(
     }
 }
 
-/// Puts an image, if there is room, and stops the disk at this writing call of the put, 1 to 4. Then the disk starts again, with this
-/// leave, and the journal is opened. It has the image where the gate was written and is kept. Where memory runs out on the way the disk
-/// starts again with all that was written.
+/// Puts an image, if there is room, and stops the disk at this writing call of the put, 1 to 4.
+/// Then the disk starts again, with this leave, and the journal is opened. It has the image where
+/// the gate was written and is kept. Where memory runs out on the way the disk starts again with
+/// all that was written.
 pub fn stopped_put(
     alloc: Global,
     journal: &mut Journal,

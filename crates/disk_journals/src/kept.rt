@@ -20,8 +20,8 @@ pub struct KeptHouse {
     pub image: Vec<u8>,
 }
 
-/// Puts an image of a house, unless it is the last in its journal. A house without one gets it, on its new disk. A crash leaves the
-/// images that were there, or this one too.
+/// Puts an image of a house, unless it is the last in its journal. A house without one gets it, on
+/// its new disk. A crash leaves the images that were there, or this one too.
 pub fn keep(
     alloc: Global,
     house: &mut Option<KeptHouse>,

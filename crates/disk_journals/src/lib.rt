@@ -1,4 +1,5 @@
-//! The journal of one house on a disk in memory, which stops only where it is told to: how an image is put, and how a put is stopped.
+//! The journal of one house on a disk in memory, which stops only where it is told to: how an image
+//! is put, and how a put is stopped.
 #![tactic(auto)]
 
 mod calls;

@@ -2,7 +2,8 @@
 use cds_base::{Failed, PutFault, Source, StdSink, StdSource, put_all};
 use std::io::{Error, ErrorKind, Read, Result as IoResult, Write};
 
-// A reader that gives two octets, fails once, gives one more octet, and ends; as a writer it takes as much.
+// A reader that gives two octets, fails once, gives one more octet, and ends; as a writer it takes
+// as much.
 #[derive(Drop)]
 struct Halting {
     calls: u32,

@@ -11,7 +11,8 @@ use house_journal::{Disk, DiskError, Journal, JournalFault, MemDisk};
 use std::alloc::Global;
 use std::test::Fail;
 
-// A disk in memory of which the call of this number from now fails, once: it is done, and says that it failed. At 0 none does.
+// A disk in memory of which the call of this number from now fails, once: it is done, and says that
+// it failed. At 0 none does.
 #[derive(Drop)]
 struct Faltering {
     disk: MemDisk,
@@ -105,8 +106,8 @@ fn disk_of_one(alloc: Global) -> Result<Faltering, Fail>
     Ok(disk)
 }
 
-// Opens the journal of one image and puts one of no octets; false if a call of the disk failed. After a put that failed the
-// journal asks to be opened again.
+// Opens the journal of one image and puts one of no octets; false if a call of the disk failed.
+// After a put that failed the journal asks to be opened again.
 fn opens_and_puts(alloc: Global, disk: &mut Faltering) -> Result<bool, Fail>
     requires opens { CanBeOpened disk.old.disk }
     requires size { length disk.old.disk.octets ≤ 2 ^ 40 }

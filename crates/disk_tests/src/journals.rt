@@ -9,8 +9,8 @@ use std::test::Fail;
 
 static LEAVES: [Leave; 3] = [Leave::Keep, Leave::Drop, Leave::Torn];
 
-// Of each stop the put answers DiskFault, and then Reopen; the new image, which has no octets, is there exactly where
-// its gate was written and is kept; and the journal goes on.
+// Of each stop the put answers DiskFault, and then Reopen; the new image, which has no octets, is
+// there exactly where its gate was written and is kept; and the journal goes on.
 #[test]
 fn a_stopped_put_leaves_the_image_of_before_or_the_new_one(rt: HostRuntime) -> Result<(), Fail> {
     let alloc = rt.alloc();

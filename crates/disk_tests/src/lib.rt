@@ -1,5 +1,5 @@
-//! Tests of the ends of a program and of its disks, of what neither a clause nor a case says: how ends of std fail, and disks of which
-//! each call fails in turn.
+//! Tests of the ends of a program and of its disks, of what neither a clause nor a case says: how
+//! ends of std fail, and disks of which each call fails in turn.
 #![tactic(auto)]
 
 #[cfg(test)]

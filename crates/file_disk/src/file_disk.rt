@@ -1,8 +1,9 @@
-// A disk over a file: a disk beside it, as one in memory, says what the file holds and what a crash may leave of it. Each call
-// that changes something is made to both. What is read comes from that disk, so the file is never read.
+// A disk over a file: a disk beside it, as one in memory, says what the file holds and what a crash
+// may leave of it. Each call that changes something is made to both. What is read comes from that
+// disk, so the file is never read.
 //
-// No clause sees the file: the clauses speak of the disk beside it. That the file holds the same has to be believed of these
-// bodies.
+// No clause sees the file: the clauses speak of the disk beside it. That the file holds the same
+// has to be believed of these bodies.
 ghost use Rattle.std.specs.Prelude.{◌≡◌, None};
 ghost use Rattle.file_disk.specs.FileDisks.{inner_of, failures_of};
 

@@ -27,7 +27,8 @@ delivers (c, a) = is_delivery c && is_completion a
 abbrev pub deliveries : Cell → List Command → ℕ
 deliveries g cs = count_by delivers (zip cs (answers_from g cs))
 
--- each of the commands works, n of them complete a skulk, all by deliveries, and they lead to a cell of which this holds
+-- each of the commands works, n of them complete a skulk, all by deliveries, and they lead to a
+-- cell of which this holds
 pub record Goes (g : Cell) (cs : List Command) (n : ℕ) (S : Cell → Type 0) : Type 0 where
   pub run : Run g cs S
   pub complete : completions (answers_from g cs) ≡ n

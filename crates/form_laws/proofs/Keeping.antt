@@ -30,7 +30,8 @@ module _ (now : ℕ) (reader : Reader) where
     pub house : e.0.prefer ≡ prefer
     pub tells : Tells reader e.0 e.1.told
 
-  -- from one clerk to a later one: it prefers the same house, and keeps nothing but what was kept or is noted
+  -- from one clerk to a later one: it prefers the same house, and keeps nothing but what was kept
+  -- or is noted
   pub record Keeps (c d : Clerk) : Type 0 where
     pub prefer : d.prefer ≡ c.prefer
     pub kept : (e : Query × Kept) → Contains d.kept.entries e → Contains c.kept.entries e ⊎ IsNoted c.prefer e

@@ -1,4 +1,5 @@
--- A delivery completes a skulk with the last missing answer of its second round, and with nothing else.
+-- A delivery completes a skulk with the last missing answer of its second round, and with nothing
+-- else.
 use Rattle.std.proofs.Common.{◌≡◌, ℕ, inl, inr, Bool, true, false, ◌&&◌, cond, List, [], ◌∷◌, Option, Some, None, refl, sym, ap, ◌∙◌, subst}
 use Rattle.cds_stamps.specs.declared.stamp.Stamp.{Stamp}
 use Rattle.cds_stamps.specs.Members.{others_of}

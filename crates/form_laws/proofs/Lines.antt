@@ -60,7 +60,7 @@ line_keeps : (number : ℕ) (s : Clerked) (l : ScriptLine) (e : Query × Kept)
     → Contains (clerked_after number s l).clerk.kept.entries e → WasOrIsNoted number s l e
 line_keeps number s l e kept = reply_keeps number s l (low_read l) refl e kept
 
--- the state behind one line more
+-- the state after one line more
 behind_more : {S L : Type 0} (d : Dialogue S L) (s : S) (ls : List (NumberedOf L)) (l : NumberedOf L)
     → dialogue_state d s (ls ++ l ∷ []) ≡ d.after l.number (dialogue_state d s ls) l.says
 behind_more d s [] l = refl

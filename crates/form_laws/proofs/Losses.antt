@@ -44,7 +44,7 @@ lost_steady f log p g e s = record {
   lost = λ n lt. let apart : eqb n (p + 1) ≡ false = grind arith in ap (λ (b : Bool). b || has n g.lost) apart ∙ s.lost n (omega arith);
 }
 
--- so many messages behind serial p, which are all, are lost
+-- so many messages after serial p, which are all, are lost
 pub lose_run : (n f : ℕ) (log : List Accepted) (p : ℕ) (g : Cell) → Filled f log p (p + n) g
     → Goes g (map Lose (range_with_len (p + 1) n)) 0 (Filled f log (p + n) (p + n))
 lose_run zero f log p g s =

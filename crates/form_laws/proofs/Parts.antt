@@ -101,7 +101,8 @@ told_run f p q x log g marks ms cs n S s low w rest =
 abbrev pub skulks_of : Part → ℕ
 skulks_of r = count_by is_skulk (map step_of r.commands)
 
--- from cells of which P holds, the steps of the part lead to cells of which Q holds, and complete each skulk that it begins
+-- from cells of which P holds, the steps of the part lead to cells of which Q holds, and complete
+-- each skulk that it begins
 abbrev pub Leads : Part → (P Q : List Accepted → Type 0) → Type 0
 Leads r P Q =
     (f p : ℕ) (g : Cell) → f + 2 ≤ last_time → Between f p P g → Goes g (steps_of r (p + 1)) (skulks_of r) (Between (f + 2) (p + r.posted) Q)

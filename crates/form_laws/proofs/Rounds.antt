@@ -1,4 +1,5 @@
--- The entries, rounds and skulks of the script: from cells in which the sixteen entries live, each leads to such cells.
+-- The entries, rounds and skulks of the script: from cells in which the sixteen entries live, each
+-- leads to such cells.
 use Rattle.std.proofs.Common.{◌≡◌, ℕ, ◌+◌, ◌*◌, ◌<◌, ◌≤◌, zero, suc, Bool, true, false, List, [], ◌∷◌, ◌++◌, length, map, None, refl, sym, ap, ◌∙◌, subst}
 use Rattle.std.proofs.Common.{arith, length-append}
 use Rattle.std.specs.Prelude.{◌==◌, nat_lt, codes, count_by, if◌then◌else◌}
@@ -170,7 +171,7 @@ skulks_laid first (r ∷ rs) =
     let d = count_append is_skulk ds ls in
     omega (arith, a, b, c, d, none_delivered (r.delivered first), none_lost (range_with_len first r.posted), skulks_laid (first + r.posted) rs)
 
--- the sixteen entries live, with some floor, behind some messages
+-- the sixteen entries live, with some floor, after some messages
 abbrev pub LiveSomewhere : Cell → Type 0
 LiveSomewhere g = (f p : ℕ) × Between f p (And AllLive) g
 
@@ -186,7 +187,7 @@ parts_run (r ∷ rs) all f p g left b =
     (λ h c. subst (λ (n : ℕ). Goes h (map step_of (laid_out n rs)) (skulks_in rs) LiveSomewhere) next
     (parts_run rs all.1 (f + 2) (p + r.posted) h (omega (arith, left)) c)))
 
--- so they do behind the making of the entries from number j on
+-- so they do after the making of the entries from number j on
 pub making_run : (c j : ℕ) (rs : List Part) → j + c ≡ 16 → AllLead rs → (f p : ℕ) (g : Cell) → f + (2 * c + 2 * length rs) ≤ last_time
     → Between f p (And (Making j)) g
     → Goes g (map step_of (laid_out (p + 1) (map entry (range_with_len j c) ++ rs))) (skulks_in (map entry (range_with_len j c) ++ rs)) LiveSomewhere

@@ -180,7 +180,7 @@ module _ (n : ℕ) (low : n ≤ 20000) where
       let opens : skulks_of first_part ≡ 0 = refl in
       omega (arith, told, parted, none, begun, opens, goes.delivered)
 
-  -- behind it the sixteen entries live
+  -- after it the sixteen entries live
   pub script_lives : LiveSomewhere (replay (map step_of (script n)))
   script_lives =
       let at : replay (map step_of (script n)) ≡ replay_from opened steps = ap replay all_steps ∙ replay-append (steps_of first_part 1) steps empty_cell in

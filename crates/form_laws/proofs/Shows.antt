@@ -80,7 +80,8 @@ same_shown f log p g h a ph s at n =
 
 -- ---- an update
 
--- what an update leaves to be shown: its marks, which are stamped later than the history, come behind it
+-- what an update leaves to be shown: its marks, which are stamped later than the history, come
+-- after it
 pub record After (log : List Accepted) (u : Change) (log' : List Accepted) : Type 0 where
   pub history : List Mark
   pub stamp : Stamp

@@ -17,7 +17,7 @@ pub record Filled (f : ℕ) (log : List Accepted) (p n : ℕ) (g : Cell) : Type 
   pub steady : Steady f log p g
   pub count : length g.bag ≡ n
 
--- where nothing waits behind serial q, q messages were posted
+-- where nothing waits after serial q, q messages were posted
 pub none_waits : (g : Cell) (q : ℕ) → Waiting g q [] → length g.bag ≡ q
 none_waits g q w = ap length (w.bag ∙ append_nil w.before) ∙ w.count
 

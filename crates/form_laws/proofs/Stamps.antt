@@ -91,7 +91,7 @@ accept_run f p q log g ms u cs n S s left w free rest =
 
 -- ---- a skulk
 
--- a skulk and ten messages, behind all that was posted
+-- a skulk and ten messages, after all that was posted
 pub skulk_run : (f p : ℕ) (log : List Accepted) (g : Cell) → Steady f log p g → f < last_time → Waiting g p []
     → Goes g (Skulk 1 1 ∷ deliver_commands p 10) 1 (Filled (f + 1) log p (p + 10))
 skulk_run f p log g s left w =

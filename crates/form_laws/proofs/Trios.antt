@@ -60,7 +60,8 @@ pub record Seated (floor : ℕ) (now : House) : Type 0 where
 abbrev pub IsOwn : Accepted → Type 0
 IsOwn a = (a.by ≡ 1) × (a.since ≡ 1) × (a.dir ≡ 1)
 
--- the three houses are seated, house 1 alone accepted updates, and no message behind serial p is lost
+-- the three houses are seated, house 1 alone accepted updates, and no message after serial p is
+-- lost
 pub record Steady (floor : ℕ) (log : List Accepted) (p : ℕ) (g : Cell) : Type 0 where
   pub past : Past log g
   pub own : (a : Accepted) → In a log → IsOwn a
@@ -127,7 +128,7 @@ quiet_steady f f' log p g c y floor h a ph posts answer e listed low le s =
     subst (λ (l : List Accepted). Steady f' l p (changed g y 1 floor (replica h a ph) posts)) (append_nil log)
     (turned_steady f f' log [] p g c y floor h a ph posts answer e listed low le (λ b i. elim i [ ]) s)
 
--- the next delivery, which its receiver takes so, and what comes behind it
+-- the next delivery, which its receiver takes so, and what comes after it
 pub deliver_run : (f p q : ℕ) (log : List Accepted) (g : Cell) (m : Message) (ms : List Message) (floor : ℕ) (h : List Mark) (a : Option Stamp) (ph : Phase)
     (posts : List Message) (answer : List ℕ → Answer) (cs : List Command) (n : ℕ) (S : Cell → Type 0)
     → Steady f log p g → Waiting g q (m ∷ ms) → is_listed m.receiver trio ≡ true → floor ≤ f

@@ -8,8 +8,9 @@ use Rattle.cell_model.specs.Commands.{Skulk, Deliver, Complete}
 use Rattle.cell_model.specs.Steps.{first_refusal, refusals_of, is_down, message_at, outcome}
 use Rattle.cell_model.specs.Turns.{stamp_at}
 
--- the serial n is that of the last missing answer of the second round of t: it comes from a member, its receiver is up, holds its epoch
--- and runs that round, and with it has taken the answer of each other member (own)
+-- the serial n is that of the last missing answer of the second round of t: it comes from a member,
+-- its receiver is up, holds its epoch and runs that round, and with it has taken the answer of each
+-- other member (own)
 pub record IsLastAnswer (g : Cell) (n : ℕ) (t : Stamp) : Type 0 where
   pub message : Message
   pub replica : Replica
@@ -28,8 +29,8 @@ pub record CompletesAtLast (g : Cell) (n : ℕ) : Type 0 where
   pub only : (t : Stamp) (ns : List ℕ) → (outcome g (Deliver n)).answer ≡ Complete t ns → IsLastAnswer g n t
   pub always : (t : Stamp) → IsLastAnswer g n t → (ns : List ℕ) × ((outcome g (Deliver n)).answer ≡ Complete t ns)
 
--- a skulk of the directory begins at the house with this stamp: no test of the command refuses it, and the house holds the directory as its
--- master; and no other house is in its list (own)
+-- a skulk of the directory begins at the house with this stamp: no test of the command refuses it,
+-- and the house holds the directory as its master; and no other house is in its list (own)
 pub record IsLoneMaster (g : Cell) (h d : ℕ) (t : Stamp) : Type 0 where
   pub replica : Replica
   pub meant : first_refusal (refusals_of g (Skulk h d)) ≡ None

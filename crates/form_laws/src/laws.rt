@@ -22,8 +22,9 @@ pub fn a_lone_master_completes()
     ensures { (g : Cell) (h d : ℕ) → CompletesAlone g h d }
 {}
 
-/// The model refuses no command of a script of up to 20000 rounds, and none of them is in vain: each update is accepted,
-/// each message that is delivered is taken, and each skulk becomes complete. Behind it the sixteen entries live at house 1.
+/// The model refuses no command of a script of up to 20000 rounds, and none of them is in vain:
+/// each update is accepted, each message that is delivered is taken, and each skulk becomes
+/// complete. After it the sixteen entries live at house 1.
 pub fn script_is_never_refused()
     ensures refused { (n : ℕ) → n ≤ 20000 → IsNeverRefused (script n) }
     ensures works { (n : ℕ) → n ≤ 20000 → AllCommandsWork (script n) }
@@ -32,15 +33,17 @@ pub fn script_is_never_refused()
     ensures entries { (n : ℕ) → n ≤ 20000 → Loads (script n) }
 {}
 
-/// Each answer that the clerk keeps after lines of a script, however many, is one that the reader over the cell before one of these
-/// lines gives to that question. That line is a `read` at low confidence that prefers the question's house, and the clerk kept its number.
+/// Each answer that the clerk keeps after lines of a script, however many, is one that the reader
+/// over the cell before one of these lines gives to that question. That line is a `read` at low
+/// confidence that prefers the question's house, and the clerk kept its number.
 pub fn kept_answers_are_honest()
     ensures { (room : ℕ) (said : List Numbered) (e : Query × Kept)
         → Contains (dialogue_state clerk_dialogue (start room) said).clerk.kept.entries e
         → IsHonest said e }
 {}
 
-/// The cell goes on as that of `run`, and each line that does not read at low confidence is answered as `run` answers it.
+/// The cell goes on as that of `run`, and each line that does not read at low confidence is
+/// answered as `run` answers it.
 pub fn all_else_is_as_by_run()
     ensures cell { (room : ℕ) (said : List Numbered)
         → (dialogue_state clerk_dialogue (start room) said).cell ≡ cell_after_lines said }

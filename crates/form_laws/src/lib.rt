@@ -1,5 +1,5 @@
-//! Laws on the forms and on skulks, in logic alone: the script that the form `load` replays, the answers that a clerk keeps,
-//! and which delivery completes a skulk.
+//! Laws on the forms and on skulks, in logic alone: the script that the form `load` replays, the
+//! answers that a clerk keeps, and which delivery completes a skulk.
 #![tactic(auto)]
 
 mod laws;

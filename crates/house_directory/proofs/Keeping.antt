@@ -152,7 +152,8 @@ advanced_lawful me n t phase old new takes rest lawful le runs =
     subst (IsLawfulHeld me n) (sym rest)
     (record { valid = takes.valid lawful.valid; replica = takes.below n lawful.valid lawful.replica le; skulk = runs })
 
--- whatever is answered, what is held is lawful up to n, if the body has no time above n where it is taken
+-- whatever is answered, what is held is lawful up to n, if the body has no time above n where it is
+-- taken
 module _ (me : HouseNo) (n : ℕ) (old new : Held) (a : Taken) (o : Option Outgoing) (lawful : IsLawfulHeld me.0 n old) where
   same_lawful : new ≡ old → IsLawfulHeld me.0 n new
   same_lawful is = subst (IsLawfulHeld me.0 n) (sym is) lawful

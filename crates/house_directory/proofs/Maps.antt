@@ -24,7 +24,7 @@ written m es fs k x view h = view-insert dir_total dir_exact es fs k x h ∙ ap 
 pub found : {X : Type 0} (m : FinMap dir_cmp X) (es : List (DirId × X)) (k : DirId) → from_entries es ≡ m → get m k ≡ lookup (is_at (dir_cmp k)) es
 found m es k view = ap (λ m. get m k) (sym view) ∙ get-view dir_total es k
 
--- to write what stands there changes nothing
+-- to write what is there changes nothing
 pub unchanged : {X : Type 0} (m : FinMap dir_cmp X) (k : DirId) (x : X) → get m k ≡ Some x → insert m k x ≡ m
 unchanged m k x here = same_map dir_total dir_exact _ _ (λ q. get-insert dir_total m k x q ∙ by q (eq_by_cmp dir_cmp q k) refl)
   where

@@ -46,7 +46,7 @@ above place least (y ∷ ys) h p m is = by (above (place + 1) (y.house + 1) ys) 
         ap (λ b. cond b (Some place) (first_unordered (place + 1) (y.house + 1) ys)) (sym low) ∙ h in
         let high = more rest q m is in grind (arith, nat_tests)
 
--- the members behind the first of an ordered list are in order, and above it
+-- the members after the first of an ordered list are in order, and above it
 pub rest_ordered : (place least : ℕ) (y : Member) (ys : List Member) → first_unordered place least (y ∷ ys) ≡ None
     → first_unordered (place + 1) (y.house + 1) ys ≡ None
 rest_ordered place least y ys h = by (nat_lt y.house least) refl
@@ -124,7 +124,7 @@ within x k ms is = let w = found_from x 0 k ms is in omega (arith, w.1)
 pub place_listed : (x : ℕ) (ms : List Member) → is_listed x ms ≡ true → place_of x ms ≡ Some (unwrap_or (place_of x ms) 0)
 place_listed x ms is = let w = listed_from x 0 ms is in rw w.1 refl
 
--- a member stands at the place that is found exactly where it is the house
+-- a member is at the place that is found exactly where it is the house
 tie : (x i k place least : ℕ) (ms : List Member) → first_unordered place least ms ≡ None → position_from (λ (m : Member). m.house == x) i ms ≡ Some k
     → (p : ℕ) (m : Member) → slice_get ms p ≡ Some m → (i + p == k) ≡ (m.house == x)
 tie x i k place least [] sorted h p m is = absurd (cc)
@@ -238,7 +238,8 @@ phase_listed me ms (skulk.Spreading t mask) u answered h = elim h [ ]
 
 -- ---- answers, in the program and in the model
 
--- an answer of the first round: it is stale; it is merged in, and the house waits on; or the second round begins
+-- an answer of the first round: it is stale; it is merged in, and the house waits on; or the second
+-- round begins
 pub data GatherRow (now : model.House) (m : model.Message) (t : Stamp) (c : model.Copy) (r : model.Replica) (p : model.Phase) (old phase : Skulk) (n : Next)
     : Type 0 where
   stale : turn.take_gathered now m t c r p ≡ turn.stale t p → n ≡ next.Stale (turn.running_skulk_stamp p) → GatherRow now m t c r p old phase n

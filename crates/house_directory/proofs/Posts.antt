@@ -1,4 +1,5 @@
--- What a house posts: the loop over its members, and the messages of the model for which posted ones stand.
+-- What a house posts: the loop over its members, and the messages of the model for which posted
+-- ones stand.
 use Rattle.std.proofs.Common.{◌≡◌, ℕ, true, false, cond, List, [], ◌∷◌, ◌++◌, Option, Some, None, refl, sym, ap, subst, ◌∙◌, append_assoc}
 use Rattle.std.proofs.Common.{append-nil}
 use Rattle.std.specs.Prelude.{◌==◌}
@@ -70,7 +71,7 @@ posts_none s None = refl
 posts_none s (Some (state.Gone e)) = refl
 posts_none s (Some (state.Held h)) = refl
 
--- two lists stand for two, one behind the other
+-- two lists stand for two, one after the other
 pub each_append : (ps qs : List Posted) (ms ns : List model.Message) → StandEach ps ms → StandEach qs ns → StandEach (ps ++ qs) (ms ++ ns)
 each_append [] qs [] ns a b = b
 each_append (p ∷ ps) qs (m ∷ ms) ns a b = (a.0, each_append ps qs ms ns a.1 b)

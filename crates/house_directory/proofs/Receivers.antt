@@ -1,4 +1,5 @@
--- The houses to which something is said: the loop over the members, and the one house or each other member.
+-- The houses to which something is said: the loop over the members, and the one house or each other
+-- member.
 use Rattle.std.proofs.Common.{◌≡◌, ℕ, ◌≤◌, true, false, cond, List, [], ◌∷◌, ◌++◌, length, Some, None, refl, sym, ap, ◌∙◌, append-nil, arith}
 use Rattle.std.specs.Prelude.{◌==◌, ◌+◌}
 use Rattle.std.proofs.lemmas.List.{length-append}

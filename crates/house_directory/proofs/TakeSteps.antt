@@ -1,4 +1,5 @@
--- Messages that are neither Joins nor Leaves, at a house that holds their directory: what comes of them is the step of the house of the model.
+-- Messages that are neither Joins nor Leaves, at a house that holds their directory: what comes of
+-- them is the step of the house of the model.
 use Rattle.std.proofs.Common.{◌≡◌, ℕ, ◌≤◌, ◌++◌, Bool, true, false, List, [], ◌∷◌, length, Option, Some, None, refl, sym, ap, subst, ◌∙◌, arith, inl, inr}
 use Rattle.std.specs.Prelude.{max, unwrap_or, nat_lt, if◌then◌else◌, MatchBool, MatchOption, IfSome}
 use Rattle.std.specs.List.{AllByRecursion}

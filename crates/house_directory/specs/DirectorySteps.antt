@@ -1,4 +1,5 @@
--- What comes of calls at what a house has of a directory, and what the model answers (own, after C705, updates, skulks and new epochs).
+-- What comes of calls at what a house has of a directory, and what the model answers (own, after
+-- C705, updates, skulks and new epochs).
 use Rattle.std.specs.Prelude.{◌≡◌, ℕ, Bool, true, false, List, [], Option, Some, None, Result, Ok, Err}
 use Rattle.cds_stamps.specs.declared.members.Member as declared
 use Rattle.cds_stamps.specs.declared.stamp.Stamp.{Stamp}
@@ -80,8 +81,8 @@ abbrev pub epoch_result : EpochSet → Option EpochRefusal
 epoch_result (epoch_set.Done posted) = None
 epoch_result (epoch_set.Refused r) = Some r
 
--- a new epoch k that a house takes, or refuses for this reason, is what the model answers; of the model none is asked that is not later
--- than the held one (own)
+-- a new epoch k that a house takes, or refuses for this reason, is what the model answers; of the
+-- model none is asked that is not later than the held one (own)
 abbrev pub IsEpochAnswer : (k : ℕ) → Option EpochRefusal → command.Answer → Type 0
 IsEpochAnswer k None (command.NewEpoch e ns) = k ≡ e
 IsEpochAnswer k (Some epoch_refusal.NoReplica) (command.Refused (command.Update why.NoReplica)) = Unit {0}

@@ -1,4 +1,5 @@
--- What a message makes of what is held of a directory, without any model (own, after C705, updates, skulks and new epochs).
+-- What a message makes of what is held of a directory, without any model (own, after C705, updates,
+-- skulks and new epochs).
 use Rattle.std.specs.Prelude.{◌≡◌, ℕ, ◌≤◌, ◌||◌, ◌++◌, not, nat_lt, nat_le, if◌then◌else◌, length, unwrap_or, List, Option, Some, None}
 use Rattle.std.specs.Prelude.{IfSome, MatchBool, MatchOption}
 use Rattle.std.specs.FinMap.{get}
@@ -77,7 +78,8 @@ pub record TakesDelta (old : Replica) (other : Delta) (new : Replica) : Type 0 w
   pub valid : IsValidTable old.table → IsValidTable other.table → IsValidTable new.table
   pub below : (n : ℕ) → IsValidTable old.table → IsValidTable other.table → ReplicaUpTo n old → DeltaUpTo n other → ReplicaUpTo n new
 
--- a replica whose AllUpTo is raised to this stamp: of a valid table the deletions up to it are dropped (own)
+-- a replica whose AllUpTo is raised to this stamp: of a valid table the deletions up to it are
+-- dropped (own)
 pub record Advances (old : Replica) (t : Stamp) (new : Replica) : Type 0 where
   pub merged : (h : List Mark) → old ≡ replica_of h old.all_up_to → new ≡ replica_of h (together old.all_up_to (Some t))
   pub up_to : new.all_up_to ≡ together old.all_up_to (Some t)
@@ -137,7 +139,8 @@ pub record TakesSecond (from : ℕ) (t : Stamp) (old new : Held) (a : Taken) (o 
 abbrev pub LeavesAll : (old new : Held) → Option Outgoing → Type 0
 LeavesAll old new o = (new ≡ old) × (o ≡ None)
 
--- what a house `me` makes of a message of the epoch that it holds, from the member `sender` at the place `from` (own)
+-- what a house `me` makes of a message of the epoch that it holds, from the member `sender` at the
+-- place `from` (own)
 abbrev pub TakesOwn : (me : HouseNo) → (from : ℕ) → (sender : HouseNo) → Body → (old new : Held) → Taken → Option Outgoing → Type 0
 TakesOwn me from sender (body.Update f) old new a o =
     TakesFragment old.replica f new.replica × (new ≡ record old { replica = new.replica }) × (a ≡ taken.Taken) × (o ≡ None)
@@ -155,7 +158,8 @@ TakesOwn me from sender body.Leave old new a o = LeavesAll old new o × (a ≡ t
 abbrev pub copy_of : EpochNo → List declared.Member → Replica → Held
 copy_of k ms copy = record { epoch = k; members = ms; replica = copy; skulk = skulk.Idle }
 
--- what is held after a Join of the present term: the copy is merged in, in the epoch and with the list of the Join (own)
+-- what is held after a Join of the present term: the copy is merged in, in the epoch and with the
+-- list of the Join (own)
 pub record JoinsCopy (k : EpochNo) (ms : List declared.Member) (copy : Replica) (old new : Held) : Type 0 where
   pub replica : TakesReplica old.replica copy new.replica
   pub rest : new ≡ copy_of k ms new.replica
@@ -166,7 +170,8 @@ Answers old new answer a o = (new ≡ old) × (a ≡ answer) × (o ≡ None)
 
 -- ---- messages but Joins and Leaves
 
--- what becomes of what is held: of another epoch, or of no member, the message changes nothing (own)
+-- what becomes of what is held: of another epoch, or of no member, the message changes nothing
+-- (own)
 abbrev pub TakesHere : (me : HouseNo) → Message → (old new : Held) → Taken → Option Outgoing → Type 0
 TakesHere me m old new a o =
     MatchBool (nat_lt m.epoch.0 old.epoch.0) (Answers old new (taken.Late m.epoch old.epoch) a o)
@@ -181,7 +186,8 @@ join_passed k None = None
 join_passed k (Some (state.Gone e)) = if nat_le k.0 e.0 then Some e else None
 join_passed k (Some (state.Held h)) = if nat_lt k.0 h.epoch.0 then Some h.epoch else None
 
--- why a Join is not taken that does not come too late: its receiver or its sender is not in its list (own)
+-- why a Join is not taken that does not come too late: its receiver or its sender is not in its
+-- list (own)
 abbrev pub join_foreign : (me : ℕ) → Message → List Member → Option EpochNo → Option Taken
 join_foreign me m ms (Some e) = Some (taken.Late m.epoch e)
 join_foreign me m ms None = if not (is_listed me ms) || not (is_listed m.from.0 ms) then Some taken.Foreign else None

@@ -1,4 +1,5 @@
--- What a call makes of one directory at a house, as a step of the house of the model (own, after C705, updates and skulks).
+-- What a call makes of one directory at a house, as a step of the house of the model (own, after
+-- C705, updates and skulks).
 use Rattle.std.specs.Prelude.{◌≡◌, ℕ, max, List, [], Option, Some, None}
 use Rattle.cds_stamps.specs.declared.numbers.DirId.{DirId}
 use Rattle.cds_stamps.specs.declared.numbers.HouseNo.{HouseNo}
@@ -24,7 +25,8 @@ use Rattle.house_directory.specs.ModelReplicas.{LooksHeld, StandsHeld}
 
 -- ---- steps at one directory
 
--- the house of the model that issues a stamp: its node, its clock, its floor, and the replica for which what is held stands (own)
+-- the house of the model that issues a stamp: its node, its clock, its floor, and the replica for
+-- which what is held is (own)
 pub record IssuesAt (now : model.House) (by : Issuer) (low : ℕ) (dir : DirId) (held : Held) (r : model.Replica) : Type 0 where
   pub node : now.node ≡ by.node
   pub clock : now.clock ≡ by.clock
@@ -32,14 +34,16 @@ pub record IssuesAt (now : model.House) (by : Issuer) (low : ℕ) (dir : DirId) 
   pub here : now.slots dir.0 ≡ model.Held r
   pub stands : StandsHeld by.house.0 low held r
 
--- after a turn the house holds this of the directory, its floor is this, and it has this to post; nothing else of it is changed (own)
+-- after a turn the house holds this of the directory, its floor is this, and it has this to post;
+-- nothing else of it is changed (own)
 pub record HeldTurn (turn : Turn) (now : model.House) (me : HouseNo) (dir : DirId) (new : Held) (floor : ℕ) (o : Option Outgoing) : Type 0 where
   pub replica : model.Replica
   pub house : turn.house ≡ with_slot now dir.0 floor (model.Held replica)
   pub stands : StandsHeld me.0 floor new replica
   pub each : StandEach (posts_if (record { house = me; dir = dir; floor = floor }) (Some (state.Held new)) o) turn.posts
 
--- a call at a directory is a step of the house: what it answers passes the test, and what is held and the floor stay as they were, or it is the turn (own)
+-- a call at a directory is a step of the house: what it answers passes the test, and what is held
+-- and the floor stay as they were, or it is the turn (own)
 abbrev pub HeldStep : (command.Answer → Type 0) → HouseStep → model.House → HouseNo → DirId → (old new : Held) → (floor : ℕ) → Option Outgoing → Type 0
 HeldStep Answers (Stays answer) now me dir old new floor o = Answers answer × (new ≡ old) × (floor ≡ now.floor) × (o ≡ None)
 HeldStep Answers (Turns turn) now me dir old new floor o = ((ns : List ℕ) → Answers (turn.answer ns)) × HeldTurn turn now me dir new floor o

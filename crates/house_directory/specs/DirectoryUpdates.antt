@@ -1,4 +1,5 @@
--- What an update that is accepted, and a skulk that begins, make of what is held of a directory, without any model (own, after C705, updates and skulks).
+-- What an update that is accepted, and a skulk that begins, make of what is held of a directory,
+-- without any model (own, after C705, updates and skulks).
 use Rattle.std.specs.Prelude.{◌≡◌, ◌==◌, Bool, true, false, List, Option, Some, None}
 use Rattle.std.specs.List.{list_all}
 use Rattle.cds_stamps.specs.declared.members.Member as declared
@@ -32,7 +33,8 @@ abbrev pub TellsMarks : (alone : Bool) → Entries → Change → Stamp → Opti
 TellsMarks true t u s o = o ≡ None
 TellsMarks false t u s o = (f : Fragment) × (o ≡ Some (out.Update f)) × (f.name ≡ changed_name u) × (entry_of (marks_at t u s) f.name ≡ Some f.entry)
 
--- what is held takes in the marks of an update with this stamp, and tells them; nothing else of it is changed (own)
+-- what is held takes in the marks of an update with this stamp, and tells them; nothing else of it
+-- is changed (own)
 pub record HeldTakes (me : HouseNo) (u : Change) (s : Stamp) (old new : Held) (o : Option Outgoing) : Type 0 where
   pub takes : TakesIn old.replica.table new.replica.table (changed_name u) (marks_at old.replica.table u s)
   pub others : LeavesOthers old.replica.table new.replica.table (changed_name u)
@@ -46,7 +48,8 @@ abbrev pub stamp_of : Begun → Stamp
 stamp_of (begun.Started t) = t
 stamp_of (begun.Complete t) = t
 
--- the first round runs, in which the house alone has answered; or, where the skulk is complete, none runs, and AllUpTo is raised (own)
+-- the first round runs, in which the house alone has answered; or, where the skulk is complete,
+-- none runs, and AllUpTo is raised (own)
 abbrev pub HeldBegins : (me : HouseNo) → Begun → (old new : Held) → Type 0
 HeldBegins me (begun.Started t) old new = IsGathering t (only (place_in me old.members)) new.skulk × (new ≡ record old { skulk = new.skulk })
 HeldBegins me (begun.Complete t) old new = Advances old.replica t new.replica × (new ≡ record old { replica = new.replica; skulk = skulk.Idle })

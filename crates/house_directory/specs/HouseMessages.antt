@@ -1,4 +1,5 @@
--- Messages that houses post, and which messages of the model they stand for (own, after C705, updates, skulks and new epochs).
+-- Messages that houses post, and which messages of the model they stand for (own, after C705,
+-- updates, skulks and new epochs).
 use Rattle.std.specs.Prelude.{◌≡◌, ℕ, List, [], ◌∷◌, map, Option, Some, None}
 use Rattle.cds_stamps.specs.declared.numbers.EpochNo.{EpochNo}
 use Rattle.cds_stamps.specs.declared.numbers.HouseNo.{HouseNo}
@@ -71,7 +72,7 @@ abbrev pub posts_if : Sender → Option DirState → Option Outgoing → List Po
 posts_if s (Some (state.Held h)) (Some o) = posts_of s h o
 posts_if s _ _ = []
 
--- what stands before what a message of this epoch carries (own)
+-- what is before what a message of this epoch carries (own)
 abbrev pub head_from : Sender → EpochNo → Head
 head_from s k = record { dir = s.dir; from = s.house; epoch = k; floor = s.floor }
 

@@ -1,4 +1,5 @@
--- Which replica or slot of the model stands for what a house has of a directory (own, after C705, clearinghouses and replicas).
+-- Which replica or slot of the model stands for what a house has of a directory (own, after C705,
+-- clearinghouses and replicas).
 use Rattle.std.specs.Prelude.{◌≡◌, ℕ, true, ◌||◌, ◌==◌, List, Option, Some, None, slice_get}
 use Rattle.cds_stamps.specs.declared.mask.MemberMask.{MemberMask}
 use Rattle.cds_stamps.specs.declared.stamp.Stamp.{Stamp}
@@ -17,7 +18,8 @@ use Rattle.house_directory.specs.declared.states.DirState.TheVariants as state
 
 -- ---- skulks
 
--- a round of the house `me`, a member: of the members those have answered that the model names, and the house itself (own)
+-- a round of the house `me`, a member: of the members those have answered that the model names, and
+-- the house itself (own)
 pub record StandsRound (me : ℕ) (ms : List Member) (t : Stamp) (mask : MemberMask) (u : Stamp) (answered : List ℕ) : Type 0 where
   pub listed : is_listed me ms ≡ true
   pub stamp : t ≡ u
@@ -32,14 +34,15 @@ StandsPhase me ms _ _ = ⊥
 
 -- ---- what is held
 
--- what is held of a directory looks like a replica of the model: its epoch, its members and its phase (own)
+-- what is held of a directory looks like a replica of the model: its epoch, its members and its
+-- phase (own)
 pub record LooksHeld (me : ℕ) (h : Held) (r : model.Replica) : Type 0 where
   pub epoch : r.epoch ≡ h.epoch.0
   pub members : r.members ≡ members_of h.members
   pub phase : StandsPhase me (members_of h.members) h.skulk r.phase
 
--- it stands for one: it is also the replica of that one's history, without the deletions up to AllUpTo, and no time of it is above the
--- floor (own)
+-- it stands for one: it is also the replica of that one's history, without the deletions up to
+-- AllUpTo, and no time of it is above the floor (own)
 pub record StandsHeld (me floor : ℕ) (h : Held) (r : model.Replica) : Type 0 where
   pub looks : LooksHeld me h r
   pub replica : h.replica ≡ replica_of r.history r.all_up_to

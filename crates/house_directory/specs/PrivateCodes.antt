@@ -1,4 +1,5 @@
--- Words that only the views of types cite, nothing that is to be believed: what tells apart what houses have of directories (own).
+-- Words that only the views of types cite, nothing that is to be believed: what tells apart what
+-- houses have of directories.
 use Rattle.std.specs.Prelude.{◌≡◌, ℕ, ◌⊎◌, List, refl}
 use Rattle.std.proofs.Common.{inl, inr}
 use Rattle.std.specs.Coded.{Coded, code_by, coded×, coded⊎, coded_ℕ, coded_list}
@@ -19,7 +20,7 @@ use Rattle.house_directory.specs.declared.posted.Posted.{Posted}
 use Rattle.house_directory.specs.declared.states.DirState.{DirState}
 use Rattle.house_directory.specs.declared.states.DirState.TheVariants.{Held, Gone}
 
--- the parts of a phase: a number where no skulk runs; and what has these parts (own)
+-- the parts of a phase: a number where no skulk runs; and what has these parts
 abbrev pub SkulkParts : Type 0
 SkulkParts = ℕ ⊎ ((Stamp × ℕ) ⊎ (Stamp × ℕ))
 
@@ -38,11 +39,11 @@ skulk_parts_back Idle = refl
 skulk_parts_back (Gathering t mask) = refl
 skulk_parts_back (Spreading t mask) = refl
 
--- a phase, by its parts (own)
+-- a phase, by its parts
 abbrev pub skulk_code : Coded Skulk
 skulk_code = code_by SkulkParts (coded⊎ coded_ℕ (coded⊎ (coded× stamp_code coded_ℕ) (coded× stamp_code coded_ℕ))) skulk_parts of_skulk_parts skulk_parts_back
 
--- the parts of what a house has of a directory, and what has these parts (own)
+-- the parts of what a house has of a directory, and what has these parts
 abbrev pub Parts : Type 0
 Parts = (ℕ × (List Member × (Replica × Skulk))) ⊎ ℕ
 
@@ -58,13 +59,13 @@ pub parts_back : (d : DirState) → of_parts (parts d) ≡ d
 parts_back (Held h) = refl
 parts_back (Gone e) = refl
 
--- what a house has of a directory, by its parts (own)
+-- what a house has of a directory, by its parts
 abbrev pub dir_state_code : Coded DirState
 dir_state_code = code_by Parts (coded⊎ (coded× coded_ℕ (coded× (coded_list member_code) (coded× replica_code skulk_code))) coded_ℕ) parts of_parts parts_back
 
 -- ---- posted messages
 
--- what a message carries: a number where it is nothing (own)
+-- what a message carries: a number where it is nothing
 abbrev pub Carried : Type 0
 Carried = (List ℕ × EntryCell) ⊎ (Stamp ⊎ ((Stamp × Delta) ⊎ ((Stamp × Delta) ⊎ (Stamp ⊎ (Stamp ⊎ ((List Member × Replica) ⊎ ℕ))))))
 
@@ -109,7 +110,7 @@ body_code =
     (coded⊎ copied_code (coded⊎ stamp_code (coded⊎ stamp_code (coded⊎ (coded× (coded_list member_code) replica_code) coded_ℕ)))))))
     code_of_body body_of_code carried_back
 
--- a posted message with these numbers and what it carries (own)
+-- a posted message with these numbers and what it carries
 abbrev pub posted_with : ℕ × (ℕ × (ℕ × (ℕ × (ℕ × Body)))) → Posted
 posted_with q = record {
   to = record { 0 = q.0 };
@@ -122,7 +123,7 @@ posted_with q = record {
   };
 }
 
--- a posted message by its numbers and what it carries (own)
+-- a posted message by its numbers and what it carries
 abbrev pub posted_code : Coded Posted
 posted_code =
     code_by (ℕ × (ℕ × (ℕ × (ℕ × (ℕ × Body))))) (coded× coded_ℕ (coded× coded_ℕ (coded× coded_ℕ (coded× coded_ℕ (coded× coded_ℕ body_code)))))

@@ -1,4 +1,5 @@
--- What a clearinghouse answers, told of what it has and of what it is given, without any model (own, after C705, updates, skulks and new epochs).
+-- What a clearinghouse answers, told of what it has and of what it is given, without any model
+-- (own, after C705, updates, skulks and new epochs).
 use Rattle.std.specs.Prelude.{ℕ, ◌==◌, ◌<◌, nat_lt, nat_le, if◌then◌else◌, length, List, Option, Some, None, Result, Ok, Err}
 use Rattle.cds_stamps.specs.declared.members.Member as declared
 use Rattle.cds_stamps.specs.declared.stamp.Stamp.{Stamp}
@@ -23,12 +24,14 @@ stamp_unless (Some r) stamp = Err r
 stamp_unless None (Some s) = Ok s
 stamp_unless None None = Err why.StampsSpent
 
--- why a house refuses an update of a directory that it holds, but for the stamps: it accepts none, or the table refuses it (own)
+-- why a house refuses an update of a directory that it holds, but for the stamps: it accepts none,
+-- or the table refuses it (own)
 abbrev pub held_refusal : (me : ℕ) → Change → Held → Option UpdateRefusal
 held_refusal me u h =
     if is_accepting me (members_of h.members) then refusal_of (shown_in h.replica.table (changed_name u)) u else Some why.NotMaster
 
--- what a house answers to an update, by what it has of the directory and the stamp that it issues next (own)
+-- what a house answers to an update, by what it has of the directory and the stamp that it issues
+-- next (own)
 abbrev pub accept_answer : (me : ℕ) → Option Stamp → Change → Option DirState → Result Stamp UpdateRefusal
 accept_answer me stamp u None = Err why.NoReplica
 accept_answer me stamp u (Some (state.Gone e)) = Err why.NoReplica
@@ -45,7 +48,8 @@ begun_among ms (Ok t) = if length ms == 1 then Ok (begun.Complete t) else Ok (be
 abbrev pub not_master : (me : ℕ) → Held → Option UpdateRefusal
 not_master me h = if master_of (members_of h.members) == me then None else Some why.NotMaster
 
--- what a house answers that is to begin a skulk, by what it has of the directory and the stamp that it issues next (own)
+-- what a house answers that is to begin a skulk, by what it has of the directory and the stamp that
+-- it issues next (own)
 abbrev pub skulk_answer : (me : ℕ) → Option Stamp → Option DirState → Result Begun UpdateRefusal
 skulk_answer me stamp None = Err why.NoReplica
 skulk_answer me stamp (Some (state.Gone e)) = Err why.NoReplica
@@ -53,7 +57,8 @@ skulk_answer me stamp (Some (state.Held h)) = begun_among h.members (stamp_unles
 
 -- ---- epochs
 
--- why an epoch is not taken where this one is held and the house is a member since that one (own, after C705, new epochs)
+-- why an epoch is not taken where this one is held and the house is a member since that one (own,
+-- after C705, new epochs)
 abbrev pub epoch_fault : (held given since : ℕ) → Option EpochRefusal
 epoch_fault held given since =
     if nat_le given held then Some (epoch_refusal.StaleEpoch (record { 0 = held }) (record { 0 = given }))

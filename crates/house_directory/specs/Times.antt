@@ -1,4 +1,5 @@
--- The times in messages and images: no later than n, and the greatest of them (own, after C705, timestamps).
+-- The times in messages and images: no later than n, and the greatest of them (own, after C705,
+-- timestamps).
 use Rattle.std.specs.Prelude.{ℕ, ◌≤◌, max}
 use Rattle.std.specs.FinMap.{entries}
 use Rattle.purge_rule.specs.Latest.{EntryUpTo, ReplicaUpTo, DeltaUpTo, greatest_of, latest_in_entry, latest_in_delta, latest_time}

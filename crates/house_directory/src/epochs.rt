@@ -20,7 +20,8 @@ use std::alloc::{AllocError, Global};
 
 /// What comes of a new epoch.
 pub enum EpochSet {
-    /// The house holds it, and has posted Joins to the other members, and Leaves to those that are members no more.
+    /// The house holds it, and has posted Joins to the other members, and Leaves to those that are
+    /// members no more.
     Done(PostedList),
     Refused(EpochRefusal),
 }
@@ -40,7 +41,8 @@ pub enum EpochRefusal {
     NoReplica,
     /// It holds this epoch, and the one that is given is not later.
     StaleEpoch { held: EpochNo, given: EpochNo },
-    /// It holds this epoch, and is a member since this later one only: it has not taken the Join yet.
+    /// It holds this epoch, and is a member since this later one only: it has not taken the Join
+    /// yet.
     NotJoined { held: EpochNo, since: EpochNo },
 }
 
@@ -109,7 +111,7 @@ fn empty_replica(alloc: Global) -> Replica
     }
 }
 
-/// A Leave of this epoch to each of these houses, in their order, behind what is posted.
+/// A Leave of this epoch to each of these houses, in their order, after what is posted.
 pub fn post_leaves(
     posted: &mut PostedList,
     sender: Sender,

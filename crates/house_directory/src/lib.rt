@@ -1,4 +1,5 @@
-//! What a house holds of a directory, and what it does with it: updates, skulks, epochs, and the messages that it takes and posts.
+//! What a house holds of a directory, and what it does with it: updates, skulks, epochs, and the
+//! messages that it takes and posts.
 #![tactic(auto)]
 
 mod epochs;

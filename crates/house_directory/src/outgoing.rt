@@ -1,4 +1,5 @@
-// What a house has to post after a call, told by what it holds then, so that nothing is copied for it.
+// What a house has to post after a call, told by what it holds then, so that nothing is copied for
+// it.
 ghost use Rattle.std.specs.Prelude.{◌≡◌, ◌≤◌, ◌∷◌, [], IfOk, length};
 ghost use Rattle.std.specs.Option.{option_map};
 ghost use Rattle.cds_stamps.specs.Members.{members_of, most_members, others_of};
@@ -11,8 +12,8 @@ use cds_stamps::{DirId, EpochNo, HouseNo, Stamp};
 use directory::Fragment;
 use std::alloc::{AllocError, Global};
 
-/// What a house has to post about a directory that it holds. A replica or a member list that belongs to it is the one that
-/// the house holds when `Clearinghouse::letters` encodes it.
+/// What a house has to post about a directory that it holds. A replica or a member list that
+/// belongs to it is the one that the house holds when `Clearinghouse::letters` encodes it.
 #[derive(Drop)]
 pub enum Outgoing {
     /// To each other member: the marks of an update.
@@ -31,7 +32,8 @@ pub enum Outgoing {
     Join,
 }
 
-/// What a call gives before anything is posted: its answer, and what is to be posted, if anything (`Clearinghouse::letters`).
+/// What a call gives before anything is posted: its answer, and what is to be posted, if anything
+/// (`Clearinghouse::letters`).
 #[derive(Drop)]
 pub struct Turn<A> {
     pub answer: A,
@@ -47,7 +49,7 @@ pub struct Sender {
 }
 
 impl Sender {
-    /// What stands before what its message of an epoch carries.
+    /// What is before what its message of an epoch carries.
     pub fn head(&self, epoch: EpochNo) -> Head
         ensures { result ≡ head_from self.now epoch }
     {

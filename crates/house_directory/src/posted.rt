@@ -47,7 +47,7 @@ impl PostedList {
         }
     }
 
-    /// One more, behind the others.
+    /// One more, after the others.
     pub fn push(&mut self, posted: Posted) -> Result<(), AllocError>
         ensures ok { OnOk result (self.new ≡ self.old ++ posted ∷ []) }
         ensures err { OnErr result (self.new ≡ self.old) }

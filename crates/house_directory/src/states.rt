@@ -15,8 +15,8 @@ use std::collections::BTreeMap;
 use std::collections::btree_map::Iter;
 use std::marker::Model;
 
-/// What a house holds of a directory that it is a member of: the epoch, the members, its replica, and what it does about a
-/// skulk of its own.
+/// What a house holds of a directory that it is a member of: the epoch, the members, its replica,
+/// and what it does about a skulk of its own.
 pub struct Held {
     pub epoch: EpochNo,
     pub members: Members,
@@ -221,7 +221,8 @@ impl Held {
             .all(|member| member.house == house)
     }
 
-    /// The place of this house in the member list; 0 where it is not listed, and then it runs no skulk.
+    /// The place of this house in the member list; 0 where it is not listed, and then it runs no
+    /// skulk.
     pub(crate) fn own_place(&self, house: HouseNo) -> usize
         ensures place { result ≡ place_in house self.now.members }
         ensures within { 0 < length self.now.members → result < length self.now.members }

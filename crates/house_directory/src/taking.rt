@@ -19,7 +19,8 @@ use std::alloc::{AllocError, Global};
 use std::marker::Brand;
 use std::sync::ledger::{Blank, Ledger};
 
-/// What comes of a message: the answer, and what the house posts. Nothing is posted or changed but for Taken and Complete.
+/// What comes of a message: the answer, and what the house posts. Nothing is posted or changed but
+/// for Taken and Complete.
 #[derive(Drop)]
 pub struct Took {
     pub taken: Taken,
@@ -37,7 +38,8 @@ pub enum Taken {
     /// An answer to the skulk of the first stamp, where that of the second runs, or none.
     Stale(Stamp, Option<Stamp>),
     NoReplica,
-    /// The message is not from a member, or is a Join that does not list its receiver and its sender. No house sends it so.
+    /// The message is not from a member, or is a Join that does not list its receiver and its
+    /// sender. No house sends it so.
     Foreign,
     /// The last answer that was missing: the skulk of this stamp is complete.
     Complete(Stamp),
@@ -73,8 +75,8 @@ pub fn taken_with(outgoing: Option<Outgoing>) -> Turn<Taken>
 }
 
 impl DirState {
-    /// The epoch for which a Join of this epoch comes too late: a later one that is held, or one in which the directory was
-    /// left, if that is not an earlier one.
+    /// The epoch for which a Join of this epoch comes too late: a later one that is held, or one in
+    /// which the directory was left, if that is not an earlier one.
     pub fn passes_join(&self, epoch: EpochNo) -> Option<EpochNo>
         ensures { result ≡ join_passed epoch (Some self.now) }
     {
@@ -85,8 +87,8 @@ impl DirState {
         }
     }
 
-    /// The epoch for which a Leave of this epoch comes too late: one that is held, or in which the directory was left, if
-    /// that is not an earlier one.
+    /// The epoch for which a Leave of this epoch comes too late: one that is held, or in which the
+    /// directory was left, if that is not an earlier one.
     pub fn passes_leave(&self, epoch: EpochNo) -> Option<EpochNo>
         ensures { result ≡ leave_passed epoch (Some self.now) }
     {
@@ -99,7 +101,8 @@ impl DirState {
 }
 
 impl Held {
-    /// Takes a message that is neither Join nor Leave, where it is of the epoch that is held and of a member.
+    /// Takes a message that is neither Join nor Leave, where it is of the epoch that is held and of
+    /// a member.
     pub fn take_here(
         &mut self,
         alloc: Global,

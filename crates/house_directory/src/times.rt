@@ -5,7 +5,8 @@ ghost use Rattle.house_directory.specs.Times.{latest_in_body, latest_in_image, l
 use cds_messages::{Body, Image, ImageDir, Message};
 use purge_rule::latest_in_entry;
 
-/// The greatest time in a message: of its floor, of the stamp that it carries, and of its entry, its replica or its delta.
+/// The greatest time in a message: of its floor, of the stamp that it carries, and of its entry,
+/// its replica or its delta.
 pub fn latest_in_message(message: &Message) -> u64
     ensures { result ≡ latest_in_message message.now }
 {

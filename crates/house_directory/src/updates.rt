@@ -97,8 +97,9 @@ impl Held {
         }
     }
 
-    /// Takes an update with this stamp, or refuses it as the table does. What is to be posted, where there is another member;
-    /// where there is none, the name of a change of an attribute is looked up once.
+    /// Takes an update with this stamp, or refuses it as the table does. What is to be posted,
+    /// where there is another member; where there is none, the name of a change of an attribute is
+    /// looked up once.
     fn accept_stamped(
         &mut self,
         alloc: Global,

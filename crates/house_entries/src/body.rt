@@ -1,4 +1,5 @@
-// The body of a record: the number of the entry, the clock, a mark, the length of the text, the text, and the image.
+// The body of a record: the number of the entry, the clock, a mark, the length of the text, the
+// text, and the image.
 ghost use Rattle.std.specs.Prelude.{◌≡◌, ◌≢◌, ◌+◌, ◌^◌, ◌<◌, ◌≤◌, ℕ, List, Option, length, take, drop, IfOk, IfSome, IfNone, option_copied};
 ghost use Rattle.std.specs.Int.{from_be_bytes, w32, w64};
 ghost use Rattle.house_entries.specs.Bodies.{IsBody, body_of, image_in, mark_of};
@@ -8,8 +9,8 @@ use std::alloc::{AllocError, Global};
 // How many octets come before the text.
 const FRONT: usize = 21;
 
-/// A record as its octets have it: the number of the entry, the clock of the house in it, its text, and the image after it, if it has
-/// one.
+/// A record as its octets have it: the number of the entry, the clock of the house in it, its text,
+/// and the image after it, if it has one.
 #[derive(Clone, Copy)]
 pub struct Body<'a> {
     pub number: u64,

@@ -1,4 +1,5 @@
-//! The records of a house's journal: their numbers, their text and their image, and the octets of these.
+//! The records of a house's journal: their numbers, their text and their image, and the octets of
+//! these.
 #![tactic(auto)]
 
 mod body;

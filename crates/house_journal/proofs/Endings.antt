@@ -39,7 +39,7 @@ module _ (file : List ℕ) where
   pub file_so : IsOpenable file → P file
   file_so clean = (refl, clean)
 
-  -- after the records stands an octet that is no open gate
+  -- after the records is an octet that is no open gate
   closed_so : (y : ℕ) (x c : List ℕ) → y ≢ 1 → c ≡ a ++ y ∷ x → length c ≤ 2 ^ 40 → P c
   closed_so y x c other is small = (
     ap images is ∙ closed_images p.records p.are y x other ∙ sym same,
@@ -105,7 +105,8 @@ module _ (file : List ℕ) where
       take_past (x ∷ xs) ys n = let on : length (x ∷ xs) + n ≡ suc (length xs + n) = omega arith in
           ap (λ (k : ℕ). take k (x ∷ xs ++ ys)) on ∙ ap (λ (l : List ℕ). x ∷ l) (take_past xs ys n)
 
--- a file of records and at most one octet after them, where there is one unless there are no records: while its gate is written
+-- a file of records and at most one octet after them, where there is one unless there are no
+-- records: while its gate is written
 module _ (rs : List (List ℕ)) (are : AreRecords rs) (e : List ℕ) (few : length e ≤ 1) (some : (0 < length e) ⊎ (rs ≡ [])) where
   abbrev front : List ℕ
   front = joined rs
@@ -125,7 +126,8 @@ module _ (rs : List (List ℕ)) (are : AreRecords rs) (e : List ℕ) (few : leng
   pub short_clean : IsClean (front ++ e)
   short_clean gate = let size = length-append front e in let at = short_gate in omega (arith, size, at, few)
 
--- a file whose last octet, if it has one after the records, is the gate that ends the list: while that gate is written
+-- a file whose last octet, if it has one after the records, is the gate that ends the list: while
+-- that gate is written
 module _ (file : List ℕ) (place : ℕ) (gate : place ≡ gate_of file) (last : length file ≤ place + 1)
     (room : place + 1 ≤ 2 ^ 40) where
   abbrev q : Parts file
@@ -223,7 +225,7 @@ module _ (file : List ℕ) (size place : ℕ) (all : size ≡ length file) (gate
   pub cut_last : (f : List ℕ) → f ≡ take (min size (place + 1)) file → length f ≤ place + 1
   cut_last f is = omega (arith, ap length is, length-take (min size (place + 1)) file)
 
--- the gate that ends the list stands within the file, or at its start
+-- the gate that ends the list is within the file, or at its start
 pub gate_room : (file : List ℕ) (place most : ℕ) → place ≡ gate_of file → length file ≤ most → 1 ≤ most → place + 1 ≤ most
 gate_room file place most gate few one = ⊎_elim within first p.some
   where

@@ -1,4 +1,5 @@
--- The calls of a disk in memory: what a crash may leave after each, that time goes on, and what is told.
+-- The calls of a disk in memory: what a crash may leave after each, that time goes on, and what is
+-- told.
 use Rattle.std.proofs.Common.{◌≡◌, ⊎_elim, ℕ, zero, suc, ◌+◌, ◌≤◌, Bool, true, false, if◌then◌else◌, List, [], ◌∷◌, ◌++◌}
 use Rattle.std.proofs.Common.{length, take, drop, refl, sym, ◌∙◌, ap, subst, arith, length-append, length-drop}
 use Rattle.std.specs.Prelude.{Result, Ok, Err, IsErrAnd, is_err}

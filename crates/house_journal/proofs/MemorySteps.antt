@@ -33,7 +33,7 @@ fits_synced (s ∷ earlier) file fits = (
   fits.1,
 )
 
--- the newest step marked, where it stands in a list
+-- the newest step marked, where it is in a list
 pub synced_last : (steps : List Step) (n : ℕ) (x : Step) → 0 < length steps → n ≡ length steps - 1 → x ≡ get_or steps n x
     → reverse (set steps n (record x { synced = true })) ≡ synced_steps (reverse steps)
 synced_last steps n x some at is =

@@ -38,7 +38,7 @@ module _ {D : Type 0} (g : Ghosts D) where
     };
   }
 
--- a head that was read says what stands at the place
+-- a head that was read says what is at the place
 module _ (file : List ℕ) (at : ℕ) (gate head : List ℕ) (one : gate ≡ take 1 (drop at file)) (eight : head ≡ take 8 (drop (at + 1) file)) (long : at + 10 ≤ length file)
   where
     abbrev f : List ℕ

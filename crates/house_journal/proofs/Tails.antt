@@ -1,4 +1,5 @@
--- The end of octets, gone over by itself: what is done there is what is done to the whole, where all is at no place before it.
+-- The end of octets, gone over by itself: what is done there is what is done to the whole, where
+-- all is at no place before it.
 use Rattle.std.proofs.Common.{◌≡◌, ℕ, suc, ◌+◌, ◌-◌, ◌≤◌, max, Bool, true, false, MatchBool, List, [], ◌∷◌, ◌++◌}
 use Rattle.std.proofs.Common.{length, take, drop, replicate, sym, ◌∙◌, ap, arith, append_assoc, length-append}
 use Rattle.std.proofs.lemmas.List.{drop_at, drop-drop}

@@ -1,4 +1,5 @@
-// How the end of a journal is put in order: all after the gate that ends the list is cut off, and that gate is closed.
+// How the end of a journal is put in order: all after the gate that ends the list is cut off, and
+// that gate is closed.
 ghost use Rattle.std.specs.Prelude.{◌≡◌, ◌≢◌, ◌+◌, ◌^◌, ◌≤◌, ◌++◌, ◌∷◌, [], length, take, slice_get};
 ghost use Rattle.std.specs.Prelude.{Some, Err, IfOk, OnOk};
 ghost use Rattle.house_journal.specs.Disks.{HasDiskCause, Only, OnlyReads, Told};
@@ -25,8 +26,8 @@ fn gate_at<D: Disk>(disk: &mut D, size: u64, place: u64) -> Result<Option<u8>, D
     Ok(None)
 }
 
-// Closes the gate that ends the list, unless it is closed. It is the last octet, or missing, and a crash leaves what is
-// read.
+// Closes the gate that ends the list, unless it is closed. It is the last octet, or missing, and a
+// crash leaves what is read.
 fn close_gate<D: Disk>(disk: &mut D, place: u64, gate: Option<u8>) -> Result<(), DiskError>
     requires gate { gate ≡ slice_get (D.reads disk.old) place }
     requires place { place ≡ gate_of (D.reads disk.old) }
@@ -52,8 +53,9 @@ fn close_gate<D: Disk>(disk: &mut D, place: u64, gate: Option<u8>) -> Result<(),
     Ok(())
 }
 
-/// Cuts off all after the gate that ends the list, and closes that gate. A crash leaves what is read. The cut is synced
-/// before the gate is written: else a gate that a crash leaves 1 could have a whole record after it.
+/// Cuts off all after the gate that ends the list, and closes that gate. A crash leaves what is
+/// read. The cut is synced before the gate is written: else a gate that a crash leaves 1 could have
+/// a whole record after it.
 pub(crate) fn close<D: Disk>(disk: &mut D, size: u64, place: u64) -> Result<(), DiskError>
     requires size { size ≡ length (D.reads disk.old) }
     requires place { place ≡ gate_of (D.reads disk.old) }

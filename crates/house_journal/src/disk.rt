@@ -45,8 +45,8 @@ impl<T: Drop> From<AllocFailed<T>> for DiskError {
     }
 }
 
-/// One file, whose owner may be stopped at any moment. Between two syncs a crash may leave any octets where something
-/// was written or cut off.
+/// One file, whose owner may be stopped at any moment. Between two syncs a crash may leave any
+/// octets where something was written or cut off.
 pub trait Disk {
     /// The octets that a read gives.
     ghost reads: { Self → List ℕ };

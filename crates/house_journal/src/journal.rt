@@ -23,7 +23,8 @@ use thiserror::Error;
 /// The greatest size of a journal, in octets.
 pub const MOST_OCTETS: u64 = 1_099_511_627_776;
 
-// The octets of a record that are none of its image's: its gate, its length, and the closed gate after it.
+// The octets of a record that are none of its image's: its gate, its length, and the closed gate
+// after it.
 const FRAME: u64 = 10;
 
 /// Why an image is not put, or a journal not opened.
@@ -33,7 +34,8 @@ pub enum JournalFault {
     DiskFault,
     #[error("the journal would be too large")]
     Full,
-    /// An earlier put failed. Drop the journal and open its disk again: that gives the image of before that put, or that one.
+    /// An earlier put failed. Drop the journal and open its disk again: that gives the image of
+    /// before that put, or that one.
     #[error("the journal has to be opened again")]
     Reopen,
 }
@@ -68,11 +70,12 @@ impl Model for Journal {
 }
 
 impl Journal {
-    /// Opens the journal of a disk, in whatever state a crash or a failure left it, and answers the last image. It
-    /// syncs and reads; then it cuts off all after the gate that ends the list, and syncs; and where that gate is not
-    /// 0, or missing, it writes 0 there, and syncs. From its first sync on a crash at any moment leaves that image; a
-    /// second open changes nothing. After OutOfMemory or a fault of the disk it can be opened again. It requires at most
-    /// 2^40 octets (test: `disk.size()? <= MOST_OCTETS`).
+    /// Opens the journal of a disk, in whatever state a crash or a failure left it, and answers the
+    /// last image. It syncs and reads; then it cuts off all after the gate that ends the list, and
+    /// syncs; and where that gate is not 0, or missing, it writes 0 there, and syncs. From its
+    /// first sync on a crash at any moment leaves that image; a second open changes nothing. After
+    /// OutOfMemory or a fault of the disk it can be opened again. It requires at most 2^40 octets
+    /// (test: `disk.size()? <= MOST_OCTETS`).
     pub fn open<D: Disk>(
         alloc: Global,
         disk: &mut D,
@@ -113,9 +116,10 @@ impl Journal {
         len <= MOST_OCTETS - FRAME && self.place <= MOST_OCTETS - FRAME - len
     }
 
-    /// Puts an image after the others. It requires the disk that the journal was opened on, with nothing done to it in between:
-    /// keep the two in one value (`crates/two_houses/src/store.rt`). A crash at any moment leaves the earlier images, or those
-    /// and this one; after Ok, these. Reopen and Full change nothing; after another error the journal answers Reopen until it is
+    /// Puts an image after the others. It requires the disk that the journal was opened on, with
+    /// nothing done to it in between: keep the two in one value (`crates/two_houses/src/store.rt`).
+    /// A crash at any moment leaves the earlier images, or those and this one; after Ok, these.
+    /// Reopen and Full change nothing; after another error the journal answers Reopen until it is
     /// opened again.
     pub fn put<D: Disk>(
         &mut self,

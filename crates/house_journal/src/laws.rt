@@ -4,9 +4,10 @@ ghost use Rattle.house_journal.specs.Disks.{Told, Wrote, Stops, may_fail, with_p
 ghost use Rattle.house_journal.specs.Tellings.{MayAnswer, TellsOne, plan_after_calls, put_calls, told_after, told_failed};
 ghost use Rattle.house_journal.specs.declared.leave.Leave.{Leave};
 
-/// What is told after a put. Where the first or second call failed, and nothing was told since the last sync before
-/// it, that sync is still the last, and one write came since: the record without its gate. Where the third or fourth
-/// failed, the last sync has that write, and the gate's write came since. After all four nothing came since.
+/// What is told after a put. Where the first or second call failed, and nothing was told since the
+/// last sync before it, that sync is still the last, and one write came since: the record without
+/// its gate. Where the third or fourth failed, the last sync has that write, and the gate's write
+/// came since. After all four nothing came since.
 pub fn a_put_is_told_by_its_calls()
     ensures first { (place : ℕ) (octets file : List ℕ) (t : Told) (k : ℕ) → t.changes ≡ []
         → t.closed ≡ false → k < 2
@@ -20,7 +21,8 @@ pub fn a_put_is_told_by_its_calls()
         × ((told_after 4 (put_calls place octets) file t).closed ≡ false) }
 {}
 
-/// A disk that stops once so many calls are done fails at the next: at no earlier one and at no later one.
+/// A disk that stops once so many calls are done fails at the next: at no earlier one and at no
+/// later one.
 pub fn a_stop_comes_at_its_call()
     ensures at { (left : ℕ) (leave : Leave) (k : ℕ) → MayAnswer k (Stops left leave)
         → may_fail (plan_after_calls k (Stops left leave)) ≡ true → k ≡ left }

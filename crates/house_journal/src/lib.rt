@@ -1,7 +1,8 @@
-//! A journal of images on a disk that may stop at any moment: a crash leaves the image of before or the new one.
+//! A journal of images on a disk that may stop at any moment: a crash leaves the image of before or
+//! the new one.
 //!
-//! The file is a list of records: a gate octet 1, the image's length as 8 octets, big-endian, and the image. One closed
-//! gate follows them.
+//! The file is a list of records: a gate octet 1, the image's length as 8 octets, big-endian, and
+//! the image. One closed gate follows them.
 #![tactic(auto)]
 
 mod append;

@@ -17,8 +17,8 @@ use cds_stamps::Octets;
 use std::alloc::{AllocError, Global};
 use std::marker::Model;
 
-/// A disk in memory. It keeps its octets as they read, and of each write and cut the octets that it replaced or cut
-/// off, so what is put at its end is kept once.
+/// A disk in memory. It keeps its octets as they read, and of each write and cut the octets that it
+/// replaced or cut off, so what is put at its end is kept once.
 #[derive(Drop)]
 pub struct MemDisk {
     alloc: Global,
@@ -76,9 +76,9 @@ impl MemDisk {
         }
     }
 
-    /// Lets the `at`-th call from now that writes, cuts or syncs fail, and all later calls. That call, if it writes
-    /// or cuts, is done and not synced; the later ones do nothing. A disk that has stopped stays so, with the new
-    /// leave.
+    /// Lets the `at`-th call from now that writes, cuts or syncs fail, and all later calls. That
+    /// call, if it writes or cuts, is done and not synced; the later ones do nothing. A disk that
+    /// has stopped stays so, with the new leave.
     pub fn stop(&mut self, at: u64, leave: Leave)
         requires { 1 ≤ at }
         ensures { self.new ≡ record self.old { stop = stop_with at leave self.old.stop } }
@@ -89,9 +89,10 @@ impl MemDisk {
         };
     }
 
-    /// Ends the stop, by its leave: all that was written is there, or what was there at the last sync, or that and of
-    /// each write since then the first half, rounded down, with 255 in the rest of what lay past the end. A disk that
-    /// was not told to stop stays as it is; after `OutOfMemory` it is as before.
+    /// Ends the stop, by its leave: all that was written is there, or what was there at the last
+    /// sync, or that and of each write since then the first half, rounded down, with 255 in the
+    /// rest of what lay past the end. A disk that was not told to stop stays as it is; after
+    /// `OutOfMemory` it is as before.
     pub fn restart(&mut self) -> Result<(), AllocError>
         ensures ok { OnOk result (self.new ≡ disk_after_restart self.old) }
         ensures lawful { OnOk result (left_now self.old.steps self.old.octets self.new.octets) }
@@ -174,9 +175,9 @@ impl MemDisk {
         Ok(())
     }
 
-    /// What a crash may leave is said by its steps. It is what one sentence says: octets of a size between the least
-    /// and the greatest since the last sync, and those of that sync at each place that was there then, and was
-    /// neither written nor cut off since.
+    /// What a crash may leave is said by its steps. It is what one sentence says: octets of a size
+    /// between the least and the greatest since the last sync, and those of that sync at each place
+    /// that was there then, and was neither written nor cut off since.
     pub fn a_crash_leaves_untouched_places(&self)
         ensures { (c : List ℕ) → left_now self.now.steps self.now.octets c
             ↔ IsLeft (told_of self.now).synced (told_of self.now).changes c }
@@ -204,7 +205,8 @@ impl MemDisk {
         Ok(())
     }
 
-    // Counts a call that writes, cuts or syncs, which fails where the disk has stopped or stops by it.
+    // Counts a call that writes, cuts or syncs, which fails where the disk has stopped or stops by
+    // it.
     fn count_call(&mut self) -> Result<(), Failed>
         ensures counted { self.new ≡ after_write_call self.old }
         ensures cause { HasCause self.old.faults self.new.faults result }

@@ -1,5 +1,5 @@
-// How a disk in memory is started again after a stop. Only the end of its octets is gone over: from the least place that
-// was written or cut since the last sync.
+// How a disk in memory is started again after a stop. Only the end of its octets is gone over: from
+// the least place that was written or cut since the last sync.
 ghost use Rattle.std.specs.Prelude.{◌≡◌, ◌+◌, ◌-◌, ◌/◌, ◌^◌, ◌<◌, ◌≤◌, ◌++◌, ℕ, List, length, take, drop, reverse, IfOk, OnOk};
 ghost use Rattle.house_journal.specs.MemoryDisks.{Fits, before_step, change_of, changes_in, synced_in};
 ghost use Rattle.house_journal.specs.Restarts.{left_by, torn_by};
@@ -86,8 +86,8 @@ fn note_half(
     Ok(())
 }
 
-// Goes back to the last sync: the octets then, from a place on, and the first halves of the writes since, the newest
-// first.
+// Goes back to the last sync: the octets then, from a place on, and the first halves of the writes
+// since, the newest first.
 fn unwound(
     alloc: Global,
     steps: &[Step],

@@ -1,4 +1,5 @@
-// The work of opening a journal: what is read is synced, the list ends at a closed gate, and nothing follows that gate.
+// The work of opening a journal: what is read is synced, the list ends at a closed gate, and
+// nothing follows that gate.
 ghost use Rattle.std.specs.Prelude.{◌≡◌, ◌≢◌, ◌+◌, ◌^◌, ◌≤◌, ◌++◌, ◌∷◌, [], length, take, Some, Err, IfOk, OnOk};
 ghost use Rattle.std.specs.Option.{option_map};
 ghost use Rattle.house_journal.specs.Disks.{HasDiskCause, Only, Told};
@@ -11,8 +12,8 @@ use crate::list_end::{find_end, read_image};
 use crate::{Disk, DiskError};
 use std::alloc::Global;
 
-// Syncs, and answers how many octets there are. The sync is for a disk that failed in an earlier write: what it reads
-// as may be gone after a crash.
+// Syncs, and answers how many octets there are. The sync is for a disk that failed in an earlier
+// write: what it reads as may be gone after a crash.
 fn synced_size<D: Disk>(disk: &mut D) -> Result<u64, DiskError>
     ensures size { IfOk result (λ n. n ≡ length (D.reads disk.old)) }
     ensures same { OnOk result (D.reads disk.new ≡ D.reads disk.old) }

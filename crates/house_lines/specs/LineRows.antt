@@ -1,4 +1,5 @@
--- What a line of a house says: the table of its commands, which are those of scripts without the house that does them (own).
+-- What a line of a house says: the table of its commands, which are those of scripts without the
+-- house that does them.
 use Rattle.std.specs.Prelude.{ℕ, Bool, true, if◌then◌else◌, List, [], ◌∷◌, ◌++◌, Some, Option, Ok, Result, codes}
 use Rattle.std.specs.Str.{bytes_eq}
 use Rattle.std.specs.Result.{result_err}
@@ -12,11 +13,11 @@ use Rattle.house_lines.specs.declared.line.HouseLine.{HouseLine}
 use Rattle.house_lines.specs.declared.line.HouseLine.TheVariants as line
 use Rattle.house_lines.specs.Listings.{list_said}
 
--- a command: its first word, the forms of the words after it, and what they say (own)
+-- a command: its first word, the forms of the words after it, and what they say
 abbrev pub row : List ℕ → (forms : List Form) → Builds forms HouseLine → RowOf HouseLine
 row word forms build = record { word = word; forms = forms; says = build }
 
--- the commands that make the house and directories (own)
+-- the commands that make the house and directories
 abbrev pub making_rows : List (RowOf HouseLine)
 making_rows =
     row (codes "house") (House ∷ Node ∷ []) line.House
@@ -26,7 +27,7 @@ making_rows =
     ∷ row (codes "repoint") (Directory ∷ SimpleName ∷ House ∷ Houses ∷ []) line.Repoint
     ∷ []
 
--- the updates of an entry (own)
+-- the updates of an entry
 abbrev pub entry_rows : List (RowOf HouseLine)
 entry_rows =
     row (codes "create") (Directory ∷ SimpleName ∷ []) (λ d s. line.Update d (update.Create s))
@@ -34,7 +35,7 @@ entry_rows =
     ∷ row (codes "delete") (Directory ∷ SimpleName ∷ []) (λ d s. line.Update d (update.Delete s))
     ∷ []
 
--- the changes of an entry's values (own)
+-- the changes of an entry's values
 abbrev pub value_rows : List (RowOf HouseLine)
 value_rows =
     row (codes "add") (Directory ∷ SimpleName ∷ AttrName ∷ Value ∷ []) (λ d s a v. line.Update d (update.Add s a v))
@@ -43,7 +44,7 @@ value_rows =
     ∷ row (codes "clear") (Directory ∷ SimpleName ∷ AttrName ∷ []) (λ d s a. line.Update d (update.Clear s a))
     ∷ []
 
--- a skulk, and the octets of messages (own)
+-- a skulk, and the octets of messages
 abbrev pub message_rows : List (RowOf HouseLine)
 message_rows =
     row (codes "skulk") (Directory ∷ []) line.Skulk
@@ -51,7 +52,7 @@ message_rows =
     ∷ row (codes "take") (Octets ∷ []) line.Take
     ∷ []
 
--- the questions (own)
+-- the questions
 abbrev pub question_rows : List (RowOf HouseLine)
 question_rows =
     row (codes "dump") (Directory ∷ []) line.Dump
@@ -59,17 +60,17 @@ question_rows =
     ∷ row (codes "image") [] line.Image
     ∷ []
 
--- the commands but `epoch` (own)
+-- the commands but `epoch`
 abbrev pub rows : List (RowOf HouseLine)
 rows = making_rows ++ (entry_rows ++ (value_rows ++ (message_rows ++ question_rows)))
 
 -- ---- epochs
 
--- an epoch has a directory, a number, and a list of one word or more (own)
+-- an epoch has a directory, a number, and a list of one word or more
 abbrev pub epoch_count : Words → Result (Unit {0}) ParseFault
 epoch_count = check_count true 3
 
--- what the words after `epoch` say, if they are not too few (own)
+-- what the words after `epoch` say, if they are not too few
 unfoldable pub epoch_words : Words → Result HouseLine ParseFault
 epoch_words s = do
   dir ← take_words Directory s
@@ -77,28 +78,28 @@ epoch_words s = do
   list ← list_said number.1
   Ok (line.Epoch dir.0 (record { 0 = number.0 }) list)
 
--- what they say (own)
+-- what they say
 abbrev pub epoch_said : Words → Result HouseLine ParseFault
 epoch_said s = epoch_count s >>= λ _. epoch_words s
 
 -- ---- lines
 
--- whether a first word is that of an epoch (own)
+-- whether a first word is that of an epoch
 abbrev pub is_epoch : List ℕ → Bool
 is_epoch word = bytes_eq word (codes "epoch")
 
--- what the words after a first word say (own)
+-- what the words after a first word say
 unfoldable pub said_by : List ℕ → Words → Result HouseLine ParseFault
 said_by word s = if is_epoch word then epoch_said s else said_among rows no_command word s
 
--- the fault of a first word of no command, or else of a wrong number of words after it (own)
+-- the fault of a first word of no command, or else of a wrong number of words after it
 unfoldable pub early_by : List ℕ → Words → Option ParseFault
 early_by word s = if is_epoch word then result_err (epoch_count s) else early_among rows (Some (UnknownCommand 1)) word s
 
--- what a line says (own)
+-- what a line says
 abbrev pub said_in : List (List ℕ) → Result (Option HouseLine) ParseFault
 said_in = line_in said_by
 
--- the fault of a line that shows before any word but the first one is read (own)
+-- the fault of a line that shows before any word but the first one is read
 abbrev pub early_fault : List (List ℕ) → Option ParseFault
 early_fault = fault_in early_by

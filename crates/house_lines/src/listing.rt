@@ -1,4 +1,5 @@
-// The list of an epoch: members as `dump` prints them, then a dash and the houses that are members no more.
+// The list of an epoch: members as `dump` prints them, then a dash and the houses that are members
+// no more.
 ghost use Rattle.std.specs.Prelude.{◌≡◌, ◌&&◌, nat_le, length, Ok, OnOk};
 ghost use Rattle.std.specs.Option.{option_map};
 ghost use Rattle.cds_stamps.specs.Outcomes.{Answers};
@@ -91,7 +92,8 @@ fn parts(word: &[u8], words: &Words<'_>) -> bool
     word == DASH && has_more(words)
 }
 
-// The first member and those after it, up to a dash that has a word after it, or as many as there are words.
+// The first member and those after it, up to a dash that has a word after it, or as many as there
+// are words.
 #[tactic(auto, using(crate::proofs::ListingLemmas::parted, crate::proofs::ListingLemmas::unparted))]
 fn members(alloc: Global, first: Member, words: &mut Words<'_>) -> Parsed<GivenMembers>
     ensures answer { Answers result (members_said first words.old) }
@@ -125,7 +127,8 @@ fn houses(alloc: Global, words: &mut Words<'_>) -> Parsed<HouseNos>
     words.houses(alloc)
 }
 
-/// The list of an epoch, as many words as there are: one member or more, and after a dash the houses that leave.
+/// The list of an epoch, as many words as there are: one member or more, and after a dash the
+/// houses that leave.
 #[tactic(auto, unfolding(crate::specs::Listings::list_said))]
 pub(crate) fn epoch_list(alloc: Global, words: &mut Words<'_>) -> Parsed<EpochList>
     ensures { Answers result (list_said words.old) }

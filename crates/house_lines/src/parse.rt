@@ -117,8 +117,9 @@ fn asked(alloc: Global, word: &[u8], words: &mut Words<'_>) -> Parsed<HouseLine>
     Err(AllocOr::Fault(ParseFault::UnknownCommand(1)))
 }
 
-/// What a line says; nothing, if it has no words or is a comment, which takes no memory. A fault says the first word of no
-/// command; or else that there are too few or too many words; or else the first word that is not of its form.
+/// What a line says; nothing, if it has no words or is a comment, which takes no memory. A fault
+/// says the first word of no command; or else that there are too few or too many words; or else the
+/// first word that is not of its form.
 pub fn parse_house_line(
     alloc: Global,
     line: &[u8],

@@ -1,4 +1,5 @@
-// The lines that make a house and directories, those about all replicas of a directory, and those that hand over messages.
+// The lines that make a house and directories, those about all replicas of a directory, and those
+// that hand over messages.
 #![tactic(auto, unfolding(crate::specs::PrivateLineRows::by_making_rows, crate::specs::PrivateLineRows::by_message_rows))]
 
 ghost use Rattle.std.specs.Prelude.{codes};

@@ -1,4 +1,4 @@
--- What a segment is to its callers (own).
+-- What a segment is to its callers.
 use Rattle.std.specs.Prelude.{◌≡◌, ◌⊎◌, ℕ, false, List, [], ◌∷◌, ◌++◌}
 use Rattle.house_journal.specs.declared.disk.Disk.{Ghosts}
 use Rattle.house_journal.specs.Journals.{IsReady}
@@ -6,27 +6,28 @@ use Rattle.house_journal.specs.JournalRecords.{images}
 use Rattle.house_segments.specs.Chains.{chained, last_digest}
 use Rattle.house_segments.specs.declared.segment.Segment.{Segment}
 
--- its disk (own)
+-- its disk
 abbrev pub disk_of : {D : Type 0} → Segment D → D
 disk_of s = s.disk
 
--- the place of its closed gate (own)
+-- the place of its closed gate
 abbrev pub place_of : {D : Type 0} → Segment D → ℕ
 place_of s = s.journal.place
 
--- how many octets its records have, besides those of the journal (own)
+-- how many octets its records have, besides those of the journal
 abbrev pub size_of : {D : Type 0} → Segment D → ℕ
 size_of s = s.size
 
--- the octets are those of a journal whose records have these bodies (own)
+-- the octets are those of a journal whose records have these bodies
 abbrev pub HasBodies : (before : List ℕ) → (bodies : List (List ℕ)) → (octets : List ℕ) → Type 0
 HasBodies before bodies octets = images octets ≡ chained before bodies
 
--- these bodies, or these and one more (own)
+-- these bodies, or these and one more
 abbrev pub IsWithOrWithout : (before : List ℕ) → List (List ℕ) → (body octets : List ℕ) → Type 0
 IsWithOrWithout before bodies body octets = HasBodies before bodies octets ⊎ HasBodies before (bodies ++ body ∷ []) octets
 
--- its records have these bodies, all of them synced, so that each crash leaves exactly them; and more can be put (own)
+-- its records have these bodies, all of them synced, so that each crash leaves exactly them; and
+-- more can be put
 pub record IsAt {D : Type 0} (g : Ghosts D) (s : Segment D) (before : List ℕ) (bodies : List (List ℕ)) : Type 0 where
   pub ready : IsReady g s.disk s.journal.place
   pub whole : s.journal.broken ≡ false

@@ -1,5 +1,5 @@
-//! A segment of a house's journal: a journal on a disk of its own, which was empty when it began. Each record ends in a digest of
-//! itself and of the record before.
+//! A segment of a house's journal: a journal on a disk of its own, which was empty when it began.
+//! Each record ends in a digest of itself and of the record before.
 #![tactic(auto)]
 
 mod chain;

@@ -1,4 +1,5 @@
-// The last record of a segment that an earlier process left, whose chain is compared from its head on.
+// The last record of a segment that an earlier process left, whose chain is compared from its head
+// on.
 ghost use Rattle.std.specs.Prelude.{◌≡◌, ◌<◌, ◌∷◌, [], length, IfSome, IfNone};
 ghost use Rattle.house_journal.specs.JournalRecords.{images};
 ghost use Rattle.house_segments.specs.Chains.{digest_after, sealed};
@@ -92,8 +93,9 @@ fn head_of<'a>(title: &[u8], octets: &'a [u8]) -> Option<LastRecord<'a>>
     Some(LastRecord { body, digest })
 }
 
-// Whether the list ended later once, which no crash undoes: the gate at the front of these octets is open and no record follows, or a
-// record follows that comes after a record with this digest, and the gate after it is open.
+// Whether the list ended later once, which no crash undoes: the gate at the front of these octets
+// is open and no record follows, or a record follows that comes after a record with this digest,
+// and the gate after it is open.
 fn went_on(before: &[u8], octets: &[u8]) -> bool {
     let Some((gate, rest)) = octets.split_first() else {
         return false;
@@ -107,8 +109,9 @@ fn went_on(before: &[u8], octets: &[u8]) -> bool {
     behind.first() == Some(&1) && unsealed(before, next).is_some()
 }
 
-/// The last record of a segment whose head is this text and a digest; none, if the octets are no such segment: if a record does not
-/// end in the digest of the record before and of itself, or if the list ended later once.
+/// The last record of a segment whose head is this text and a digest; none, if the octets are no
+/// such segment: if a record does not end in the digest of the record before and of itself, or if
+/// the list ended later once.
 pub fn last_record<'a>(title: &[u8], octets: &'a [u8]) -> Option<LastRecord<'a>>
     ensures { IfSome result (λ r. IsLast title.now (images octets.now) r.body.now r.digest) }
 {

@@ -22,8 +22,8 @@ pub struct Segment<D: Disk> {
 }
 
 impl<D: Disk> Segment<D> {
-    /// A journal of two records, with a head and a first body, on a disk that is empty. Nobody needs to know of it before it is
-    /// whole.
+    /// A journal of two records, with a head and a first body, on a disk that is empty. Nobody
+    /// needs to know of it before it is whole.
     pub fn begin(
         alloc: Global,
         mut disk: D,
@@ -49,7 +49,8 @@ impl<D: Disk> Segment<D> {
         Ok(segment)
     }
 
-    /// One record more. Once it answers Ok, each crash leaves it; a crash before leaves the others, or those and this one.
+    /// One record more. Once it answers Ok, each crash leaves it; a crash before leaves the others,
+    /// or those and this one.
     pub fn put(&mut self, alloc: Global, body: &[u8]) -> Result<(), AllocOr<JournalFault>>
         requires ready { (before : List ℕ) × (bodies : List (List ℕ))
             × IsAt D.Disk self.old before bodies }

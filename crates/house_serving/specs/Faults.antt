@@ -1,14 +1,14 @@
--- The lines of faults of octets (own).
+-- The lines of faults of octets.
 use Rattle.std.specs.Prelude.{ℕ, ◌+◌, nat_lt, if◌then◌else◌, List, [], ◌∷◌, ◌++◌, codes, decimal}
 use Rattle.cds_base.specs.declared.scan.LineFault.{LineFault}
 use Rattle.cds_base.specs.declared.scan.LineFault.TheVariants.{LineTooLong, NotAscii, NoLineEnd, TooManyLines, ReadFault}
 use Rattle.house_serving.specs.declared.faults.TheConstants.{MOST_LINE}
 
--- the fault of a line that is too long for a house (own)
+-- the fault of a line that is too long for a house
 abbrev pub too_long : (number : ℕ) → LineFault
 too_long number = LineTooLong number (MOST_LINE + 1)
 
--- the fault that a house shows for one that lines show (own)
+-- the fault that a house shows for one that lines show
 abbrev pub shown : LineFault → LineFault
 shown (LineTooLong number place) = too_long number
 shown (NotAscii number place) = if nat_lt MOST_LINE place then too_long number else NotAscii number place
@@ -16,11 +16,11 @@ shown (NoLineEnd number place) = if nat_lt (MOST_LINE + 1) place then too_long n
 shown (TooManyLines number place) = TooManyLines number place
 shown ReadFault = ReadFault
 
--- the line of a fault: its name and its place (own)
+-- the line of a fault: its name and its place
 abbrev pub fault_text : (number : ℕ) → (name : List ℕ) → (place : ℕ) → List ℕ
 fault_text number name place = decimal number ++ (codes " fault " ++ (name ++ (32 ∷ (decimal place ++ 10 ∷ []))))
 
--- the line of a fault of octets; of a failed read nothing (own)
+-- the line of a fault of octets; of a failed read nothing
 abbrev pub line_fault_text : LineFault → List ℕ
 line_fault_text (LineTooLong number place) = fault_text number (codes "LineTooLong") place
 line_fault_text (NotAscii number place) = fault_text number (codes "NotAscii") place

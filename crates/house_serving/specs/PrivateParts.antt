@@ -1,4 +1,4 @@
--- Words of private contracts: what the parts of a run do (own).
+-- Words of private contracts: what the parts of a run do.
 use Rattle.std.specs.Prelude.{◌≡◌, ◌≢◌, ◌⊎◌, ℕ, ◌<◌, List, [], ◌∷◌, ◌++◌, length, take, Option, Result, Ok, Err, OnOk}
 use Rattle.std.specs.Io.KnownBytes.{Appends}
 use Rattle.cds_base.specs.Counts.{Rose}
@@ -18,13 +18,13 @@ use Rattle.house_serving.specs.declared.ending.Ending.{Ending}
 use Rattle.house_serving.specs.declared.ending.Ending.TheVariants.{BadInput, ReadFault, WriteFault, OutOfMemory, Full, DiskFault}
 use Rattle.house_serving.specs.declared.faults.TheConstants.{MOST_LINE}
 
--- how a run ends if a record is not put (own)
+-- how a run ends if a record is not put
 abbrev pub ending_of_put : JournalFault → Ending
 ending_of_put journal.Full = Full
 ending_of_put journal.DiskFault = DiskFault
 ending_of_put journal.Reopen = DiskFault
 
--- what keeps a record from being put: only a failure of the disk raises its count (own)
+-- what keeps a record from being put: only a failure of the disk raises its count
 abbrev pub HasKeepCause : (disks disks' : ℕ) → Result (Unit {0}) Ending → Type 0
 HasKeepCause disks disks' (Ok x) = disks' ≡ disks
 HasKeepCause disks disks' (Err DiskFault) = Rose disks disks'
@@ -32,7 +32,8 @@ HasKeepCause disks disks' (Err OutOfMemory) = disks' ≡ disks
 HasKeepCause disks disks' (Err Full) = disks' ≡ disks
 HasKeepCause disks disks' (Err ending) = ⊥
 
--- the record with this body is put, if there is one; a crash leaves the others, or those and this one (own)
+-- the record with this body is put, if there is one; a crash leaves the others, or those and this
+-- one
 pub record Keeps {D : Type 0} (g : Ghosts D) (before : List ℕ) (bodies : List (List ℕ)) (segment segment' : Segment D) (body : Option (List ℕ))
     (result : Result (Unit {0}) Ending) : Type 0 where
   pub crash : LeavesOnly g (disk_of segment) (disk_of segment') (HasFront before bodies (bodies_in body))
@@ -41,7 +42,8 @@ pub record Keeps {D : Type 0} (g : Ghosts D) (before : List ℕ) (bodies : List 
   pub full : result ≡ Err Full → segment' ≡ segment
   pub cause : HasKeepCause (g.faults (disk_of segment)) (g.faults (disk_of segment')) result
 
--- a run stops at a fault of lines: its line is written, or a part of it; of a failed read nothing is said (own)
+-- a run stops at a fault of lines: its line is written, or a part of it; of a failed read nothing
+-- is said
 abbrev pub Stops : (written written' : Option (List ℕ)) → (writes writes' : ℕ) → LineFault → Ending → Type 0
 Stops written written' writes writes' fault ReadFault = (fault ≡ line.ReadFault) × (written' ≡ written) × (writes' ≡ writes)
 Stops written written' writes writes' fault BadInput =
@@ -51,7 +53,7 @@ Stops written written' writes writes' fault WriteFault =
 Stops written written' writes writes' fault OutOfMemory = (fault ≢ line.ReadFault) × (written' ≡ written) × (writes' ≡ writes)
 Stops written written' writes writes' fault ending = ⊥
 
--- what the ending of a line says of these, besides which call failed (own)
+-- what the ending of a line says of these, besides which call failed
 abbrev pub LineEndsSo : {H D : Type 0} → Ghosts D → (before : List ℕ) → (bodies : List (List ℕ)) → (segment : Segment D) → (turns : List Turn)
     → (over : List (List ℕ)) → (last text : List ℕ) → (at house : H) → (one : List ℕ) → (number : ℕ) → (line : List ℕ)
     → Result (Unit {0}) Ending → Type 0
@@ -68,7 +70,7 @@ LineEndsSo g before bodies segment turns over last text at house one number line
 LineEndsSo g before bodies segment turns over last text at house one number line (Err DiskFault) = text ≡ texts_of turns
 LineEndsSo g before bodies segment turns over last text at house one number line (Err ending) = ⊥
 
--- one line, as a run is (own)
+-- one line, as a run is
 pub record LineServed {H D : Type 0} (responds : H → ℕ → List ℕ → Said → H → Type 0) (g : Ghosts D) (before : List ℕ) (bodies : List (List ℕ))
     (number : ℕ) (line : List ℕ) (house house' : H) (segment segment' : Segment D) (written written' : Option (List ℕ)) (writes writes' : ℕ)
     (result : Result (Unit {0}) Ending) : Type 0 where

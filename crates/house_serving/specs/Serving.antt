@@ -1,4 +1,4 @@
--- How a run of a house ends: what it read, what it wrote, and what of it each crash keeps (own).
+-- How a run of a house ends: what it read, what it wrote, and what of it each crash keeps.
 use Rattle.std.specs.Prelude.{◌≡◌, ◌⊎◌, ℕ, ◌+◌, ◌<◌, List, [], ◌∷◌, ◌++◌, length, Option, None}
 use Rattle.std.specs.Io.KnownBytes.{Appends, IsAtEnd}
 use Rattle.cds_base.specs.LineFaults.{IsLine}
@@ -17,8 +17,9 @@ use Rattle.house_serving.specs.declared.ending.Ending.{Ending}
 use Rattle.house_serving.specs.declared.ending.Ending.TheVariants.{InputEnds, BadInput, ReadFault, WriteFault, OutOfMemory, Full, DiskFault, Grown}
 use Rattle.house_serving.specs.declared.faults.TheConstants.{MOST_LINE}
 
--- the two ends of a run, before it and after it: the octets that its source had left, and has; those that its sink octets_ahead, and holds, each
--- where it tells them; and how often a read and a write had failed, and have (own)
+-- the two ends of a run, before it and after it: the octets that its source had left, and has;
+-- those that its sink octets_ahead, and holds, each where it tells them; and how often a read and a
+-- write had failed, and have
 pub record Run : Type 0 where
   pub left : Option (List ℕ)
   pub left' : Option (List ℕ)
@@ -29,7 +30,7 @@ pub record Run : Type 0 where
   pub writes : ℕ
   pub writes' : ℕ
 
--- the run of a source and a sink (own)
+-- the run of a source and a sink
 abbrev pub run_of : {S K : Type 0} → (left : S → Option (List ℕ)) → (reads : S → ℕ) → (written : K → Option (List ℕ)) → (writes : K → ℕ)
     → (source source' : S) → (sink sink' : K) → Run
 run_of left reads written writes source source' sink sink' =
@@ -44,15 +45,16 @@ run_of left reads written writes source source' sink sink' =
       writes' = writes sink';
     }
 
--- octets of a segment with these bodies, and with a front of these others (own)
+-- octets of a segment with these bodies, and with a front of these others
 pub record HasFront (before : List ℕ) (bodies more : List (List ℕ)) (octets : List ℕ) : Type 0 where
   pub front : List (List ℕ)
   pub rest : List (List ℕ)
   pub split : more ≡ front ++ rest
   pub has : HasBodies before (bodies ++ front) octets
 
--- What was done. The turns are the lines that were done, and this was written. A crash at any moment leaves the records of before and a
--- front of those of the turns and of one over; one after the last call leaves those of all turns: so all of which anything was written (own)
+-- What was done. The turns are the lines that were done, and this was written. A crash at any
+-- moment leaves the records of before and a front of those of the turns and of one over; one after
+-- the last call leaves those of all turns: so all of which anything was written
 pub record Work {H D : Type 0} (responds : H → ℕ → List ℕ → Said → H → Type 0) (g : Ghosts D) (before : List ℕ) (bodies : List (List ℕ)) (number : ℕ)
     (house : H) (disk disk' : D) (written written' : Option (List ℕ)) (turns : List Turn) (over : List (List ℕ)) (text : List ℕ) (at : H) : Type 0 where
   pub talk : Dialogue responds number house turns at
@@ -60,11 +62,12 @@ pub record Work {H D : Type 0} (responds : H → ℕ → List ℕ → Said → H
   pub crash : LeavesOnly g disk disk' (HasFront before bodies (bodies_of turns ++ over))
   pub acknowledged : (c : List ℕ) → g.may_leave disk' c → HasFront before (bodies ++ bodies_of turns) over c
 
--- xs is a front of ys (own)
+-- xs is a front of ys
 abbrev pub IsFront : List ℕ → List ℕ → Type 0
 IsFront xs ys = (more : List ℕ) × (ys ≡ xs ++ more)
 
--- the house is the one after the turns, all their records are synced, and all that is due was written (own)
+-- the house is the one after the turns, all their records are synced, and all that is due was
+-- written
 pub record IsSettled {H D : Type 0} (g : Ghosts D) (before : List ℕ) (bodies : List (List ℕ)) (segment : Segment D) (turns : List Turn)
     (over : List (List ℕ)) (last text : List ℕ) (at house : H) : Type 0 where
   pub here : at ≡ house
@@ -72,14 +75,14 @@ pub record IsSettled {H D : Type 0} (g : Ghosts D) (before : List ℕ) (bodies :
   pub synced : IsAt g segment before (bodies ++ bodies_of turns)
   pub all_written : text ≡ texts_of turns ++ last
 
--- why the line of this number is none, and the line that says so: of these octets and what the source has left; or it is a whole line, taken
--- already, that is too long (own)
+-- why the line of this number is none, and the line that says so: of these octets and what the
+-- source has left; or it is a whole line, taken already, that is too long
 abbrev pub IsFaulty : (number : ℕ) → (one octets : List ℕ) → (left : Option (List ℕ)) → (last : List ℕ) → Type 0
 IsFaulty number one octets left last =
     ((fault : LineFault) × HasFault number octets left fault × (one ≡ []) × (last ≡ line_fault_text (shown fault)))
     ⊎ ((line : List ℕ) × IsLine number line × (MOST_LINE < length line) × (one ≡ line ++ 10 ∷ []) × (last ≡ line_fault_text (too_long number)))
 
--- what an ending says of these, besides which call failed (own)
+-- what an ending says of these, besides which call failed
 abbrev pub EndsSo : {H D : Type 0} → Ghosts D → (before : List ℕ) → (bodies : List (List ℕ)) → (segment : Segment D) → (turns : List Turn)
     → (over : List (List ℕ)) → (last text : List ℕ) → (at house : H) → (one : List ℕ) → (lines : Lines) → (number : ℕ) → (left : Option (List ℕ)) → Ending → Type 0
 EndsSo g before bodies segment turns over last text at house one lines number left InputEnds =
@@ -97,12 +100,12 @@ EndsSo g before bodies segment turns over last text at house one lines number le
 EndsSo g before bodies segment turns over last text at house one lines number left Grown =
     IsSettled g before bodies segment turns over last text at house × (last ≡ []) × (one ≡ []) × (fault_of_lines lines ≡ None)
 
--- no body, or one (own)
+-- no body, or one
 abbrev pub IsOneAtMost : List (List ℕ) → Type 0
 IsOneAtMost over = (body : Option (List ℕ)) × (over ≡ bodies_in body)
 
--- A run of a house over a segment. Of the octets that were read come the lines of the turns, then one line that was taken and not done, if there
--- is one, and then those that are octets_ahead (own)
+-- A run of a house over a segment. Of the octets that were read come the lines of the turns, then
+-- one line that was taken and not done, if there is one, and then those that are octets_ahead
 pub record Served {H D : Type 0} (responds : H → ℕ → List ℕ → Said → H → Type 0) (g : Ghosts D) (before : List ℕ) (bodies : List (List ℕ))
     (house house' : H) (segment segment' : Segment D) (lines lines' : Lines) (run : Run) (ending : Ending) : Type 0 where
   pub turns : List Turn

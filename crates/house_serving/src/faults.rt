@@ -6,7 +6,8 @@ use cds_base::LineFault;
 use itoa::Buffer;
 use std::alloc::{AllocError, Global};
 
-/// Octets of the longest line that a house takes: what it says again of one is a line that others can read.
+/// Octets of the longest line that a house takes: what it says again of one is a line that others
+/// can read.
 pub const MOST_LINE: usize = 4080;
 
 /// The fault that a house shows, where lines are shorter than those that are read.

@@ -1,4 +1,5 @@
-//! The run of a house over a source, a sink and a segment: line by line, and nothing is answered before it is durable.
+//! The run of a house over a source, a sink and a segment: line by line, and nothing is answered
+//! before it is durable.
 #![tactic(auto)]
 
 mod answering;

@@ -11,8 +11,9 @@ use house_journal::Disk;
 use house_segments::Segment;
 use std::alloc::Global;
 
-/// Answers the lines of the source up to the end of the input, the first fault, or the first line after which the segment has this
-/// size. A line's record is durable before anything of its answer is written.
+/// Answers the lines of the source up to the end of the input, the first fault, or the first line
+/// after which the segment has this size. A line's record is durable before anything of its answer
+/// is written.
 pub fn serve<R: Responder, S: Source, K: Sink, D: Disk>(
     alloc: Global,
     house: &mut R,

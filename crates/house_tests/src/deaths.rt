@@ -1,4 +1,5 @@
-// A large replica whose many deletions go one after the other, by each call that drops some: none walks its table.
+// A large replica whose many deletions go one after the other, by each call that drops some: none
+// walks its table.
 use crate::houses::second_house;
 use crate::purges::{empty, large, object, stamp, steps_to};
 use cds_messages::{Body, Head, Message};
@@ -20,7 +21,8 @@ const FIRST: u64 = 200_001;
 
 const LAST: u64 = 399_999;
 
-// What is held at first, and when all of these deaths are forgotten: one entry is dead that lives else, at a later time.
+// What is held at first, and when all of these deaths are forgotten: one entry is dead that lives
+// else, at a later time.
 const WHOLE: u64 = 300_001;
 
 const LEFT: u64 = 100_001;
@@ -74,7 +76,8 @@ fn each_death_is_dropped_alone(rt: HostRuntime) -> Result<(), Fail> {
     for replica in [&counted, &advanced, &dropped, &taken] {
         assert_eq!(rt; replica.held(), WHOLE);
     }
-    // Each second call drops an entry and its death, and each is handed one deletion more, which is later.
+    // Each second call drops an entry and its death, and each is handed one deletion more, which is
+    // later.
     let steps = steps_to::<Brand>(&mut counted, FIRST, LAST, Blank::new(1))?;
     assert_eq!(rt; steps, 2 * COUNT + (LAST - FIRST + 1));
     for time in FIRST..=LAST {

@@ -1,5 +1,6 @@
-// Two houses and a directory of both, by the calls that post messages whole (the program makes those that post octets). What no
-// script brings about: images that are damaged, messages of strangers, and epochs that are given twice.
+// Two houses and a directory of both, by the calls that post messages whole (the program makes
+// those that post octets). What no script brings about: images that are damaged, messages of
+// strangers, and epochs that are given twice.
 use cds_messages::{Body, Message};
 use cds_records::RecordFault;
 use cds_stamps::{
@@ -72,7 +73,8 @@ fn create_root(
     Ok(house.create_directory(alloc, ROOT, &members)?)
 }
 
-// The tag of the only message of the mail, and the answer of a house to it. What the house posts is the mail then.
+// The tag of the only message of the mail, and the answer of a house to it. What the house posts is
+// the mail then.
 fn takes(
     alloc: Global,
     house: &mut Clearinghouse,
@@ -95,7 +97,8 @@ fn receiver(mail: &PostedList) -> u8 {
     }
 }
 
-// The receiver of the only message of the mail, its tag, and the answer to it. What is posted then is the mail.
+// The receiver of the only message of the mail, its tag, and the answer to it. What is posted then
+// is the mail.
 fn delivered(alloc: Global, pair: &mut Pair) -> Result<(u8, u8, Answer), Fail> {
     let to = receiver(&pair.mail);
     let (tag, answer) = match to {
@@ -121,7 +124,8 @@ fn both(alloc: Global) -> Result<Pair, Fail> {
     }
 }
 
-// The creation of an object. (These are small functions, since the drop of an update is long to prove.)
+// The creation of an object. (These are small functions, since the drop of an update is long to
+// prove.)
 fn creation(alloc: Global, name: &[u8]) -> Result<Update, Fail> {
     Ok(Update::Create(SimpleName::parse(alloc, name)?))
 }
@@ -130,7 +134,8 @@ fn again(alloc: Global, update: &Update) -> Result<Update, AllocError> {
     update.copy(alloc)
 }
 
-// The time of the stamp of an update of the root that a house accepts. What it posts is the mail then.
+// The time of the stamp of an update of the root that a house accepts. What it posts is the mail
+// then.
 fn accepts(
     alloc: Global,
     house: &mut Clearinghouse,
@@ -282,8 +287,8 @@ fn empty(alloc: Global) -> Replica {
     }
 }
 
-// What a message of a stranger carries: for a member, a Join that lists its receiver and not its sender, and one that lists its sender
-// and not its receiver.
+// What a message of a stranger carries: for a member, a Join that lists its receiver and not its
+// sender, and one that lists its sender and not its receiver.
 fn strange(alloc: Global, number: u8) -> Result<Message, Fail> {
     let t = Stamp {
         time: 3,

@@ -1,4 +1,5 @@
-// The steps of a purge: of a few deletions, and of a million purges of a large replica that drop nothing.
+// The steps of a purge: of a few deletions, and of a million purges of a large replica that drop
+// nothing.
 ghost use Rattle.std.specs.Prelude.{◌≡◌, ◌<◌};
 
 use attr_sets::{AttrCell, Value};
@@ -52,7 +53,8 @@ pub fn empty(alloc: Global) -> Replica {
     }
 }
 
-// A replica with an entry that died, and one with a value that was removed and an attribute that was cleared.
+// A replica with an entry that died, and one with a value that was removed and an attribute that
+// was cleared.
 fn small(alloc: Global) -> Result<Replica, Fail> {
     let mut own = empty(alloc);
     own.take_marks(alloc, &object(alloc, b"e", 1, Some(stamp(2)?))?)?;

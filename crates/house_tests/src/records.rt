@@ -1,5 +1,5 @@
-// Messages and images that are copied and written again whole, as the program does in parts; with one octet more behind them, and with
-// each of their octets damaged.
+// Messages and images that are copied and written again whole, as the program does in parts; with
+// one octet more after them, and with each of their octets damaged.
 use crate::houses::start_fault;
 use cds_messages::Image;
 use cds_records::{
@@ -10,7 +10,8 @@ use clearinghouse::Clearinghouse;
 use std::alloc::Global;
 use std::test::Fail;
 
-// A message of each tag about the directory 1, from house 1 in epoch 1 at floor 2, with the time 3 at node 10.
+// A message of each tag about the directory 1, from house 1 in epoch 1 at floor 2, with the time 3
+// at node 10.
 #[rattlefmt::skip]
 static MESSAGES: [&[u8]; 9] = [
     // the name e of an object with the value 01 of A
@@ -39,13 +40,14 @@ static MESSAGES: [&[u8]; 9] = [
     b"\x02\x08\0\0\0\x01\x01\0\0\0\0\0\0\0\x01\0\0\0\0\0\0\0\x02",
 ];
 
-// What is written of the copy of the message at the front of the octets, and how many octets the message has.
+// What is written of the copy of the message at the front of the octets, and how many octets the
+// message has.
 fn message_again(alloc: Global, octets: &[u8]) -> Result<(Vec<u8>, usize), Fail> {
     let (read, used) = decode(alloc, octets)?;
     Ok((encode(alloc, &read.copy(alloc)?)?, used))
 }
 
-// These octets with one behind them.
+// These octets with one after them.
 fn longer(alloc: Global, octets: &[u8]) -> Result<Vec<u8>, Fail> {
     let mut more = octets.to_vec(alloc)?;
     more.push(1)?;
@@ -64,20 +66,21 @@ fn messages_are_copied_and_written_again(rt: HostRuntime) -> Result<(), Fail> {
     Ok(())
 }
 
-// The image of house 1 at node 10 with floor 0, which holds the directory 1 in epoch 1 alone, with an empty table, and left the
-// directories 2 and 3 in epoch 3.
+// The image of house 1 at node 10 with floor 0, which holds the directory 1 in epoch 1 alone, with
+// an empty table, and left the directories 2 and 3 in epoch 3.
 const IMAGE: &[u8] = b"\x02\x09\x01\0\0\0\0\0\x0a\0\0\0\0\0\0\0\0\0\0\0\0\0\0\0\x03\
     \0\0\0\x01\x01\0\0\0\0\0\0\0\x01\x01\x01\0\0\0\0\0\0\0\x01\x01\0\0\0\0\0\0\0\0\0\0\0\0\0\0\0\0\0\
     \0\0\0\x02\x02\0\0\0\0\0\0\0\x03\0\0\0\x03\x02\0\0\0\0\0\0\0\x03";
 
-// The same image in format 1, where no count stands behind the replica.
+// The same image in format 1, where no count is after the replica.
 const FORMER_IMAGE: &[u8] = b"\x01\x09\x01\0\0\0\0\0\x0a\0\0\0\0\0\0\0\0\0\0\0\0\0\0\0\x03\
     \0\0\0\x01\x01\0\0\0\0\0\0\0\x01\x01\x01\0\0\0\0\0\0\0\x01\x01\0\0\0\0\0\0\0\0\0\
     \0\0\0\x02\x02\0\0\0\0\0\0\0\x03\0\0\0\x03\x02\0\0\0\0\0\0\0\x03";
 
-// Octets that are not one image, and the first fault of each: no octets; a format that is not known; an image of a house that holds
-// one directory with the entry e, behind which a count stands that is one too small, one too great, cut short, and right with an
-// octet behind it; and an image of format 1 with a secondary member.
+// Octets that are not one image, and the first fault of each: no octets; a format that is not
+// known; an image of a house that holds one directory with the entry e, after which a count is that
+// is one too small, one too great, cut short, and right with an octet after it; and an image of
+// format 1 with a secondary member.
 #[rattlefmt::skip]
 static FAULTY_IMAGES: [(&[u8], RecordFault); 7] = [
     (b"", RecordFault::Short(1)),
@@ -102,7 +105,8 @@ static FAULTY_IMAGES: [(&[u8], RecordFault); 7] = [
     \0\0\0\x01\x01\0\0\0\0\0\0\0\x01\x02\x01\0\0\0\0\0\0\0\x01\x01\x02\0\0\0\0\0\0\0\x01\x03", RecordFault::BadFlag(59)),
 ];
 
-// What is written of the image at the front of the octets, with a copy of its directories, and how many octets the image has.
+// What is written of the image at the front of the octets, with a copy of its directories, and how
+// many octets the image has.
 fn image_again(alloc: Global, octets: &[u8]) -> Result<(Vec<u8>, usize), Fail> {
     let (image, used) = decode_image(alloc, octets)?;
     let copied = Image {
@@ -142,8 +146,9 @@ fn fault_of(
     }
 }
 
-// Octets are cut behind each of them: all of the faults are Short, one place behind what is left. And each octet is damaged, in turn to
-// 0 and to 0xFF, which is no length, count, flag or kind: none of these wants memory. How many of the damaged ones are faulty.
+// Octets are cut after each of them: all of the faults are Short, one place after what is left. And
+// each octet is damaged, in turn to 0 and to 0xFF, which is no length, count, flag or kind: none of
+// these wants memory. How many of the damaged ones are faulty.
 fn damaged(alloc: Global, octets: &[u8], is_image: bool) -> Result<usize, Fail> {
     let mut faulty = 0usize;
     for at in 0..octets.len() {

@@ -1,4 +1,5 @@
-// Each kind of update: what it adds to a table, joined into another one, and its copy, applied. Each kind of what is seen, copied.
+// Each kind of update: what it adds to a table, joined into another one, and its copy, applied.
+// Each kind of what is seen, copied.
 use attr_sets::Value;
 use cds_messages::Head;
 use cds_records::encode_spread;
@@ -31,7 +32,8 @@ fn pointer(alloc: Global) -> Result<ChildPointer, Fail> {
     })
 }
 
-// An update of the attribute A of the entry e, of each kind. (These are small functions, since the drop of an update is long to prove.)
+// An update of the attribute A of the entry e, of each kind. (These are small functions, since the
+// drop of an update is long to prove.)
 fn change(alloc: Global, number: u64) -> Result<Update, Fail> {
     let name = name(alloc, b"e")?;
     let attr = AttrName::parse(alloc, b"A")?;

@@ -1,4 +1,5 @@
--- What a house replies to a line, and what its record says (own, after C705, updates, skulks and new epochs).
+-- What a house replies to a line, and what its record says (own, after C705, updates, skulks and
+-- new epochs).
 use Rattle.std.specs.Prelude.{◌≡◌, ℕ, ◌+◌, nat_lt, Bool, true, false, List, [], ◌∷◌, ◌++◌, length, map, Option, Some, None, Result, Ok, Err, codes}
 use Rattle.std.specs.FinMap.{empty}
 use Rattle.std.specs.List.{flat_map}
@@ -80,16 +81,16 @@ StandPosts [] [] = Unit {0}
 StandPosts (p ∷ ps) (m ∷ ms) = StandsPost p m × StandPosts ps ms
 StandPosts _ _ = ⊥
 
--- a line comes to what the step of the model is: its answer, and nothing changes; or the messages and the answer of the turn, and then the
--- clearinghouse stands for the house after it (own)
+-- a line comes to what the step of the model is: its answer, and nothing changes; or the messages
+-- and the answer of the turn, and then the clearinghouse stands for the house after it (own)
 abbrev pub IsOutcome : HouseStep → Outcome → (c c' : Clearinghouse) → Type 0
 IsOutcome (Stays answer) (Tells lines) c c' = (lines ≡ answer_said answer ∷ []) × (c' ≡ c)
 IsOutcome (Turns turn) (Posts posts answer) c c' =
     StandPosts posts turn.posts × ((ns : List ℕ) → answer ≡ answer_said (turn.answer ns)) × StandsHouse c' turn.house
 IsOutcome _ _ c c' = ⊥
 
--- what a line comes to at a clearinghouse, and how that is after it. Whichever house of the model it stands for, and whichever message a `take`
--- stands for, it is that house's step (own)
+-- what a line comes to at a clearinghouse, and how that is after it. Whichever house of the model
+-- it stands for, and whichever message a `take` stands for, it is that house's step (own)
 pub record ComesTo (c : Clearinghouse) (clock : ℕ) (said : HouseLine) (outcome : Outcome) (c' : Clearinghouse) : Type 0 where
   pub step : (now : model.House) (m : model.Message) → StandsHouse c now → now.clock ≡ clock → Carries c.house.0 now said m
       → IsOutcome (step_at c.house.0 now said m) outcome c c'
@@ -111,7 +112,8 @@ telling number lines = record { text = lines_text number lines; body = None }
 abbrev pub with_home : House → Option Clearinghouse → House
 with_home h c = record h { home = c; more = [] }
 
--- a turn: its lines; its record, whose image is that of the clearinghouse after it; and the house after it (own)
+-- a turn: its lines; its record, whose image is that of the clearinghouse after it; and the house
+-- after it (own)
 pub record IsTurnReply (h : House) (number : ℕ) (line : List ℕ) (posts : List Post) (answer : List ℕ) (c' : Clearinghouse) (said : Said)
     (h' : House) : Type 0 where
   pub text : said.text ≡ lines_text number (turn_lines posts answer)

@@ -1,4 +1,5 @@
--- What a house answers to a line by what it holds: refusals that come before all others, questions, and the answers of the model (own).
+-- What a house answers to a line by what it holds: refusals that come before all others, questions,
+-- and the answers of the model.
 use Rattle.std.specs.Prelude.{ℕ, ◌+◌, Bool, true, false, not, ◌&&◌, ◌==◌, nat_le, nat_lt, if◌then◌else◌, List, [], ◌∷◌, ◌++◌, length, map, Option, Some, None, Result, Ok, Err, codes, decimal, is_some, is_none}
 use Rattle.std.specs.FinMap.{get}
 use Rattle.std.specs.List.{list_all}
@@ -32,13 +33,13 @@ use Rattle.house_lines.specs.declared.line.HouseLine.TheVariants as line
 use Rattle.house_turns.specs.LineSteps.{listed_houses}
 use Rattle.house_turns.specs.Texts.{end_line, octets_line, octets_lines}
 
--- a refusal (own)
+-- a refusal
 abbrev pub refused : ScriptRefusal → List ℕ
 refused r = answer_line (answer.Refused r)
 
 -- ---- answers of the model
 
--- why an update is refused (own)
+-- why an update is refused
 abbrev pub update_refusal_of : UpdateRefusal → ScriptRefusal
 update_refusal_of update.NoReplica = why.NoReplica
 update_refusal_of update.NotMaster = why.NotMaster
@@ -47,13 +48,13 @@ update_refusal_of update.EntryExists = why.EntryExists
 update_refusal_of update.WrongKind = why.WrongKind
 update_refusal_of update.StampsSpent = why.StampsSpent None []
 
--- why the model refuses: a house by itself refuses an update, a skulk or an epoch alone (own)
+-- why the model refuses: a house by itself refuses an update, a skulk or an epoch alone
 abbrev pub refusal_of : model.Refusal → ScriptRefusal
 refusal_of (model.Update r) = update_refusal_of r
 refusal_of (model.NotJoined held since) = why.NotJoined (record { 0 = held }) (record { 0 = since })
 refusal_of other = why.NoHouse
 
--- an answer of the model, as a house says it: messages have no serials there (own)
+-- an answer of the model, as a house says it: messages have no serials there
 abbrev pub answer_said : model.Answer → List ℕ
 answer_said model.Done = answer_line answer.Done
 answer_said (model.Posted ns) = answer_line answer.Done
@@ -71,32 +72,34 @@ answer_said (model.Refused r) = refused (refusal_of r)
 
 -- ---- refusals that come before those of the model
 
--- why no directory of this number is made with these houses: this house has one, or had one; or the list is none (own)
+-- why no directory of this number is made with these houses: this house has one, or had one; or the
+-- list is none
 abbrev pub founding_refusal : Clearinghouse → DirId → List Listed → Option ScriptRefusal
 founding_refusal c d ls =
     if is_some (get c.dirs d) then Some why.DirectoryExists
     else (if is_bad_list (c.house.0 ∷ listed_houses ls) then Some why.BadMembers else None)
 
--- numbers ascend from this one on (own)
+-- numbers ascend from this one on
 abbrev pub ascend_from : (least : ℕ) → List ℕ → Bool
 ascend_from least [] = true
 ascend_from least (h ∷ hs) = nat_le least h && ascend_from (h + 1) hs
 
--- a console gives this list to the house x for epoch k: it is a member list whose master is x, none is a member since a later epoch, and the
--- houses that leave ascend and are not listed (own, after C705, new epochs)
+-- a console gives this list to the house x for epoch k: it is a member list whose master is x, none
+-- is a member since a later epoch, and the houses that leave ascend and are not listed (own, after
+-- C705, new epochs)
 abbrev pub is_given : (x k : ℕ) → EpochList → Bool
 is_given x k list =
     (is_none (members_fault (members_of list.members)) && ((master_of (members_of list.members) == x) && list_all (λ m. nat_le m.since k) (members_of list.members)))
     && (ascend_from 0 (numbers_of list.leaving) && list_all (λ h. not (is_listed h (members_of list.members))) (numbers_of list.leaving))
 
--- why an epoch is not entered with this list, by what the house has of the directory (own)
+-- why an epoch is not entered with this list, by what the house has of the directory
 abbrev pub epoch_refusal : (x k : ℕ) → EpochList → Option DirState → Option ScriptRefusal
 epoch_refusal x k list None = Some why.NoReplica
 epoch_refusal x k list (Some (state.Gone e)) = Some why.NoReplica
 epoch_refusal x k list (Some (state.Held h)) =
     if not (is_given x k list) then Some why.BadMembers else (if nat_le k h.epoch.0 then Some (why.NotAbove h.epoch.0) else None)
 
--- why octets are no message; the last two are faults of images (own)
+-- why octets are no message; the last two are faults of images
 abbrev pub octets_refusal : RecordFault → ScriptRefusal
 octets_refusal (fault.Short place) = why.Short place
 octets_refusal (fault.BadTag place) = why.BadTag place
@@ -108,17 +111,17 @@ octets_refusal (fault.NotAbove place) = why.NotAbove place
 octets_refusal (fault.BadHeld place) = why.BadLength place
 octets_refusal (fault.Trailing place) = why.BadLength place
 
--- why so many octets are not one message: they do not begin with one, or more follow (own)
+-- why so many octets are not one message: they do not begin with one, or more follow
 abbrev pub take_refusal : (count : ℕ) → Result (Message × ℕ) RecordFault → Option (List ℕ)
 take_refusal count (Err f) = Some (refused (octets_refusal f))
 take_refusal count (Ok r) = if nat_lt r.1 count then Some (codes "refused Trailing " ++ decimal (r.1 + 1)) else None
 
--- a refusal, if there is one, as it is said (own)
+-- a refusal, if there is one, as it is said
 abbrev pub maybe_refused : Option ScriptRefusal → Option (List ℕ)
 maybe_refused None = None
 maybe_refused (Some r) = Some (refused r)
 
--- the refusal of a line that comes before what the model says, if one does (own)
+-- the refusal of a line that comes before what the model says, if one does
 abbrev pub early_refusal : Clearinghouse → HouseLine → Option (List ℕ)
 early_refusal c (line.Root ls) = maybe_refused (founding_refusal c (record { 0 = root_dir }) ls)
 early_refusal c (line.Mkdir d n made ls) = maybe_refused (founding_refusal c made ls)
@@ -129,28 +132,28 @@ early_refusal c other = None
 
 -- ---- questions
 
--- all that a house holds of a directory (own)
+-- all that a house holds of a directory
 abbrev pub dump_said : Option DirState → List (List ℕ)
 dump_said None = refused why.NoReplica ∷ []
 dump_said (Some (state.Gone e)) = refused why.NoReplica ∷ []
 dump_said (Some (state.Held h)) = dump_lines h.epoch h.replica.all_up_to h.members h.replica.table
 
--- values, a line each, and how many they are (own)
+-- values, a line each, and how many they are
 abbrev pub values_lines : List (List ℕ) → List (List ℕ)
 values_lines vs = map (octets_line (codes "value ")) vs ++ end_line (length vs) ∷ []
 
--- the values of an attribute, of what shows of a name (own)
+-- the values of an attribute, of what shows of a name
 abbrev pub values_said : (attr : List ℕ) → Option Shown → List (List ℕ)
 values_said attr None = refused why.NoSuchEntry ∷ []
 values_said attr (Some e) = values_lines (e.values attr)
 
--- the values that a house shows (own)
+-- the values that a house shows
 abbrev pub look_said : (name attr : List ℕ) → Option DirState → List (List ℕ)
 look_said name attr None = refused why.NoReplica ∷ []
 look_said name attr (Some (state.Gone e)) = refused why.NoReplica ∷ []
 look_said name attr (Some (state.Held h)) = values_said attr (shown_in h.replica.table name)
 
--- what a house answers to a question; nothing, if the line is none (own)
+-- what a house answers to a question; nothing, if the line is none
 abbrev pub question_said : Clearinghouse → HouseLine → Option (List (List ℕ))
 question_said c (line.Dump d) = Some (dump_said (get c.dirs d))
 question_said c (line.Look d n a) = Some (look_said n a (get c.dirs d))

@@ -23,7 +23,8 @@ use Rattle.house_lines.specs.declared.line.HouseLine.TheVariants as line
 abbrev pub listed_houses : List Listed → List ℕ
 listed_houses ls = numbers_of (houses_in ls)
 
--- the members of a new directory: this house is the master, and the others are what the line says (own)
+-- the members of a new directory: this house is the master, and the others are what the line says
+-- (own)
 abbrev pub first_members : (x : ℕ) → List Listed → List Member
 first_members x ls = member_list_of [] 1 x (listed_houses ls) (numbers_of (secondaries_in ls))
 
@@ -32,7 +33,8 @@ abbrev pub with_number : (d : ℕ) → Answer → Answer
 with_number d (Stamped s ns) = Made d s ns
 with_number d other = other
 
--- a turn, and a new directory in the same turn: its Joins are posted after the others (own, after C705, creating a directory)
+-- a turn, and a new directory in the same turn: its Joins are posted after the others (own, after
+-- C705, creating a directory)
 abbrev pub then_found : (x d : ℕ) → List Member → HouseStep → HouseStep
 then_found x d ms (Stays answer) = Stays answer
 then_found x d ms (Turns t) =
@@ -45,7 +47,8 @@ mkdir_step x now d n made ls =
     then_found x made (first_members x ls)
     (accept x now d (MakeChild n (record { dir = made; master = x; others = sorted_houses (listed_houses ls) })))
 
--- what a line tells the house x to do; of `take`, m is the message. Of lines that tell it nothing none is asked (own)
+-- what a line tells the house x to do; of `take`, m is the message. Of lines that tell it nothing
+-- none is asked (own)
 abbrev pub step_at : (x : ℕ) → model.House → HouseLine → model.Message → HouseStep
 step_at x now (line.Root ls) m = Turns (found_directory x now root_dir (first_members x ls))
 step_at x now (line.Mkdir d n made ls) m = mkdir_step x now d.0 n made.0 ls

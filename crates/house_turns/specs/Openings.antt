@@ -1,4 +1,5 @@
--- How a house goes on from the last record of its folder, the first record of a process, and what it says first (own).
+-- How a house goes on from the last record of its folder, the first record of a process, and what
+-- it says first.
 use Rattle.std.specs.Prelude.{◌≡◌, ◌≢◌, All, ℕ, ◌+◌, ◌==◌, ◌||◌, Bool, List, [], ◌∷◌, ◌++◌, length, take, if◌then◌else◌, Option, Some, None, Ok, codes, decimal}
 use Rattle.std.specs.Str.{bytes_eq}
 use Rattle.hex.specs.Hex.{encode_lower}
@@ -10,36 +11,37 @@ use Rattle.house_entries.specs.Bodies.{body_of}
 use Rattle.house_turns.specs.declared.house.House.{House}
 use Rattle.house_turns.specs.HouseReplies.{Post, turn_lines, turn_text}
 
--- the house of a folder that has none (own)
+-- the house of a folder that has none
 abbrev pub new_house : House
 new_house = record { home = None; node = 0; clock = 0; entry = 0; last = []; more = [] }
 
--- the image of a house, if it was made (own)
+-- the image of a house, if it was made
 abbrev pub image_in : Option Clearinghouse → Option (List ℕ)
 image_in None = None
 image_in (Some c) = Some (image_octets (image_of c))
 
--- the body of a record of a house as it is (own)
+-- the body of a record of a house as it is
 abbrev pub body_at : House → (text : List ℕ) → List ℕ
 body_at h text = body_of h.entry h.clock text (image_in h.home)
 
 -- ---- what a record gives
 
--- octets begin with these (own)
+-- octets begin with these
 abbrev pub begins_with : (front : List ℕ) → List ℕ → Bool
 begins_with front octets = bytes_eq (take (length front) octets) front
 
--- what comes after the first line of a text (own)
+-- what comes after the first line of a text
 unfoldable pub after_line : List ℕ → List ℕ
 after_line [] = []
 after_line (b ∷ bs) = if b == 10 then bs else after_line bs
 
--- the text of the last turn in that of a record: after a line that says that a process or a segment begins; or else the whole (own)
+-- the text of the last turn in that of a record: after a line that says that a process or a segment
+-- begins; or else the whole
 abbrev pub turn_in : List ℕ → List ℕ
 turn_in text = if begins_with (codes "start" ++ 10 ∷ []) text || begins_with (codes "segment ") text then after_line text else text
 
--- a house goes on from the body of a record: there is no house yet; or it starts of the image, as after a crash, with clock 0 (own, after C705,
--- clearinghouses)
+-- a house goes on from the body of a record: there is no house yet; or it starts of the image, as
+-- after a crash, with clock 0 (own, after C705, clearinghouses)
 pub data GoesOn : (body : List ℕ) → House → Type 0 where
   Anew : (clock : ℕ) → GoesOn (body_of 0 clock (codes "new" ++ 10 ∷ []) None) new_house
   From : (entry clock : ℕ) (text image : List ℕ) (c : Clearinghouse) → start_of_octets image ≡ Ok c → GoesOn (body_of entry clock text (Some image))
@@ -47,36 +49,36 @@ pub data GoesOn : (body : List ℕ) → House → Type 0 where
 
 -- ---- the first record of a process, and of the next segment of one
 
--- the text of a start: a house says its last turn once more (own)
+-- the text of a start: a house says its last turn once more
 abbrev pub start_text : Option Clearinghouse → (last : List ℕ) → List ℕ
 start_text None last = codes "new" ++ 10 ∷ []
 start_text (Some c) last = codes "start" ++ (10 ∷ last)
 
--- a start is an entry of its own, where there is a house (own)
+-- a start is an entry of its own, where there is a house
 abbrev pub after_start : House → Option Clearinghouse → House
 after_start h None = h
 after_start h (Some c) = record h { entry = h.entry + 1 }
 
--- the text of the first record of the next segment (own)
+-- the text of the first record of the next segment
 abbrev pub segment_text : House → Option Clearinghouse → List ℕ
 segment_text h None = codes "new" ++ 10 ∷ []
 segment_text h (Some c) = codes "segment " ++ (decimal h.entry ++ (10 ∷ h.last))
 
 -- ---- what a house says first
 
--- no line ends among octets (own)
+-- no line ends among octets
 abbrev pub HasNoEnd : List ℕ → Type 0
 HasNoEnd = All (λ b. b ≢ 10)
 
--- the line of a turn as it is said again: of `take` the word alone (own)
+-- the line of a turn as it is said again: of `take` the word alone
 abbrev pub said_again : (line : List ℕ) → List ℕ
 said_again line = if begins_with (codes "take ") line then codes "take" else line
 
--- who the house is (own)
+-- who the house is
 abbrev pub house_line : House → Clearinghouse → List ℕ
 house_line h c = codes "house " ++ (decimal c.house.0 ++ (32 ∷ encode_lower (node_octets h.node)))
 
--- the first lines: that there is no house; or who it is, and its last turn again (own)
+-- the first lines: that there is no house; or who it is, and its last turn again
 abbrev pub first_lines : House → Option Clearinghouse → (line : List ℕ) → List Post → (answer : List ℕ) → List (List ℕ)
 first_lines h None line posts answer = codes "new" ∷ []
 first_lines h (Some c) line posts answer = house_line h c ∷ ((codes "last " ++ said_again line) ∷ turn_lines posts answer)

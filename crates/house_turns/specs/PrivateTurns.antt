@@ -42,40 +42,40 @@ use Rattle.house_turns.specs.HouseReplies.{ComesTo, IsOutcome, Outcome, Post, Po
 use Rattle.house_turns.specs.Openings.{body_at}
 use Rattle.house_turns.specs.LineAnswers.{early_refusal, question_said, refused}
 
--- a message to each of its receivers, if there is one (own)
+-- a message to each of its receivers, if there is one
 abbrev pub posts_of_letters : Option Letters → List Post
 posts_of_letters None = []
 posts_of_letters (Some ls) = map (λ h. record { to = h.0; octets = ls.octets.items }) ls.receivers.items
 
--- the messages that are posted (own)
+-- the messages that are posted
 abbrev pub posts_in : posts.Posts → List Post
 posts_in ps = posts_of_letters ps.first ++ posts_of_letters ps.second
 
--- the lines of these octets to each of these houses, in an answer (own)
+-- the lines of these octets to each of these houses, in an answer
 abbrev pub letters_text : (number : ℕ) → (octets : List ℕ) → List HouseNo → List ℕ
 letters_text number octets = flat_map (λ h. lines_text number (piece_lines h.0 (pieces_of 2000 octets)))
 
--- and in a record (own)
+-- and in a record
 abbrev pub letters_kept : (octets : List ℕ) → List HouseNo → List ℕ
 letters_kept octets = flat_map (λ h. post_line (codes "post ") h.0 octets ++ 10 ∷ [])
 
--- posted messages as octets (own)
+-- posted messages as octets
 abbrev pub posts_said : List Posted → List Post
 posts_said = map (λ p. record { to = p.to.0; octets = message_octets p.message })
 
--- the epoch in which a directory is held, if it is (own)
+-- the epoch in which a directory is held, if it is
 abbrev pub epoch_of : Option DirState → Option EpochNo
 epoch_of None = None
 epoch_of (Some (state.Gone e)) = None
 epoch_of (Some (state.Held h)) = Some h.epoch
 
--- why an epoch is refused (own)
+-- why an epoch is refused
 abbrev pub epoch_refusal_of : EpochRefusal → ScriptRefusal
 epoch_refusal_of epoch.NoReplica = why.NoReplica
 epoch_refusal_of (epoch.NotJoined held since) = why.NotJoined held since
 epoch_refusal_of (epoch.StaleEpoch held given) = why.NotAbove held.0
 
--- what is said of a message, taken or not (own)
+-- what is said of a message, taken or not
 abbrev pub taken_line : Taken → List ℕ
 taken_line taken.Taken = answer_line (answer.Taken [])
 taken_line (taken.Late k e) = answer_line (answer.Late k e)
@@ -85,37 +85,39 @@ taken_line taken.NoReplica = answer_line answer.NoReplica
 taken_line taken.Foreign = codes "ok foreign"
 taken_line (taken.Complete t) = answer_line (answer.Complete t [])
 
--- what a message comes to that is taken, or not (own)
+-- what a message comes to that is taken, or not
 abbrev pub taken_outcome : Taken → List Post → Outcome
 taken_outcome t posts = if is_taken t then Posts posts (taken_line t) else Tells (taken_line t ∷ [])
 
--- what is said is an outcome: these lines, with the number of theirs; or these posts, and this answer (own)
+-- what is said is an outcome: these lines, with the number of theirs; or these posts, and this
+-- answer
 abbrev pub Says : (number : ℕ) → said.Said → Outcome → Type 0
 Says number (Told text) (Tells lines) = text.items ≡ lines_text number lines
 Says number (Turned ps octets) (Posts posts answer) = (posts_in ps ≡ posts) × (octets.items ≡ answer)
 Says number _ _ = ⊥
 
--- a line comes to what is said (own)
+-- a line comes to what is said
 pub record Comes (number : ℕ) (old new : Clearinghouse) (clock : ℕ) (line : HouseLine) (s : said.Said) : Type 0 where
   pub outcome : Outcome
   pub says : Says number s outcome
   pub comes : ComesTo old clock line outcome new
 
--- a line is refused before the model is asked (own)
+-- a line is refused before the model is asked
 abbrev pub ComesUnless : Option (List ℕ) → (number : ℕ) → (old new : Clearinghouse) → (clock : ℕ) → HouseLine → said.Said → Type 0
 ComesUnless (Some refusal) number old new clock line s = Says number s (Tells (refusal ∷ [])) × (new ≡ old)
 ComesUnless None number old new clock line s = Comes number old new clock line s
 
--- what is said to a line at a clearinghouse, which is so before it and so after it (own)
+-- what is said to a line at a clearinghouse, which is so before it and so after it
 abbrev pub Does : (number : ℕ) → (old new : Clearinghouse) → (clock : ℕ) → HouseLine → said.Said → Type 0
 Does number old new clock line s = ComesUnless (early_refusal old line) number old new clock line s
 
--- the same of a question, or another line (own)
+-- the same of a question, or another line
 abbrev pub DoesOrTells : Option (List (List ℕ)) → (number : ℕ) → (old new : Clearinghouse) → (clock : ℕ) → HouseLine → said.Said → Type 0
 DoesOrTells (Some lines) number old new clock line s = Says number s (Tells lines) × (new ≡ old)
 DoesOrTells None number old new clock line s = Does number old new clock line s
 
--- what a message comes to: whichever house of the model the clearinghouse stands for, and whichever message, it is that house's step (own)
+-- what a message comes to: whichever house of the model the clearinghouse stands for, and whichever
+-- message, it is that house's step
 pub record TakesMessage (number : ℕ) (old new : Clearinghouse) (message : Message) (s : said.Said) : Type 0 where
   pub outcome : Outcome
   pub says : Says number s outcome
@@ -125,7 +127,7 @@ pub record TakesMessage (number : ℕ) (old new : Clearinghouse) (message : Mess
   pub node : new.node ≡ old.node
   pub lawful : IsLawful old → IsLawful new
 
--- what an update comes to that makes a child, and its directory (own)
+-- what an update comes to that makes a child, and its directory
 pub record MakesChild (number : ℕ) (old new : Clearinghouse) (clock : ℕ) (dir : DirId) (change : Change) (child : DirId) (members : List Member)
     (s : said.Said) : Type 0 where
   pub outcome : Outcome
@@ -136,46 +138,46 @@ pub record MakesChild (number : ℕ) (old new : Clearinghouse) (clock : ℕ) (di
   pub node : new.node ≡ old.node
   pub lawful : IsLawful old → IsLawful new
 
--- what is said to a line that the clearinghouse is asked, if there is one, and the house after it (own)
+-- what is said to a line that the clearinghouse is asked, if there is one, and the house after it
 abbrev pub AsksHome : Option Clearinghouse → (number : ℕ) → (old new : House) → HouseLine → said.Said → Type 0
 AsksHome None number old new says s = Says number s (Tells (refused why.NoHouse ∷ [])) × (new ≡ old)
 AsksHome (Some c) number old new says s =
     (c' : Clearinghouse) × DoesOrTells (question_said c says) number c c' old.clock says s × (new ≡ record old { home = Some c' })
 
--- what is said to a line where there is a clearinghouse, and the house after it (own)
+-- what is said to a line where there is a clearinghouse, and the house after it
 abbrev pub DoesAt : (c : Clearinghouse) → (number : ℕ) → (old new : House) → HouseLine → said.Said → Type 0
 DoesAt c number old new (asks.House x node) s = Says number s (Tells (refused why.HouseExists ∷ [])) × (new ≡ old)
 DoesAt c number old new (asks.Clock time) s = Says number s (Tells (answer_line answer.Done ∷ [])) × (new ≡ record old { clock = time })
 DoesAt c number old new says s =
     (c' : Clearinghouse) × DoesOrTells (question_said c says) number c c' old.clock says s × (new ≡ record old { home = Some c' })
 
--- where there is none (own)
+-- where there is none
 abbrev pub DoesAnew : (number : ℕ) → (old new : House) → HouseLine → said.Said → Type 0
 DoesAnew number old new (asks.House x node) s =
     Says number s (Posts [] (answer_line answer.Done)) × (new ≡ record old { home = Some (new_clearinghouse x node); node = node })
 DoesAnew number old new says s = Says number s (Tells (refused why.NoHouse ∷ [])) × (new ≡ old)
 
--- by what there is (own)
+-- by what there is
 abbrev pub DoesBy : Option Clearinghouse → (number : ℕ) → (old new : House) → HouseLine → said.Said → Type 0
 DoesBy None number old new says s = DoesAnew number old new says s
 DoesBy (Some c) number old new says s = DoesAt c number old new says s
 
 -- ---- replies
 
--- the reply that a turn gives, and the house after it, which did the turn already (own)
+-- the reply that a turn gives, and the house after it, which did the turn already
 pub record TurnReply (h : House) (number : ℕ) (line : List ℕ) (posts : List Post) (answer : List ℕ) (reply : serving.Said) (h' : House) : Type 0 where
   pub text : reply.text ≡ lines_text number (turn_lines posts answer)
   pub body : reply.body ≡ Some (body_at (record h { entry = h.entry + 1 }) (turn_text line posts answer))
   pub after : h' ≡ record h { entry = h.entry + 1; last = turn_text line posts answer }
 
--- the reply that what is said gives, and the house after it (own)
+-- the reply that what is said gives, and the house after it
 abbrev pub ReplyOf : House → (number : ℕ) → (line : List ℕ) → said.Said → serving.Said → House → Type 0
 ReplyOf h number line (Told text) reply h' = (reply ≡ record { text = text.items; body = None }) × (h' ≡ h)
 ReplyOf h number line (Turned ps octets) reply h' = TurnReply h number line (posts_in ps) octets.items reply h'
 
 -- ---- starts
 
--- a house that starts of an image, after so many entries, the last turn of which has this text (own)
+-- a house that starts of an image, after so many entries, the last turn of which has this text
 pub record StartsFrom (entry : ℕ) (turn image : List ℕ) (h : House) : Type 0 where
   pub home : Clearinghouse
   pub starts : start_of_octets image ≡ Ok home

@@ -32,8 +32,8 @@ use std::alloc::{AllocError, Global};
 /// The most octets of a message.
 pub const MOST_MESSAGE: usize = 16_777_216;
 
-/// A house: what it holds, if it was made, and its node; its clock; the number of its last entry; the text of its last turn; and octets
-/// of the message that it is to take next.
+/// A house: what it holds, if it was made, and its node; its clock; the number of its last entry;
+/// the text of its last turn; and octets of the message that it is to take next.
 #[derive(Drop)]
 pub struct House {
     pub(crate) home: Option<Clearinghouse>,
@@ -234,7 +234,8 @@ impl House {
         told(alloc, number, &Answer::Done)
     }
 
-    // What a line comes to that neither makes the house nor sets its clock, nor gives octets of a message.
+    // What a line comes to that neither makes the house nor sets its clock, nor gives octets of a
+    // message.
     fn ask_home(&mut self, alloc: Global, number: u32, line: HouseLine) -> Result<Said, AllocError>
         ensures { IfOk result (λ s. AsksHome self.old.home number self.old self.new line s) }
     {

@@ -83,7 +83,8 @@ fn kind_among(master: HouseNo, others: &[Listed], house: HouseNo) -> MemberKind
     }
 }
 
-/// The members of a new directory with this master; none, if a house is named twice or they are more than 64.
+/// The members of a new directory with this master; none, if a house is named twice or they are
+/// more than 64.
 pub(crate) fn first_members(
     alloc: Global,
     master: HouseNo,

@@ -72,7 +72,8 @@ pub(crate) fn push_all_octets(
     Ok(())
 }
 
-/// Adds the words and the octets of a message, or of a part of one, and a line end. The word ends in a space.
+/// Adds the words and the octets of a message, or of a part of one, and a line end. The word ends
+/// in a space.
 pub(crate) fn push_post(
     text: &mut Vec<u8>,
     word: &[u8],

@@ -122,8 +122,8 @@ kind_itself Child = refl
 
 -- ---- one way
 
--- the first history has what the second has up to t, and the other way round; of the first deletions up to a, which is not earlier than t,
--- are dropped, and of the second those up to t
+-- the first history has what the second has up to t, and the other way round; of the first
+-- deletions up to a, which is not earlier than t, are dropped, and of the second those up to t
 module _ (t a : Stamp) (not_before : is_earlier a t ≡ false) (h g : List Mark) (mine : IsHistory h) (theirs : IsHistory g)
     (there : Covers t g h) (back : Covers t h g) where
   dead_later : (d : Option Stamp) → is_dead_up_to t d ≡ true → is_dead_up_to a d ≡ true

@@ -31,7 +31,7 @@ use Rattle.image_audit.proofs.Looked.{in_one}
 -- ---- lists in order
 
 module _ {A : Type 0} where
-  -- what holds of each item that stands in a list
+  -- what holds of each item that is in a list
   all_from : (P : A → Type 0) (xs : List A) → ((x : A) → Contains xs x → P x) → AllByRecursion P xs
   all_from P [] each = tt
   all_from P (x ∷ xs) each = (each x (Contains-head x xs), all_from P xs (λ y c. each y (Contains-tail x xs y c)))
@@ -74,12 +74,13 @@ module _ {A : Type 0} where
           no true p q = cc (q)
           no false p q = cc (p)
 
--- items of which each is before those behind it
+-- items of which each is before those after it
 abbrev Pairs : {A : Type 0} → (A → A → Type 0) → List A → Type 0
 Pairs before [] = Unit {0}
 Pairs before (x ∷ xs) = AllByRecursion (before x) xs × Pairs before xs
 
--- what a function makes of such items ascends, if what it makes of each does, and what it makes of one is before what it makes of another
+-- what a function makes of such items ascends, if what it makes of each does, and what it makes of
+-- one is before what it makes of another
 flat_sorted : {A B : Type 0} (before : A → A → Type 0) (S : B → B → Ordering) (f : A → List B) → ((x : A) → IsStrictlySortedBy S (f x))
     → ((x y : A) → before x y → (a b : B) → Contains (f x) a → Contains (f y) b → S a b ≡ Less)
     → (xs : List A) → Pairs before xs → IsStrictlySortedBy S (flat_map f xs)

@@ -1,4 +1,5 @@
--- The fact that is told is the first open one of both replicas, and where none is told none is open.
+-- The fact that is told is the first open one of both replicas, and where none is told none is
+-- open.
 use Rattle.std.proofs.Common.{◌≡◌, inl, inr, ℕ, Bool, true, false, List, [], ◌∷◌, Option, Some, None, refl, sym, ap, subst, ◌∙◌, ⊎_elim, arith}
 use Rattle.std.specs.Prelude.{if◌then◌else◌}
 use Rattle.std.specs.List.{Contains, find}
@@ -22,7 +23,7 @@ use Rattle.image_audit.proofs.FactOrder.{fact_total, first_is_least}
 
 -- ---- one replica
 
--- what is found stands in the list, and passes
+-- what is found is in the list, and passes
 find-some : {A : Type 0} (p : A → Bool) (xs : List A) (f : A) → find p xs ≡ Some f → Contains xs f × (p f ≡ true)
 find-some p [] f found = absurd (cc (found))
 find-some p (x ∷ xs) f found = at (p x) refl found (λ h. find-some p xs f h)

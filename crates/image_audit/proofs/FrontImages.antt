@@ -21,7 +21,7 @@ use Rattle.cds_records.specs.RecordMemory.{image_head, WantsForImage}
 use Rattle.cds_records.proofs.WholeDecoding.{fault_is, format_former, format_present, format_unknown, format_missing, whole_decoded, image_has_head}
 use Rattle.image_audit.proofs.Looked.{both_pass}
 
--- behind no octet there is no image of format 2
+-- after no octet there is no image of format 2
 present_missing : decode_by image [] ≡ Err (fault.Short 1)
 unfolding image image_in octet
 present_missing = fault_is image [] (fault.Short 1) (record {
@@ -33,7 +33,7 @@ present_missing = fault_is image [] (fault.Short 1) (record {
   named = refl;
 })
 
--- nor behind a first octet that is not 2
+-- nor after a first octet that is not 2
 present_unknown : (n : ℕ) (rest : List ℕ) → outside BadTag 2 2 n ≡ Some BadTag → decode_by image (n ∷ rest) ≡ Err (fault.BadTag 1)
 unfolding image image_in octet
 present_unknown n rest is = fault_is image (n ∷ rest) (fault.BadTag 1) (record {
@@ -72,7 +72,7 @@ read_by_former (m ∷ rest) former =
     let is : m ∷ rest ≡ 1 ∷ rest = ap (λ m. m ∷ rest) (first_is m rest former) in
     ap (decode_by either_image) is ∙ format_former rest ∙ ap (decode_by image_1) (sym is)
 
--- behind a first octet 1 an image of format 1 was read
+-- after a first octet 1 an image of format 1 was read
 pub front_former : (octets : List ℕ) (r : Result (Image × ℕ) (AllocOr RecordFault)) → is_former octets ≡ true → Decodes image_1 octets r
     → Answers r (decode_by either_image octets)
 front_former octets r former decodes = subst (Answers r) (sym (read_by_former octets former)) (answers_decoding image_1 octets r decodes)
@@ -98,7 +98,7 @@ wants (Ok x) p = tt
 wants (Err (Fault f)) p = tt
 wants (Err OutOfMemory) p = p
 
--- of two formats each wants memory behind a whole head of either alone
+-- of two formats each wants memory after a whole head of either alone
 pub wants_former : {T E : Type 0} (octets : List ℕ) (r : Result T (AllocOr E)) → IfWant (WantsForImage 1 1 octets) r → IfWant (WantsForImage 1 2 octets) r
 wants_former octets (Ok x) w = tt
 wants_former octets (Err (Fault f)) w = tt

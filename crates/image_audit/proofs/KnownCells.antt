@@ -1,4 +1,5 @@
--- A value that is present in one purged attribute is answered by another of which the same marks are known up to a stamp.
+-- A value that is present in one purged attribute is answered by another of which the same marks
+-- are known up to a stamp.
 use Rattle.std.proofs.Common.{◌≡◌, ◌≢◌, ℕ, Bool, true, false, not, List, Option, Some, None, refl, sym, ap, ◌∙◌, arith}
 use Rattle.std.specs.Prelude.{◌&&◌, ◌||◌, if◌then◌else◌}
 use Rattle.std.specs.FinMap.{get, get-empty}

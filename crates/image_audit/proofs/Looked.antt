@@ -1,4 +1,5 @@
--- The facts of a table, by what is looked up in it; and what holds of each open fact of a list that has none.
+-- The facts of a table, by what is looked up in it; and what holds of each open fact of a list that
+-- has none.
 use Rattle.std.proofs.Common.{◌≡◌, ℕ, Bool, true, false, List, [], ◌∷◌, Some, None, refl, sym, ap, subst, ◌∙◌, ⊎_elim}
 use Rattle.std.specs.Prelude.{◌&&◌, if◌then◌else◌}
 use Rattle.std.specs.FinMap.{get, entries}
@@ -36,12 +37,12 @@ none-find p [] each = refl
 none-find p (x ∷ xs) each =
     ap (λ b. if b then Some x else find p xs) (each x (Contains-head x xs)) ∙ none-find p xs (λ y c. each y (Contains-tail x xs y c))
 
--- what stands in a list of one item that may be there
+-- what is in a list of one item that may be there
 pub in_one : {A : Type 0} (b : Bool) (x y : A) → Contains (if b then x ∷ [] else []) y → (b ≡ true) × (x ≡ y)
 in_one true x y c = (refl, ⊎_elim (λ is. is) (λ rest. absurd (Contains-none y rest)) (Contains-cases x [] y c))
 in_one false x y c = absurd (Contains-none y c)
 
--- and that it stands there
+-- and that it is there
 one_in : {A : Type 0} (b : Bool) (x : A) → b ≡ true → Contains (if b then x ∷ [] else []) x
 one_in true x is = Contains-head x []
 one_in false x is = absurd (cc (is))

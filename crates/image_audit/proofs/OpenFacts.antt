@@ -51,7 +51,8 @@ module _ (t : Stamp) (n : List ℕ) (e : EntryCell) where
       (first_some (λ a. first_some (λ v. if (v.1.present && is_up_to t v.1.stamp) && not (answered (Value n c a.0 v.0 v.1.stamp) o)
       then Some (Value n c a.0 v.0 v.1.stamp) else None) (entries a.1.values)) (entries e.attrs))
 
-  -- the first of its facts that is open is what is open beside the entry that the table has of its name
+  -- the first of its facts that is open is what is open beside the entry that the table has of its
+  -- name
   find-found : (table : Entries) → find (is_open table) (entry_facts t (n, e)) ≡ found (get table n)
   find-found table =
       find-append (is_open table) (birth_fact t n e) (flat_map (attr_facts t n c) (entries e.attrs))

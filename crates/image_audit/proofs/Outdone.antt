@@ -1,5 +1,5 @@
--- Of two tables purged up to one stamp, each of which answers for the other's facts up to it, each has a fact of the other or what outdoes
--- it, and all that does is later than the stamp.
+-- Of two tables purged up to one stamp, each of which answers for the other's facts up to it, each
+-- has a fact of the other or what outdoes it, and all that does is later than the stamp.
 use Rattle.std.proofs.Common.{◌≡◌, ◌⊎◌, inl, inr, ℕ, Bool, true, false, not, List, Option, Some, None, refl, sym, ap, subst, ◌∙◌, ⊎_elim, arith}
 use Rattle.std.specs.Prelude.{◌&&◌, ◌||◌, if◌then◌else◌, IfSome}
 use Rattle.std.specs.FinMap.{get}

@@ -1,4 +1,5 @@
--- What a table says up to a stamp, and whether another table answers for it (own, after C705, skulks and AllUpTo).
+-- What a table says up to a stamp, and whether another table answers for it (own, after C705,
+-- skulks and AllUpTo).
 use Rattle.std.specs.Prelude.{ℕ, Bool, false, not, ◌&&◌, ◌||◌, List, [], ◌∷◌, ◌++◌, Option, Some, None, if◌then◌else◌}
 use Rattle.std.specs.List.{flat_map}
 use Rattle.std.specs.Option.{option_map_or}
@@ -34,8 +35,8 @@ attr_facts t n c a = flat_map (value_fact t n c a.0) (entries a.1.values)
 abbrev pub entry_facts : Stamp → List ℕ × EntryCell → List Fact
 entry_facts t e = birth_fact t e.0 e.1 ++ flat_map (attr_facts t e.0 e.1.birth) (entries e.1.attrs)
 
--- the births of the entries of a table and their present values, stamped at most t; none where there is no t (own, after C705, skulks
--- and AllUpTo)
+-- the births of the entries of a table and their present values, stamped at most t; none where
+-- there is no t (own, after C705, skulks and AllUpTo)
 abbrev pub facts : Option Stamp → Entries → List Fact
 facts None table = []
 facts (Some t) table = flat_map (entry_facts t) (entries table)
@@ -53,11 +54,13 @@ answers_birth k c e = is_earlier c e.birth || (is_stamp e.birth c && is_kind e.k
 abbrev pub answers_mark : Stamp → ValueMark → Bool
 answers_mark s m = is_earlier s m.stamp || (m.present && is_stamp m.stamp s)
 
--- an attribute answers for a value present at s: its clear is later than s, or its mark of the value answers (own)
+-- an attribute answers for a value present at s: its clear is later than s, or its mark of the
+-- value answers (own)
 abbrev pub answers_cell : (value : List ℕ) → Stamp → AttrCell → Bool
 answers_cell v s a = option_map_or (is_earlier s) a.cleared false || option_map_or (answers_mark s) (get a.values v) false
 
--- an entry answers for a value of an entry born at c: its birth is later, or it is that birth and the attribute answers (own)
+-- an entry answers for a value of an entry born at c: its birth is later, or it is that birth and
+-- the attribute answers (own)
 abbrev pub answers_value : (birth : Stamp) → (attr value : List ℕ) → Stamp → EntryCell → Bool
 answers_value c a v s e = is_earlier c e.birth || (is_stamp e.birth c && option_map_or (answers_cell v s) (get e.attrs a) false)
 

@@ -54,12 +54,14 @@ pub record LaterMark (table : Entries) (name : List ℕ) (c : Stamp) (attr value
   pub stamp : mark.stamp ≡ s
   pub later : is_earlier r s ≡ true
 
--- what stands in a table in place of a fact, and its stamp: a later birth, or of a value a later clear or a later mark (own)
+-- what is in a table in place of a fact, and its stamp: a later birth, or of a value a later clear
+-- or a later mark (own)
 abbrev pub Outdoes : Entries → Fact → Stamp → Type 0
 Outdoes table (Birth n k c) s = LaterBirth table n c s
 Outdoes table (Value n c a v r) s = LaterBirth table n c s ⊎ (LaterClear table n c a r s ⊎ LaterMark table n c a v r s)
 
--- a table has a fact up to t of another, or something in its place, and all that is in its place is later than t (own)
+-- a table has a fact up to t of another, or something in its place, and all that is in its place is
+-- later than t (own)
 pub record HoldsUpTo (t : Stamp) (table : Entries) (f : Fact) : Type 0 where
   pub held : Contains (facts (Some t) table) f ⊎ ((s : Stamp) × Outdoes table f s)
   pub later : (s : Stamp) → Outdoes table f s → is_earlier t s ≡ true

@@ -1,4 +1,5 @@
--- Words of private contracts: the first open fact of a value, an attribute and an entry, beside what the other replica has.
+-- Words of private contracts: the first open fact of a value, an attribute and an entry, beside
+-- what the other replica has.
 use Rattle.std.specs.Prelude.{ℕ, false, not, ◌&&◌, List, Option, Some, None, if◌then◌else◌}
 use Rattle.std.specs.Option.{option_map_or, option_and_then, option_or}
 use Rattle.std.specs.FinMap.{entries, get}
@@ -20,7 +21,8 @@ abbrev pub fact_of : OpenFact → Fact
 fact_of (lent.Birth n k c) = Birth n.now k c
 fact_of (lent.Value n c a v s) = Value n.now c a.now v.now s
 
--- a value is told, if it is present by a mark up to t, and the other's attribute of the same birth does not answer
+-- a value is told, if it is present by a mark up to t, and the other's attribute of the same birth
+-- does not answer
 abbrev pub open_value : Stamp → (name : List ℕ) → (birth : Stamp) → (attr : List ℕ) → (other : Option AttrCell) → List ℕ × ValueMark → Option Fact
 open_value t n c a other v =
     if (v.1.present && is_up_to t v.1.stamp) && not (option_map_or (answers_cell v.0 v.1.stamp) other false) then Some (Value n c a v.0 v.1.stamp) else None
@@ -37,7 +39,8 @@ open_birth t n e same = if is_up_to t e.birth && not (option_map_or (λ o. is_ki
 abbrev pub open_beside : Stamp → (name : List ℕ) → EntryCell → (same : Option EntryCell) → Option Fact
 open_beside t n e same = option_or (open_birth t n e same) (first_some (open_attr t n e.birth same) (entries e.attrs))
 
--- the first fact of an entry that is told, beside what the other has of its name: none beside a later birth
+-- the first fact of an entry that is told, beside what the other has of its name: none beside a
+-- later birth
 abbrev pub open_entry : Stamp → (name : List ℕ) → EntryCell → (other : Option EntryCell) → Option Fact
 open_entry t n e None = open_beside t n e None
 open_entry t n e (Some o) =

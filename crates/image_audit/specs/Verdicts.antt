@@ -29,12 +29,14 @@ is_up_to_same None (Some t) = false
 is_up_to_same (Some s) None = false
 is_up_to_same (Some s) (Some t) = is_stamp s t
 
--- the first fact of a replica up to t for which the other does not answer. Only one whose AllUpTo is t is asked: a greater one may have
--- forgotten what answered (own, after C705, skulks and AllUpTo)
+-- the first fact of a replica up to t for which the other does not answer. Only one whose AllUpTo
+-- is t is asked: a greater one may have forgotten what answered (own, after C705, skulks and
+-- AllUpTo)
 abbrev pub open_of : Option Stamp → (own other : Replica) → Option Fact
 open_of t own other = if is_up_to_same t other.all_up_to then find (is_open other.table) (facts t own.table) else None
 
--- the first of two facts, and whose it is: where neither comes first, that of the first replica (own)
+-- the first of two facts, and whose it is: where neither comes first, that of the first replica
+-- (own)
 abbrev pub first_of : Option Fact → Option Fact → Option (ℕ × Fact)
 first_of None None = None
 first_of (Some f) None = Some (1, f)

@@ -33,7 +33,8 @@ fn replica_in(image: &Image, dir: DirId) -> Option<&Replica>
     }
 }
 
-// The first fact of a replica up to t for which the other does not answer. It is asked where its AllUpTo is t.
+// The first fact of a replica up to t for which the other does not answer. It is asked where its
+// AllUpTo is t.
 fn open_of<'a>(t: Option<Stamp>, own: &'a Replica, other: &Replica) -> Option<OpenFact<'a>>
     ensures { option_map fact_of result ≡ open_of t own.now other.now }
 {
@@ -74,8 +75,8 @@ fn differ(alloc: Global, image: u8, fact: &OpenFact<'_>) -> Result<Verdict, Allo
     Ok(Verdict::Differ(image, fact.copy(alloc)?))
 }
 
-/// Audits a directory in two images: whether the houses that they come from can be replicas of it that agree up to the smaller AllUpTo.
-/// An answer other than Differ takes no memory.
+/// Audits a directory in two images: whether the houses that they come from can be replicas of it
+/// that agree up to the smaller AllUpTo. An answer other than Differ takes no memory.
 pub fn audit<'a>(
     alloc: Global,
     first: &'a Image,

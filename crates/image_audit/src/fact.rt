@@ -64,7 +64,8 @@ impl OpenFact<'_> {
         }
     }
 
-    /// Whether it comes before the other: by name, the birth before the values, and these by attribute and value.
+    /// Whether it comes before the other: by name, the birth before the values, and these by
+    /// attribute and value.
     pub(crate) fn is_before(&self, other: &OpenFact<'_>) -> bool
         ensures { result ≡ is_lt (fact_cmp (fact_of self.now) (fact_of other.now)) }
     {

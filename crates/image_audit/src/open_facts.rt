@@ -1,4 +1,5 @@
-// The first fact of a replica for which another does not answer. Each table is walked once, and the other is asked by name.
+// The first fact of a replica for which another does not answer. Each table is walked once, and the
+// other is asked by name.
 ghost use Rattle.std.specs.Prelude.{◌≡◌, ◌∷◌, Some, option_copied};
 ghost use Rattle.std.specs.FinMap as map;
 ghost use Rattle.std.specs.List.{find};
@@ -96,7 +97,8 @@ fn attr_of<'a>(entry: Option<&'a EntryCell>, attr: &AttrName) -> Option<&'a Attr
     entry?.attrs.get(attr)
 }
 
-// The birth of an entry, if it is up to t, and the other's entry of the same birth is not of its kind.
+// The birth of an entry, if it is up to t, and the other's entry of the same birth is not of its
+// kind.
 fn open_birth<'a>(
     t: Stamp,
     name: &'a SimpleName,

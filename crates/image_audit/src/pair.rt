@@ -29,7 +29,8 @@ pub struct PairFault {
 // What an image of format 1 begins with.
 const FORMER_FORMAT: &[u8] = b"\x01";
 
-// The image of either format at the front of the octets, and how many octets it has. Else the first fault.
+// The image of either format at the front of the octets, and how many octets it has. Else the first
+// fault.
 fn front_image(alloc: Global, octets: &[u8]) -> Result<(Image, usize), AllocOr<RecordFault>>
     ensures answer { Answers result (decode_by either_image octets.now) }
     ensures within { IfOk result (λ r. r.1 ≤ length octets.now) }
@@ -63,9 +64,9 @@ fn second_image(alloc: Global, octets: &[u8]) -> Result<Image, AllocOr<PairFault
     }
 }
 
-/// Audits a directory in the two images that the octets are, one after the other, each of either format. Else the first fault of the
-/// first image that has one; where octets follow the second it is Trailing. Of each image memory is asked for only after a whole
-/// head of it.
+/// Audits a directory in the two images that the octets are, one after the other, each of either
+/// format. Else the first fault of the first image that has one; where octets follow the second it
+/// is Trailing. Of each image memory is asked for only after a whole head of it.
 pub fn audit_octets(alloc: Global, octets: &[u8], dir: DirId) -> Result<Verdict, AllocOr<PairFault>>
     ensures answer { Answers result (audit_verdict octets.now dir) }
     ensures wanting { IfWant (WantsForImage 1 2 octets.now) result }

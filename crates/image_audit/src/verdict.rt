@@ -8,7 +8,8 @@ pub enum Verdict {
     NoReplica(u8),
     /// No fact up to this stamp, the smaller AllUpTo, shows that the replicas disagree.
     Agree(Option<Stamp>),
-    /// They do not agree: this image, 1 or 2, has this fact, for which the other replica does not answer.
+    /// They do not agree: this image, 1 or 2, has this fact, for which the other replica does not
+    /// answer.
     Differ(u8, Fact),
 }
 

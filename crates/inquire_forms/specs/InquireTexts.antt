@@ -1,4 +1,4 @@
--- The text of what inquiries are answered, a line each or several (own).
+-- The text of what inquiries are answered, a line each or several.
 use Rattle.std.specs.Prelude.{ℕ, ◌+◌, if◌then◌else◌, List, [], ◌∷◌, ◌++◌, length, map, codes}
 use Rattle.std.specs.List.{flat_map}
 use Rattle.std.specs.Fmt.{decimal}
@@ -13,7 +13,7 @@ use Rattle.ns_inquire.specs.Inquiries.{is_default}
 use Rattle.script_answers.specs.Texts.{answer_lines, binding_line, import_end, lines_text}
 use Rattle.inquire_forms.specs.Inquired.{Inquired, Plain, Members, Entries, Elements, Batches}
 
--- a member of a group (own)
+-- a member of a group
 abbrev pub member_line : List (List ℕ) → List ℕ
 member_line name = codes "member " ++ full_name_octets name
 
@@ -25,32 +25,32 @@ interface_line i = codes "interface " ++ interface_text i
 abbrev pub object_line : List ℕ → List ℕ
 object_line object = codes "object " ++ hyphenated_text lower object
 
--- the interface of an element, or the word of default elements (own)
+-- the interface of an element, or the word of default elements
 abbrev pub element_interface : Element → List ℕ
 element_interface e = if is_default e then codes "default" else interface_text e.interface
 
--- an annotation in hexadecimal digits, or the word for none (own)
+-- an annotation in hexadecimal digits, or the word for none
 abbrev pub note_text : List ℕ → List ℕ
 note_text [] = codes "-"
 note_text (b ∷ bs) = encode_lower (b ∷ bs)
 
--- an element: its priority, its interface, its member and its annotation (own)
+-- an element: its priority, its interface, its member and its annotation
 abbrev pub element_said : Element → List ℕ
 element_said e = decimal e.priority ++ (32 ∷ (element_interface e ++ (32 ∷ (full_name_octets e.member ++ (32 ∷ note_text e.annotation)))))
 
 abbrev pub element_line : Element → List ℕ
 element_line e = codes "element " ++ element_said e
 
--- a batch: how many bindings it has, and each of them (own)
+-- a batch: how many bindings it has, and each of them
 abbrev pub batch_lines : List StringBinding → List (List ℕ)
 batch_lines bs = (codes "batch " ++ decimal (length bs)) ∷ map binding_line bs
 
--- how many bindings batches have together (own)
+-- how many bindings batches have together
 abbrev pub total : List (List StringBinding) → ℕ
 total [] = 0
 total (bs ∷ more) = length bs + total more
 
--- the lines of an answer: what is listed, and last how many there are (own)
+-- the lines of an answer: what is listed, and last how many there are
 abbrev pub inquire_lines : Inquired → List (List ℕ)
 inquire_lines (Plain answer) = answer_lines answer
 inquire_lines (Members names) = map member_line names ++ import_end (length names) ∷ []
@@ -59,6 +59,6 @@ inquire_lines (Entries interfaces objects) =
 inquire_lines (Elements elements) = map element_line elements ++ import_end (length elements) ∷ []
 inquire_lines (Batches batches) = flat_map batch_lines batches ++ import_end (total batches) ∷ []
 
--- the text of the answer to the line of this number (own)
+-- the text of the answer to the line of this number
 abbrev pub inquire_text : ℕ → Inquired → List ℕ
 inquire_text number said = lines_text number (inquire_lines said)

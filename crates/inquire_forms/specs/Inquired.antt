@@ -1,4 +1,5 @@
--- What inquiries are answered, over any reader of entries (own, after C706, inquiry of name service entries).
+-- What inquiries are answered, over any reader of entries (own, after C706, inquiry of name service
+-- entries).
 use Rattle.std.specs.Prelude.{ℕ, true, List, map, Result, Ok, Err}
 use Rattle.tower_codec.specs.declared.binding.StringBinding.{StringBinding}
 use Rattle.tower_codec.specs.declared.rpc.Interface.{Interface}
@@ -24,8 +25,9 @@ use Rattle.ns_commands.specs.Asks.{object_in, refusal_of_walk}
 use Rattle.inquire_forms.specs.declared.inquire_answer.InquireAnswer.{InquireAnswer}
 use Rattle.inquire_forms.specs.declared.inquire_answer.InquireAnswer.TheVariants as inquire
 
--- what a line is answered: as a line of a script is, which an inquiry that is refused is too; or the members of a group; the
--- interfaces and objects of a server; elements of a profile; or bindings in batches (own)
+-- what a line is answered: as a line of a script is, which an inquiry that is refused is too; or
+-- the members of a group; the interfaces and objects of a server; elements of a profile; or
+-- bindings in batches (own)
 pub data Inquired : Type 0 where
   Plain : (answer : Answer) → Inquired
   Members : (names : List (List (List ℕ))) → Inquired
@@ -62,7 +64,8 @@ members_in reader entry = Members (members_of (reader.values entry group))
 abbrev pub members_listed : Reader → (name : List (List ℕ)) → Inquired
 members_listed reader name = inquired_list reader name (members_in reader)
 
--- the interfaces and the objects of a server (own, after C706, inquiry of objects and of server entries)
+-- the interfaces and the objects of a server (own, after C706, inquiry of objects and of server
+-- entries)
 abbrev pub entry_in : Reader → Found → Inquired
 entry_in reader entry =
     Entries (interfaces_of (reader.values entry tower_attribute)) (objects_of (reader.values entry object_attribute))
@@ -85,6 +88,7 @@ in_batches most (Ok bindings) = Batches (batches most bindings)
 in_batches most (Err (fault.Walk r)) = inquired_refusal (refusal_of_walk r)
 in_batches most (Err fault.NotObject) = inquired_refusal why.NotObject
 
--- the bindings of an import in batches, over a list that has each object which the reader shows (own, after C706, lookup of bindings)
+-- the bindings of an import in batches, over a list that has each object which the reader shows
+-- (own, after C706, lookup of bindings)
 abbrev pub batches_listed : Reader → (objects : List Found) → Wanted → (most : ℕ) → (name : List (List ℕ)) → Inquired
 batches_listed reader objects wanted most name = in_batches most (import_list reader objects wanted name)

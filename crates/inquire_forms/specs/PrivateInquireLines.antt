@@ -5,7 +5,8 @@ use Rattle.cds_stamps.specs.declared.alloc_or.AllocOr.TheVariants.{Fault, OutOfM
 use Rattle.cell_script.specs.declared.fault.ParseFault.{ParseFault}
 use Rattle.inquire_forms.specs.declared.inquire_line.InquireLine.{InquireLine}
 
--- a reader answers what the words say, or their fault; or out of memory, but not where a fault shows early
+-- a reader answers what the words say, or their fault; or out of memory, but not where a fault
+-- shows early
 abbrev pub Says : Result InquireLine (AllocOr ParseFault) → (said : Result InquireLine ParseFault) → (early : Option ParseFault) → Type 0
 Says (Ok line) said early = said ≡ Ok line
 Says (Err (Fault fault)) said early = said ≡ Err fault

@@ -56,8 +56,8 @@ fn refused(refusal: ScriptRefusal) -> InquireAnswer
     InquireAnswer::Plain(Answer::Refused(refusal))
 }
 
-/// The members of the group of a name, or why there are none: the refusal of its walk, links followed to the last, or that it
-/// leads to no object.
+/// The members of the group of a name, or why there are none: the refusal of its walk, links
+/// followed to the last, or that it leads to no object.
 pub fn list_members<R: EntryReader>(
     alloc: Global,
     reader: &R,
@@ -84,8 +84,8 @@ fn members_in<R: EntryReader>(
     Ok(InquireAnswer::Members(members(alloc, &values)?))
 }
 
-/// The interfaces and the objects of the server of a name, or why there are none: the refusal of its walk, links followed to
-/// the last, or that it leads to no object.
+/// The interfaces and the objects of the server of a name, or why there are none: the refusal of
+/// its walk, links followed to the last, or that it leads to no object.
 pub fn list_entry<R: EntryReader>(
     alloc: Global,
     reader: &R,
@@ -113,8 +113,8 @@ fn entry_in<R: EntryReader>(
     Ok(InquireAnswer::Entries(interfaces(alloc, &towers)?, objects(alloc, &held)?))
 }
 
-/// The elements of the profile of a name that an inquiry asks for, or why there are none: the refusal of its walk, links
-/// followed to the last, or that it leads to no object.
+/// The elements of the profile of a name that an inquiry asks for, or why there are none: the
+/// refusal of its walk, links followed to the last, or that it leads to no object.
 pub fn list_elements<R: EntryReader>(
     alloc: Global,
     reader: &R,
@@ -163,8 +163,9 @@ fn elements_read<R: EntryReader>(
     }
 }
 
-/// The bindings for a client, in the order of the search that begins at the entry of a name, in batches of at most so many;
-/// or why the search does not begin: the refusal of its walk, links followed to the last, or that it leads to no object.
+/// The bindings for a client, in the order of the search that begins at the entry of a name, in
+/// batches of at most so many; or why the search does not begin: the refusal of its walk, links
+/// followed to the last, or that it leads to no object.
 pub fn look_up<R: EntryReader>(
     alloc: Global,
     reader: &R,

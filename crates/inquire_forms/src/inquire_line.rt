@@ -21,7 +21,8 @@ use std::alloc::Global;
 use tower_codec::Interface;
 use uuid::Uuid;
 
-/// What a line of the form `inquire` says. The first `bool` of an inquiry is its confidence, true for high.
+/// What a line of the form `inquire` says. The first `bool` of an inquiry is its confidence, true
+/// for high.
 #[derive(Drop)]
 pub enum InquireLine {
     /// A line of a script.
@@ -32,8 +33,9 @@ pub enum InquireLine {
     Entrylist(HouseNo, bool, FullName),
     /// The elements of a profile that an inquiry asks for.
     Proflist(HouseNo, bool, FullName, Inquiry),
-    /// The bindings of an interface, for an object or nil, over TCP where the first of the last two `bool` says so, and over
-    /// UDP where the second does; in batches of at most so many, 1 to 65,535.
+    /// The bindings of an interface, for an object or nil, over TCP where the first of the last two
+    /// `bool` says so, and over UDP where the second does; in batches of at most so many, 1 to
+    /// 65,535.
     Lookup(HouseNo, bool, FullName, Interface, Uuid, bool, bool, u16),
 }
 
@@ -147,9 +149,9 @@ fn line_after(alloc: Global, word: &[u8], words: &mut Words<'_>) -> Parsed<Inqui
     plain(alloc, word, words)
 }
 
-/// What a line says: a line of a script, an inquiry, or nothing where it has no words or is a comment, which takes no memory.
-/// A fault says the first word of neither; or else that there are too few or too many words; or else the first word that is
-/// not of its form.
+/// What a line says: a line of a script, an inquiry, or nothing where it has no words or is a
+/// comment, which takes no memory. A fault says the first word of neither; or else that there are
+/// too few or too many words; or else the first word that is not of its form.
 pub fn parse_inquire_line(alloc: Global, line: &[u8]) -> Parsed<Option<InquireLine>>
     ensures answer { Answers result (inquired_in (words_of line.now)) }
     ensures passed_over { inquired_in (words_of line.now) ≡ Ok None → result ≡ Ok None }

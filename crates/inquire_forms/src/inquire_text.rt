@@ -292,7 +292,8 @@ fn push_answer(
     }
 }
 
-/// The text of an answer to the line of this number: a line each of what is listed, and last how many there are.
+/// The text of an answer to the line of this number: a line each of what is listed, and last how
+/// many there are.
 pub fn print_inquire_answer(
     alloc: Global,
     number: u32,

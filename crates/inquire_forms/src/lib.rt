@@ -1,4 +1,5 @@
-//! The lines of the form `inquire` and their answers: its own four, and those of `run` that it takes.
+//! The lines of the form `inquire` and their answers: its own four, and those of `run` that it
+//! takes.
 #![tactic(auto)]
 
 mod inquire_answer;

@@ -1,4 +1,5 @@
--- What `inquire` answers: as `run`, and four inquiries, which leave the cell as it is (own, after C706, inquiry of name service entries).
+-- What `inquire` answers: as `run`, and four inquiries, which leave the cell as it is (own, after
+-- C706, inquiry of name service entries).
 use Rattle.std.specs.Prelude.{ℕ, if◌then◌else◌, List, [], ◌∷◌, Option, Some}
 use Rattle.std.specs.Option.{option_map, option_map_or}
 use Rattle.cell_model.specs.Cells.{Cell}
@@ -21,7 +22,8 @@ no_house = inquired_refusal why.NoHouse
 abbrev pub asked_at : Cell → (house : ℕ) → Inquired → Inquired
 asked_at g house said = if has house g.made then said else no_house
 
--- what a line is answered: a house is preferred, and a replica is trusted so far (own, after C706, inquiry of name service entries)
+-- what a line is answered: a house is preferred, and a replica is trusted so far (own, after C706,
+-- inquiry of name service entries)
 abbrev pub inquiry_reply : Cell → InquireLine → Option Inquired
 inquiry_reply g (line.Plain l) = option_map Plain (reply_to g l)
 inquiry_reply g (line.Grouplist h high name) = Some (asked_at g h.0 (members_listed (cell_reader g (Some h.0) high) name))
@@ -32,7 +34,7 @@ inquiry_reply g (line.Lookup h high name interface object tcp udp most) =
     Some (asked_at g h.0
     (batches_listed (cell_reader g (Some h.0) high) (objects_of g) (wanted_by interface object tcp udp) most name))
 
--- the cell behind a line: an inquiry leaves it as it is (own)
+-- the cell after a line: an inquiry leaves it as it is (own)
 abbrev pub cell_after_inquiry : Cell → InquireLine → Cell
 cell_after_inquiry g (line.Plain l) = cell_after g l
 cell_after_inquiry g other = g

@@ -1,4 +1,5 @@
-//! What a line comes to where inquiries are answered: an inquiry asks the cell, and each other line is replayed as in a script.
+//! What a line comes to where inquiries are answered: an inquiry asks the cell, and each other line
+//! is replayed as in a script.
 #![tactic(auto)]
 
 mod form;

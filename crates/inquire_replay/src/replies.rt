@@ -19,7 +19,7 @@ use script_replay::Replayer;
 use server_entries::Wanted;
 use std::alloc::{AllocError, Global};
 
-/// Replays a line, or answers its inquiry: the reply waits behind the others.
+/// Replays a line, or answers its inquiry: the reply waits after the others.
 pub(crate) fn replay_inquiry(
     alloc: Global,
     replayer: &mut Replayer,
@@ -63,7 +63,7 @@ fn reply_to_line(
     }
 }
 
-// The reply to a line waits behind the others.
+// The reply to a line waits after the others.
 fn answer(
     alloc: Global,
     replayer: &mut Replayer,

@@ -99,7 +99,7 @@ plain_numbers : (r : Result ScriptLine ParseFault) (l : JournalLine) → (r >>= 
 plain_numbers (Err e) l is = absurd (cc)
 plain_numbers (Ok s) l is = let same : line.Plain s ≡ l = cc in subst HasNumbers same tt
 
--- what the words behind the first one say has them
+-- what the words after the first one say has them
 pub said_numbers : (word : List ℕ) (s : Words) (l : JournalLine) → said_by word s ≡ Ok l → HasNumbers l
 said_numbers word s l is = by_word (bytes_eq word (codes "image")) (bytes_eq word (codes "stop")) is
   where

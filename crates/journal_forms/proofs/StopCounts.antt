@@ -1,4 +1,5 @@
--- A command that can be stopped is told to have too few or too many words before any of them is read, or never.
+-- A command that can be stopped is told to have too few or too many words before any of them is
+-- read, or never.
 use Rattle.std.proofs.Common.{◌≡◌, ℕ, ◌+◌, ◌<◌, ◌≤◌, ◌==◌, nat_le, Bool, true, false, List, [], ◌∷◌, length, refl, sym, subst, ap, not, ◌||◌, ◌&&◌, arith, MatchBool, if◌then◌else◌}
 use Rattle.std.specs.Prelude.{Option, Some, None, Result, Ok, Err}
 use Rattle.std.specs.Result.{result_err}

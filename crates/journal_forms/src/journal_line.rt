@@ -18,7 +18,8 @@ pub enum JournalLine {
     Plain(ScriptLine),
     /// What the journal of a house gives.
     Image(HouseNo),
-    /// A step of a house whose put is stopped at its writing call of this number, 1 to 4, and what is left of the disk.
+    /// A step of a house whose put is stopped at its writing call of this number, 1 to 4, and what
+    /// is left of the disk.
     Stop {
         house: HouseNo,
         call: u8,
@@ -27,10 +28,11 @@ pub enum JournalLine {
     },
 }
 
-/// What a line of the form `journal` says: a command, or nothing where it has no words or is a comment, which takes no memory.
-/// A fault is that of `parse_line`, over the commands of `run` and these two. A line of `stop` tells first that it has fewer
-/// than five words, then, where its fifth word is a command that can be stopped, that the words of that are too few or too many,
-/// and else the first word that is not of its form.
+/// What a line of the form `journal` says: a command, or nothing where it has no words or is a
+/// comment, which takes no memory. A fault is that of `parse_line`, over the commands of `run` and
+/// these two. A line of `stop` tells first that it has fewer than five words, then, where its fifth
+/// word is a command that can be stopped, that the words of that are too few or too many, and else
+/// the first word that is not of its form.
 pub fn parse_journal_line(
     alloc: Global,
     line: &[u8],
@@ -63,7 +65,7 @@ fn said_behind(alloc: Global, word: &[u8], words: &mut Words<'_>) -> Parsed<Opti
     Ok(Some(journal_line_behind(alloc, word, words)?))
 }
 
-// What the words behind the first one say.
+// What the words after the first one say.
 fn journal_line_behind(alloc: Global, word: &[u8], words: &mut Words<'_>) -> Parsed<JournalLine>
     requires { words.old.read ≡ 1 }
     ensures answer { Answers result (said_by word.now words.old) }
@@ -78,7 +80,7 @@ fn journal_line_behind(alloc: Global, word: &[u8], words: &mut Words<'_>) -> Par
     Ok(JournalLine::Plain(line_behind(alloc, word, words)?))
 }
 
-// What the words behind `image` say.
+// What the words after `image` say.
 fn image(words: &mut Words<'_>) -> Parsed<JournalLine>
     ensures answer { Answers result (image_said words.old) }
     ensures early { IfSome (image_early words.old) (λ fault. result ≡ Err (Fault fault)) }

@@ -119,7 +119,7 @@ fn said_at<T>(number: usize, value: Option<T>) -> Parsed<T>
     }
 }
 
-// What stands between `stop` and the command: the house, the call, and what is left.
+// What is between `stop` and the command: the house, the call, and what is left.
 fn stopping(house_word: &[u8], call_word: &[u8], leave_word: &[u8]) -> Parsed<(HouseNo, u8, Leave)>
     ensures answer { Answers result (stop_of_words house_word.now call_word.now leave_word.now) }
     ensures memory { result ≢ Err OutOfMemory }
@@ -130,7 +130,7 @@ fn stopping(house_word: &[u8], call_word: &[u8], leave_word: &[u8]) -> Parsed<(H
     Ok((house, call, leave))
 }
 
-/// What the words behind `stop` say.
+/// What the words after `stop` say.
 pub(crate) fn stop(alloc: Global, words: &mut Words<'_>) -> Parsed<JournalLine>
     requires { words.old.read ≡ 1 }
     ensures answer { Answers result (stop_said words.old.rest) }

@@ -21,7 +21,8 @@ use Rattle.journal_replay.specs.CellDisks.{image_in}
 
 -- ---- houses that are made
 
--- the houses that were made by a command are those of before and, of some, one more, which acts in it
+-- the houses that were made by a command are those of before and, of some, one more, which acts in
+-- it
 abbrev MadeBy : Cell → Cell → List ℕ → Type 0
 MadeBy g g' acts = (x : ℕ) → (has x acts ≡ false → has x g'.made ≡ has x g.made) × (has x g'.made ≡ false → has x g.made ≡ false)
 

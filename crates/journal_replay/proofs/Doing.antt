@@ -66,7 +66,7 @@ module _ (k : Keeper) (s : JournaledCell) (l : JournalLine) where
 
 -- ---- two houses
 
--- a put that was given up is, with those behind it
+-- a put that was given up is, with those after it
 gives_up_first : (disks : List MemState) (lists : Lists) (ps qs : List Put) (e : Unkept) → GivesUp e disks lists ps → GivesUp e disks lists (ps ++ qs)
 gives_up_first disks lists ps qs OutOfMemory up = putting_first disks lists ps qs up
 gives_up_first disks lists ps qs Full up =
@@ -123,7 +123,7 @@ pub updates_act : (g : Cell) (h d : ℕ) (us : List Change) (x : ℕ) → has x 
 updates_act g h d [] x other = tt
 updates_act g h d (u ∷ us) x other = updates_spare g h d (u ∷ us) x other
 
--- commands are done where the cell stands so, and the houses put their images
+-- commands are done where the cell is so, and the houses put their images
 pub done_all : (a : Answer) (k : Keeper) (s : JournaledCell) (said : Said) → said.answer ≡ Some a → Stands k.replayer.cell (replay_from s.cell said.steps)
     → GiveImages (record { cell = replay_from s.cell said.steps; lists = with_puts (said_puts s said) s.lists })
     → HoldAll k.disks.items (with_puts (said_puts s said) s.lists) → lacks_room s.lists (said_puts s said) ≡ false → AreDone a k s said

@@ -104,8 +104,8 @@ puts_give g (y ∷ ys) lists x first given =
     by_put true is later = later (with_put (the_put g y) lists) (after_put g ys lists x y is given)
     by_put false is later = later lists (no_put g ys lists x y first is given)
 
--- where a cell changes the images of houses that act alone, and makes others of them alone, the journals give the images of all, once these
--- are put
+-- where a cell changes the images of houses that act alone, and makes others of them alone, the
+-- journals give the images of all, once these are put
 pub give_after : (s : JournaledCell) (g : Cell) (xs : List ℕ) → GiveImages s
     → ((x : ℕ) → has x xs ≡ false → image_in g x ≡ image_in s.cell x)
     → ((x : ℕ) → has x g.made ≡ false → has x s.cell.made ≡ false)

@@ -1,4 +1,4 @@
--- What is left behind a line that was answered, and how it ends.
+-- What is left after a line that was answered, and how it ends.
 use Rattle.std.proofs.Common.{◌≡◌, ℕ, Bool, true, false, List, [], ◌++◌, refl, sym, ap, subst, if◌then◌else◌}
 use Rattle.std.specs.Prelude.{Some, Result, Ok, Err, IfErr, IsErrAnd}
 use Rattle.std.specs.Option.{option_map, option_map_or}
@@ -55,7 +55,7 @@ replied_putting disks s l hold = by_lasts (lasts l) hold
     by_lasts true hold = putting_at_end disks s.lists (puts_in s l) hold
     by_lasts false hold = putting_at_start disks s.lists (puts_in s l) hold
 
--- memory ran out behind an answer
+-- memory ran out after an answer
 pub given_up_behind : (disks : List MemState) (s : JournaledCell) (l : JournalLine) (e : Unkept) → e ≡ OutOfMemory
     → HoldAll disks (state_after s l).lists → GivesUp e disks s.lists (puts_in s l)
 given_up_behind disks s l Full is hold = absurd (cc)

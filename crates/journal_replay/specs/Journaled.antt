@@ -1,4 +1,5 @@
--- Which commands of the model a line of the form `journal` is, and what is answered to it (own, after C705, clearinghouses).
+-- Which commands of the model a line of the form `journal` is, and what is answered to it (own,
+-- after C705, clearinghouses).
 use Rattle.std.specs.Prelude.{ℕ, Bool, true, false, ◌==◌, not, if◌then◌else◌, List, [], ◌∷◌, length, Option, Some, None, is_none}
 use Rattle.std.specs.Option.{option_map}
 use Rattle.disk_journals.specs.KeptJournals.{stops_after}
@@ -39,7 +40,8 @@ is_only h [] = false
 is_only h (x ∷ []) = x == h
 is_only h (x ∷ y ∷ ys) = false
 
--- why a command is not to be stopped at a house: there is no such house, or no such message, or another house acts (own)
+-- why a command is not to be stopped at a house: there is no such house, or no such message, or
+-- another house acts (own)
 abbrev pub stop_refused : Cell → (h : ℕ) → Command → Option JournalAnswer
 stop_refused g h c =
     if not (has h g.made) then Some (answer.Plain (plain.Refused why.NoHouse))
@@ -50,7 +52,8 @@ stop_refused g h c =
 abbrev pub command_done : Cell → Command → JournalSaid
 command_done g c = record { steps = c ∷ []; answer = option_map answer.Plain (answer_of (outcome g c).answer) }
 
--- a command is stopped, and its house crashes: with what it did, but without the messages that it posted; or as it was before (own)
+-- a command is stopped, and its house crashes: with what it did, but without the messages that it
+-- posted; or as it was before (own)
 abbrev pub command_stopped : Cell → (h : ℕ) → (after : Bool) → Command → JournalSaid
 command_stopped g h true c = record { steps = c ∷ crash_losing (outcome g c).cell h (length g.bag); answer = Some answer.StoppedAfter }
 command_stopped g h false c = record { steps = command.Crash h ∷ []; answer = Some answer.StoppedBefore }

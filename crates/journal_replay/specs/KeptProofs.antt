@@ -1,4 +1,4 @@
--- A house is kept on its disk in one way at most (own).
+-- A house is kept on its disk in one way at most.
 use mathlib.Core.Sum.{⊎_set}
 use Rattle.std.specs.Prelude.{Option, Some, None}
 use Rattle.std.proofs.Props.{props}

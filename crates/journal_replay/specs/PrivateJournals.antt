@@ -1,4 +1,4 @@
--- Words of private contracts: the parts of the work on a line of the form `journal` (own).
+-- Words of private contracts: the parts of the work on a line of the form `journal`.
 use Rattle.std.specs.Prelude.{◌≡◌, ℕ, ◌≤◌, Bool, true, false, if◌then◌else◌, List, [], ◌∷◌, Option, Some, None, Result, Ok, Err}
 use Rattle.cds_stamps.specs.declared.numbers.HouseNo.{HouseNo}
 use Rattle.house_journal.specs.MemoryDisks.{MemState}
@@ -21,65 +21,67 @@ use Rattle.journal_replay.specs.declared.keeper.Keeper.{Keeper}
 use Rattle.journal_replay.specs.declared.stopping.Stopping.{Stopping}
 use Rattle.journal_replay.specs.declared.stopping.Stopping.TheVariants as stop
 
--- the number of a house, if there is one (own)
+-- the number of a house, if there is one
 abbrev pub acts : Option HouseNo → List ℕ
 acts None = []
 acts (Some h) = h.0 ∷ []
 
--- puts were given up under way: memory ran out, or a journal has no room for one of them (own)
+-- puts were given up under way: memory ran out, or a journal has no room for one of them
 abbrev pub GivesUp : Unkept → List MemState → Lists → List Put → Type 0
 GivesUp OutOfMemory disks lists ps = ArePutting disks lists ps
 GivesUp Full disks lists ps = ArePutting disks lists ps × (lacks_room lists ps ≡ true)
 
--- whether a journal had no room so far: it is known so exactly if that was the reason, and else as before (own)
+-- whether a journal had no room so far: it is known so exactly if that was the reason, and else as
+-- before
 abbrev pub Tells : {A : Type 0} → Result A Unkept → (before after : Bool) → Type 0
 Tells (Ok x) before after = after ≡ before
 Tells (Err Full) before after = after ≡ true
 Tells (Err OutOfMemory) before after = after ≡ before
 
--- images were put, each in its journal, which had room; or this was given up (own)
+-- images were put, each in its journal, which had room; or this was given up
 abbrev pub PutsAll : Result (Unit {0}) Unkept → List MemState → Lists → List Put → Type 0
 PutsAll (Ok x) disks lists ps = HoldAll disks (with_puts ps lists) × (lacks_room lists ps ≡ false)
 PutsAll (Err e) disks lists ps = GivesUp e disks lists ps
 
--- a put was stopped, and its journal has the image or not; or this was given up (own)
+-- a put was stopped, and its journal has the image or not; or this was given up
 abbrev pub StopsPut : Result Bool Unkept → List MemState → Lists → (after : Bool) → Put → Type 0
 StopsPut (Ok answered) disks lists after p =
     (answered ≡ after) × HoldAll disks (if after then with_put p lists else lists) × (lacks_room lists (p ∷ []) ≡ false)
 StopsPut (Err e) disks lists after p = GivesUp e disks lists (p ∷ [])
 
--- what a journal gives is the image of its house; and nothing of a house that was not made (own)
+-- what a journal gives is the image of its house; and nothing of a house that was not made
 abbrev pub IsGiven : Option (List ℕ) → Cell → (h : ℕ) → Type 0
 IsGiven (Some octets) g h = (octets ≡ octets_at g h) × (has h g.made ≡ true)
 IsGiven None g h = 1 ≤ h → has h g.made ≡ false
 
--- the puts of commands: the houses that act put their images behind them (own)
+-- the puts of commands: the houses that act put their images after them
 abbrev pub said_puts : JournaledCell → Said → List Put
 said_puts s said = puts_of (replay_from s.cell said.steps) (acting_houses s.cell said.steps) s.lists
 
--- commands are done and answered, and their puts are (own)
+-- commands are done and answered, and their puts are
 pub record AreDone (a : Answer) (k : Keeper) (s : JournaledCell) (said : Said) : Type 0 where
   pub answer : said.answer ≡ Some a
   pub stands : StandsKeeper k (record { cell = replay_from s.cell said.steps; lists = with_puts (said_puts s said) s.lists })
   pub room : lacks_room s.lists (said_puts s said) ≡ false
 
--- so they are, or they were given up (own)
+-- so they are, or they were given up
 abbrev pub Does : Result Answer Unkept → Keeper → JournaledCell → Said → Type 0
 Does (Ok a) k s said = AreDone a k s said
 Does (Err e) k s said = GivesUp e k.disks.items s.lists (said_puts s said)
 
--- a line is answered, and all is as it leaves it (own)
+-- a line is answered, and all is as it leaves it
 pub record IsReplied (a : JournalAnswer) (k : Keeper) (s : JournaledCell) (l : JournalLine) : Type 0 where
   pub answer : (journal_said s.cell l).answer ≡ Some a
   pub stands : StandsKeeper k (state_after s l)
   pub room : lacks_room s.lists (puts_in s l) ≡ false
 
--- so it is, or it was given up (own)
+-- so it is, or it was given up
 abbrev pub Replies : Result JournalAnswer Unkept → Keeper → JournaledCell → JournalLine → Type 0
 Replies (Ok a) k s l = IsReplied a k s l
 Replies (Err e) k s l = GivesUp e k.disks.items s.lists (puts_in s l)
 
--- what there is to stop in a command at a house: that is refused, or the command leaves the image, or makes this one (own)
+-- what there is to stop in a command at a house: that is refused, or the command leaves the image,
+-- or makes this one
 abbrev pub IsToStop : Stopping → Cell → (h : ℕ) → Command → Type 0
 IsToStop (stop.Refused refused) g h c = stop_refused g h c ≡ Some refused
 IsToStop stop.Nothing g h c = (stop_refused g h c ≡ None) × (image_after g h c ≡ None)

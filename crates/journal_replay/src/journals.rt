@@ -22,7 +22,7 @@ pub struct Journals {
     ghost ready: { spent ≡ false → AreKept keeper.houses.items keeper.disks.items } by { Prim.hlevel (props, kept_prop) },
 }
 
-// The text of an answer. (This stands apart, since the drop of an answer is long to prove.)
+// The text of an answer. (This is apart, since the drop of an answer is long to prove.)
 fn text_of(alloc: Global, number: u32, answer: JournalAnswer) -> Result<Vec<u8>, AllocError>
     ensures { IfOk result (λ text. text.items ≡ journal_text number answer) }
 {
@@ -42,7 +42,8 @@ impl Journals {
     ghost use Rattle.journal_replay.specs.CellDisks.{AreNew, AreUsable};
     ghost use Rattle.journal_replay.specs.DiskCalls.{EndCalls, LineCalls};
 
-    /// Over a cell without houses, and these new disks, which it takes: 255. After `OutOfMemory` they are where they were.
+    /// Over a cell without houses, and these new disks, which it takes: 255. After `OutOfMemory`
+    /// they are where they were.
     pub fn new(alloc: Global, disks: &mut Vec<MemDisk>) -> Result<Journals, AllocError>
         requires { AreNew disks.old.items }
         ensures stands { IfOk result (λ j. StandsJournals j empty_state) }
@@ -65,8 +66,8 @@ impl Journals {
         self.keeper.into_disks()
     }
 
-    /// Replays a line: its reply waits behind the others. Before that each house that the line changed puts its image into its
-    /// journal. After `NoMemory` and `Full` no line is answered.
+    /// Replays a line: its reply waits after the others. Before that each house that the line
+    /// changed puts its image into its journal. After `NoMemory` and `Full` no line is answered.
     pub fn replay_line(
         &mut self,
         alloc: Global,
@@ -132,7 +133,7 @@ impl Journals {
         }
     }
 
-    // The reply to a line waits behind the others.
+    // The reply to a line waits after the others.
     fn answer(
         &mut self,
         alloc: Global,

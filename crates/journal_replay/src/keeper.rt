@@ -74,7 +74,8 @@ fn no_houses(alloc: Global) -> Result<Vec<Option<KeptHouse>>, AllocError>
 }
 
 impl Keeper {
-    /// Over a cell without houses, and these new disks, which it takes. After `OutOfMemory` they are where they were.
+    /// Over a cell without houses, and these new disks, which it takes. After `OutOfMemory` they
+    /// are where they were.
     pub(crate) fn new(alloc: Global, disks: &mut Vec<MemDisk>) -> Result<Keeper, AllocError>
         requires { AreNew disks.old.items }
         ensures kept { IfOk result (λ k. AreKept k.houses.items k.disks.items) }
@@ -101,7 +102,7 @@ impl Keeper {
         self.disks
     }
 
-    /// What is replied to a line, behind the puts of the houses that it changed.
+    /// What is replied to a line, after the puts of the houses that it changed.
     pub(crate) fn reply(
         &mut self,
         alloc: Global,
@@ -169,7 +170,7 @@ impl Keeper {
         Ok(answer)
     }
 
-    // The answer to a question, behind the updates that it asks for.
+    // The answer to a question, after the updates that it asks for.
     fn ask(&mut self, alloc: Global, question: &Question) -> Result<Answer, Unkept>
         requires few { self.old.replayer.steps < MOST_LINES }
         requires kept { AreKept self.old.houses.items self.old.disks.items }

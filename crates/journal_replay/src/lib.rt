@@ -1,4 +1,5 @@
-//! What a line of the form `journal` comes to: a cell answers it, and houses put their images into their journals.
+//! What a line of the form `journal` comes to: a cell answers it, and houses put their images into
+//! their journals.
 #![tactic(auto)]
 
 mod form;

@@ -49,7 +49,7 @@ fn gives(given: Option<&Vec<u8>>, image: &[u8]) -> bool
     }
 }
 
-// Lets a command go. (This stands apart, since the drop of a command is long to prove.)
+// Lets a command go. (This is apart, since the drop of a command is long to prove.)
 fn forget(_command: Command) {}
 
 // The put of an image is stopped, and the journal opened again: whether it gives the image then.
@@ -90,7 +90,8 @@ fn stop_kept(
 }
 
 impl Keeper {
-    /// A command is stopped in the put of a house, unless that is refused, or leaves the image of the house as it is.
+    /// A command is stopped in the put of a house, unless that is refused, or leaves the image of
+    /// the house as it is.
     pub(crate) fn stop(
         &mut self,
         alloc: Global,
@@ -223,7 +224,8 @@ impl Keeper {
         Ok(())
     }
 
-    // The put of another image than the last of a house is stopped, and the journal opened again: whether it gives the image then.
+    // The put of another image than the last of a house is stopped, and the journal opened again:
+    // whether it gives the image then.
     fn put_stopped(
         &mut self,
         alloc: Global,

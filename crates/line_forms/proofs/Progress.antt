@@ -92,7 +92,7 @@ told P (Some a) (Some b) xs taken p = p
 
 -- ---- what is taken, and waits for its text to be written
 
--- one line or tower stands first, and not much after it with what is held, where the source tells
+-- one line or tower is first, and not much after it with what is held, where the source tells
 pub record Leads (form : Reading) (first : Option (List ℕ)) (since held : List ℕ) : Type 0 where
   pub one : List ℕ
   pub more : List ℕ
@@ -116,7 +116,7 @@ pub record Pending (form : Reading) (first left old new : Option (List ℕ)) (he
   pub near : IsNear form first since held
   pub few : length held ≤ form.read_ahead
 
--- what was taken so far, and what it demands in front of what follows; Behind says what that demands
+-- what was taken so far, and what it demands in front of what follows; After says what that demands
 pub record Reached (form : Reading) (first left old new : Option (List ℕ)) (held waits : List ℕ) (Behind : List ℕ → Demand → Type 0) : Type 0 where
   pub pending : Pending form first left old new held
   pub so_far : (r : List ℕ) (d : Demand) → Behind r d → form.demands ((pending.front ++ pending.since) ++ r) (with_front (pending.out ++ waits) d)

@@ -54,7 +54,7 @@ or_none : {X : Type 0} (o : Option X) → option_or o None ≡ o
 or_none None = refl
 or_none (Some x) = refl
 
--- what has come of a line stands in front of the first piece
+-- what has come of a line is in front of the first piece
 abbrev glued : List ℕ → List (List ℕ) → List (List ℕ)
 glued line [] = line ∷ []
 glued line (piece ∷ pieces) = (line ++ piece) ∷ pieces
@@ -71,7 +71,7 @@ some_pieces : (octets : List ℕ) → 0 < length (pieces_of octets)
 some_pieces octets = omega (arith, length-slice_split (λ (b : ℕ). b == 10) octets)
 
 module _ {S : Type 0} (rule : LineRule S) where
-  -- an octet at fault ends the demand of the piece in which it stands
+  -- an octet at fault ends the demand of the piece in which it is
   broken : (number : ℕ) (state : S) (line : List ℕ) (b : ℕ) (f : LineFault) (pieces : List (List ℕ)) → AreClean number 1 line
       → fault_at number (length line + 1) b ≡ Some f
       → demand rule number state (glued line (onto_first b pieces)) ≡ faulty_with (rule.fault_text f)

@@ -69,7 +69,7 @@ module _ {S : Type 0} (rule : LineRule S) where
       started (by_lines rule state) first old octets_ahead waits (BehindLines count state) none nothing
       (λ r d behind. demanded_scanned rule state r ∙ ap (λ (n : ℕ). scanned rule (n + 1) state [] r) (sym zero_count) ∙ behind) (lines_stop count state)
 
-  -- the form stands where the lines so far bring it, no fault was met, and no call failed
+  -- the form is where the lines so far bring it, no fault was met, and no call failed
   pub record IsBetween (state : S) (first left old new : Option (List ℕ)) (reads reads' writes writes' : ℕ) (lines : Lines) (At : S → Type 0)
       (waits : List ℕ) : Type 0 where
     pub at : S

@@ -1,4 +1,4 @@
--- How the parts of a run end (own).
+-- How the parts of a run end.
 use Rattle.std.specs.Prelude.{◌≡◌, ◌⊎◌, ℕ, ◌<◌, List, ◌++◌, length, take, Option}
 use Rattle.std.specs.Io.KnownBytes.{Appends}
 use Rattle.cds_base.specs.Counts.{Rose}
@@ -8,7 +8,8 @@ use Rattle.line_forms.specs.Demand.{Demand}
 use Rattle.line_forms.specs.Readings.{Reading}
 use Rattle.line_forms.specs.Runs.{Run, Ended, IsFilled, IsWhole, IsFaulty, IsPart}
 
--- a source or a sink: the octets that it has left or that it took, where it tells them, and how often it failed
+-- a source or a sink: the octets that it has left or that it took, where it tells them, and how
+-- often it failed
 pub record Side : Type 0 where
   pub octets : Option (List ℕ)
   pub faults : ℕ
@@ -39,8 +40,8 @@ between source source' sink sink' =
 abbrev pub EndsBetween : Reading → (source source' sink sink' : Side) → Status → Type 0
 EndsBetween form source source' sink sink' status = Ended form (between source source' sink sink') status
 
--- what ends a run, where this was written of what the octets read demand; Answered says that it answers those in front, and Done that
--- nothing is left
+-- what ends a run, where this was written of what the octets read demand; Answered says that it
+-- answers those in front, and Done that nothing is left
 abbrev pub IsDue : (Answered : List ℕ → Type 0) → (Done : Type 0) → Status → Demand → List ℕ → Type 0
 IsDue Answered Done AllRead d text = Done × IsWhole d text
 IsDue Answered Done BadInput d text = IsFaulty Done d text

@@ -1,8 +1,8 @@
--- How the answer to a line ends (own).
+-- How the answer to a line ends.
 use Rattle.reply_buffer.specs.declared.replies.LineEnd.{LineEnd}
 use Rattle.reply_buffer.specs.declared.replies.LineEnd.TheVariants as line
 
--- there was no memory, or no room in a journal (own)
+-- there was no memory, or no room in a journal
 abbrev pub IsShort : LineEnd → Type 0
 IsShort line.GoesOn = ⊥
 IsShort line.Stops = ⊥

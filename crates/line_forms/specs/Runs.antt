@@ -1,4 +1,4 @@
--- How a run of a form ends (own).
+-- How a run of a form ends.
 use Rattle.std.specs.Prelude.{◌≡◌, ◌⊎◌, ℕ, ◌≤◌, ◌<◌, List, [], ◌++◌, length, Option}
 use Rattle.std.specs.Io.KnownBytes.{Consumes, Appends}
 use Rattle.cds_base.specs.Counts.{Rose}
@@ -7,15 +7,15 @@ use Rattle.line_forms.specs.declared.endings.Status.TheVariants.{Ok as AllRead, 
 use Rattle.line_forms.specs.Demand.{Demand, Sound, Faulty, CutShort, Filled, IsUnbroken}
 use Rattle.line_forms.specs.Readings.{Reading}
 
--- xs is a front of ys (own)
+-- xs is a front of ys
 abbrev pub IsFront : List ℕ → List ℕ → Type 0
 IsFront xs ys = (more : List ℕ) × (ys ≡ xs ++ more)
 
--- xs is a front of ys, and something is missing (own)
+-- xs is a front of ys, and something is missing
 abbrev pub Lacks : List ℕ → List ℕ → Type 0
 Lacks xs ys = IsFront xs ys × (length xs < length ys)
 
--- the number that the process ends with (own)
+-- the number that the process ends with
 abbrev pub code_of : Status → ℕ
 code_of AllRead = 0
 code_of Usage = 2
@@ -27,8 +27,9 @@ code_of JournalFull = 7
 
 -- ---- a run from outside
 
--- The two ends of a run, before it and after it: the octets that its source had left, and has; those that its sink held, and holds,
--- each where it tells them; and how often a read and a write had failed, and have (own)
+-- The two ends of a run, before it and after it: the octets that its source had left, and has;
+-- those that its sink held, and holds, each where it tells them; and how often a read and a write
+-- had failed, and have
 pub record Run : Type 0 where
   pub left : Option (List ℕ)
   pub left' : Option (List ℕ)
@@ -39,7 +40,7 @@ pub record Run : Type 0 where
   pub writes : ℕ
   pub writes' : ℕ
 
--- the run of a source and a sink, by what tells their octets and their failures (own)
+-- the run of a source and a sink, by what tells their octets and their failures
 abbrev pub run_of : {S K : Type 0} → (left : S → Option (List ℕ)) → (reads : S → ℕ) → (held : K → Option (List ℕ)) → (writes : K → ℕ)
     → (source source' : S) → (sink sink' : K) → Run
 run_of left reads held writes source source' sink sink' =
@@ -54,19 +55,19 @@ run_of left reads held writes source source' sink sink' =
       writes' = writes sink';
     }
 
--- no call failed: neither count rose (own)
+-- no call failed: neither count rose
 abbrev pub IsCalm : Run → Type 0
 IsCalm run = (run.reads' ≡ run.reads) × (run.writes' ≡ run.writes)
 
--- a read failed, and no write (own)
+-- a read failed, and no write
 abbrev pub ReadFailed : Run → Type 0
 ReadFailed run = Rose run.reads run.reads' × (run.writes' ≡ run.writes)
 
--- a write failed, and no read (own)
+-- a write failed, and no read
 abbrev pub WriteFailed : Run → Type 0
 WriteFailed run = Rose run.writes run.writes' × (run.reads' ≡ run.reads)
 
--- the endings that no failed call causes (own)
+-- the endings that no failed call causes
 abbrev pub NoCallFailed : Status → Type 0
 NoCallFailed AllRead = Unit {0}
 NoCallFailed Usage = Unit {0}
@@ -78,32 +79,32 @@ NoCallFailed JournalFull = Unit {0}
 
 -- ---- what is written, by what the octets read demand
 
--- the body and the end, and nothing is faulty (own)
+-- the body and the end, and nothing is faulty
 abbrev pub IsWhole : Demand → List ℕ → Type 0
 IsWhole d text = (d.verdict ≡ Sound) × (text ≡ d.body ++ d.end)
 
--- up to the first fault, whose line is in the body where it shows, and at the end where it is that the input ends; Done says that nothing is
--- left (own)
+-- up to the first fault, whose line is in the body where it shows, and at the end where it is that
+-- the input ends; Done says that nothing is left
 abbrev pub IsFaulty : (Done : Type 0) → Demand → List ℕ → Type 0
 IsFaulty Done d text = ((d.verdict ≡ Faulty) × (text ≡ d.body)) ⊎ ((d.verdict ≡ CutShort) × Done × (text ≡ d.body ++ d.end))
 
--- the whole body, where no fault shows and no journal lacks room (own)
+-- the whole body, where no fault shows and no journal lacks room
 abbrev pub IsBody : Demand → List ℕ → Type 0
 IsBody d text = (text ≡ d.body) × IsUnbroken d.verdict
 
--- the whole body, up to a line that finds no room in a journal (own)
+-- the whole body, up to a line that finds no room in a journal
 abbrev pub IsFilled : Demand → List ℕ → Type 0
 IsFilled d text = (d.verdict ≡ Filled) × (text ≡ d.body)
 
--- a front of the body, or of the body and the end where nothing is left (own)
+-- a front of the body, or of the body and the end where nothing is left
 abbrev pub IsPart : (Done : Type 0) → Demand → List ℕ → Type 0
 IsPart Done d text = IsFront text d.body ⊎ (Done × IsFront text (d.body ++ d.end))
 
--- of the body something is missing; or of the body and the end where nothing is left (own)
+-- of the body something is missing; or of the body and the end where nothing is left
 abbrev pub IsCutShort : (Done : Type 0) → Demand → List ℕ → Type 0
 IsCutShort Done d text = Lacks text d.body ⊎ (Done × Lacks text (d.body ++ d.end))
 
--- of the octets that were read, P says what was written (own)
+-- of the octets that were read, P says what was written
 pub record Wrote (form : Reading) (run : Run) (P : Demand → List ℕ → Type 0) : Type 0 where
   pub read : List ℕ
   pub text : List ℕ
@@ -113,8 +114,8 @@ pub record Wrote (form : Reading) (run : Run) (P : Demand → List ℕ → Type 
   pub demands : form.demands read demand
   pub due : P demand text
 
--- where a read failed: the whole body of the octets that had come, in which no fault shows, whatever those that came late
--- demand (own)
+-- where a read failed: the whole body of the octets that had come, in which no fault shows,
+-- whatever those that came late demand
 pub record WroteAllBefore (form : Reading) (run : Run) : Type 0 where
   pub octets : List ℕ
   pub came : List ℕ
@@ -129,8 +130,8 @@ pub record WroteAllBefore (form : Reading) (run : Run) : Type 0 where
   pub later : form.demands (octets ++ came) with_came
   pub stays : IsFront text with_came.body
 
--- What was written is at least all that the octets in front demand; then comes one more line or tower, of whose text
--- not all was written, or none; and after it at most so many octets were read (own)
+-- What was written is at least all that the octets in front demand; then comes one more line or
+-- tower, of whose text not all was written, or none; and after it at most so many octets were read
 pub record WroteSoon (form : Reading) (run : Run) : Type 0 where
   pub front : List ℕ
   pub one : List ℕ
@@ -144,8 +145,8 @@ pub record WroteSoon (form : Reading) (run : Run) : Type 0 where
   pub at_once : (one ≡ []) ⊎ form.is_taken_at_once one
   pub soon : length behind ≤ form.read_ahead
 
--- The text is the whole body of the octets in front, in which no fault shows; then comes one more line or tower, or none;
--- and after it at most so many octets were read (own)
+-- The text is the whole body of the octets in front, in which no fault shows; then comes one more
+-- line or tower, or none; and after it at most so many octets were read
 pub record AnswersFront (form : Reading) (left left' : Option (List ℕ)) (text : List ℕ) : Type 0 where
   pub front : List ℕ
   pub one : List ℕ
@@ -157,13 +158,14 @@ pub record AnswersFront (form : Reading) (left left' : Option (List ℕ)) (text 
   pub at_once : (one ≡ []) ⊎ form.is_taken_at_once one
   pub soon : length behind ≤ form.read_ahead
 
--- such a text was written (own)
+-- such a text was written
 abbrev pub WroteAnswers : Reading → Run → Type 0
 WroteAnswers form run = (text : List ℕ) × Appends run.held run.held' text × AnswersFront form run.left run.left' text
 
 -- ---- how a run ends
 
--- How a run of a form ends, by its status: what was written of what was read, how much was read ahead, and which call failed (own)
+-- How a run of a form ends, by its status: what was written of what was read, how much was read
+-- ahead, and which call failed
 abbrev pub Ended : Reading → Run → Status → Type 0
 Ended form run AllRead = form.has_read_all run.left' × Wrote form run IsWhole × IsCalm run
 Ended form run Usage = ⊥

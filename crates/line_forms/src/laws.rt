@@ -1,5 +1,5 @@
-//! The laws of what an input demands of a form that answers line by line, and of how runs end: each the contract of a function that does
-//! nothing.
+//! The laws of what an input demands of a form that answers line by line, and of how runs end: each
+//! the contract of a function that does nothing.
 ghost use Rattle.std.specs.Prelude.{◌≡◌, ℕ, ◌++◌, List};
 ghost use Rattle.cds_base.specs.Counts.{Rose};
 ghost use Rattle.line_forms.specs.Demand.{Faulty, line_demand};

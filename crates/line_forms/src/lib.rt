@@ -1,5 +1,5 @@
-//! A form that answers line by line, by a trait: its lines are read, answered and written by one body, whatever the form. And how a run of
-//! any form ends.
+//! A form that answers line by line, by a trait: its lines are read, answered and written by one
+//! body, whatever the form. And how a run of any form ends.
 #![tactic(auto)]
 
 mod endings;

@@ -11,7 +11,8 @@ use cds_base::LineFault;
 use reply_buffer::{LineEnd, Waiting};
 use std::alloc::{AllocError, Global};
 
-/// A form that answers line by line, as it is between two lines. After a line that it does not go on from it takes no other.
+/// A form that answers line by line, as it is between two lines. After a line that it does not go
+/// on from it takes no other.
 pub trait LineForm {
     /// What it is between two lines, in the model.
     ghost State: { Type 0 };

@@ -90,8 +90,9 @@ fn answer_lines<F: LineForm, S: Source, K: Sink>(
     }
 }
 
-/// Answers the lines of the source from the form's start on: up to the end of the input, the first fault, or the first line from which the
-/// form does not go on. A reply is written at the latest before the source is read again. The form is left as it is after its last line.
+/// Answers the lines of the source from the form's start on: up to the end of the input, the first
+/// fault, or the first line from which the form does not go on. A reply is written at the latest
+/// before the source is read again. The form is left as it is after its last line.
 pub fn serve_form<F: LineForm, S: Source, K: Sink>(
     alloc: Global,
     form: &mut F,

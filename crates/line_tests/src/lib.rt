@@ -1,4 +1,5 @@
-//! Tests of the lines and the records of a house, of what no clause says: calls that take memory answer a value where there is enough.
+//! Tests of the lines and the records of a house, of what no clause says: calls that take memory
+//! answer a value where there is enough.
 #![tactic(auto)]
 
 #[cfg(test)]

@@ -1,4 +1,5 @@
--- The Joins of an epoch that leaves houses out are taken, one after the other, while its Leaves wait behind them.
+-- The Joins of an epoch that leaves houses out are taken, one after the other, while its Leaves
+-- wait after them.
 use Rattle.std.proofs.Common.{◌≡◌, ◌≢◌, ℕ, ◌+◌, ◌<◌, suc, inl, inr, Bool, true, false, ◌&&◌, cond, List, [], ◌∷◌, ◌++◌, length, Option, Some, None}
 use Rattle.std.proofs.Common.{refl, sym, ap, ◌∙◌, subst, arith, nat_lt, nat_le, length-append}
 use Rattle.cds_stamps.specs.declared.stamp.Stamp.{Stamp}
@@ -16,7 +17,7 @@ use Rattle.cell_model.proofs.Readiness.{changed, letter}
 use Rattle.cell_model.proofs.Answerings.{Once, AreOthers}
 use Rattle.cell_model.proofs.ReadySkulks.{CanSkulk}
 
--- behind messages that are passed over, those wait that are posted later
+-- after messages that are passed over, those wait that are posted later
 passed_over : (g : Cell) (p : ℕ) (ms : List Message) → Waiting g p ms → Waiting g (p + length ms) []
 passed_over g p ms w = record {
   before = w.before ++ ms;
@@ -53,7 +54,8 @@ join_taken now d k y m floor ms copy lt at by =
     ap (λ (o : Option ℕ). unless_late z o (cond (is_listed y ms && is_listed m ms) s (Stays Foreign))) (not_late k (now.slots d) lt)
     ∙ ap (λ (b : Bool). cond b s (Stays Foreign)) both
 
--- the master holds the new epoch, and so does each house of its list but for these, whose Joins wait, and behind them other messages
+-- the master holds the new epoch, and so does each house of its list but for these, whose Joins
+-- wait, and after them other messages
 pub record Joining (d m k : ℕ) (ms : List Member) (next : Option Stamp) (floor : ℕ) (copy : Copy) (leaves : List Message) (ys : List ℕ) (p : ℕ) (g : Cell) : Type 0 where
   pub up : (x : ℕ) → is_listed x ms ≡ true → (g.house x).up ≡ true
   pub holds : (x : ℕ) → is_listed x ms ≡ true → (In x ys → ⊥) → (r : Replica) × IsHeld g x d r × (r.epoch ≡ k) × (r.members ≡ ms)
@@ -107,7 +109,7 @@ module _ (d m k : ℕ) (ms : List Member) (next : Option Stamp) (floor : ℕ) (c
       by_place x apart n (inl e) = apart e
       by_place x apart n (inr i) = n i
 
-  -- all of them take their Joins, and the messages behind those are passed over
+  -- all of them take their Joins, and the messages after those are passed over
   pub join_run : (ys : List ℕ) (g : Cell) (p : ℕ) → Once ys → AreOthers m ms ys → Joining d m k ms next floor copy leaves ys p g
       → Run g (deliver_commands p (length ys)) (CanSkulk d m k ms next ((p + length ys) + length leaves))
   join_run [] g p once others j = run_none g (CanSkulk d m k ms next ((p + 0) + length leaves)) (joined_none g p j)

@@ -1,4 +1,5 @@
--- Houses are left out: those that stay are started, get a new epoch, take its Joins, and the skulk of its master completes.
+-- Houses are left out: those that stay are started, get a new epoch, take its Joins, and the skulk
+-- of its master completes.
 use Rattle.std.proofs.Common.{◌≡◌, ◌≢◌, ℕ, ◌+◌, ◌*◌, ◌≤◌, zero, suc, inl, inr, Bool, true, false, ◌||◌, ◌&&◌, not, cond, List, [], ◌∷◌, ◌++◌, length}
 use Rattle.std.proofs.Common.{Option, Some, None, append_assoc, refl, sym, ap, ◌∙◌, subst, arith, ⊎_elim, nat_lt, nat_le, le_refl, length-append}
 use Rattle.std.specs.List.{list_any}
@@ -140,7 +141,8 @@ module _ (made : List ℕ) (top : ℕ) (ms : List Member) (proper : IsProper mad
 
 -- ---- the new epoch
 
--- the houses that stay are up, none is beyond the last epoch, and the new master holds an epoch of its term
+-- the houses that stay are up, none is beyond the last epoch, and the new master holds an epoch of
+-- its term
 record Ripe (d k : ℕ) (ms : List Member) (hs : List ℕ) (m : ℕ) (next : Option Stamp) (p : ℕ) (g : Cell) : Type 0 where
   top : g.top d ≡ k
   present : g.present d ≡ ms

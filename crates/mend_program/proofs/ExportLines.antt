@@ -1,4 +1,5 @@
--- How much an export of a line can ask for: each text of a list has its least length, and a line its greatest.
+-- How much an export of a line can ask for: each text of a list has its least length, and a line
+-- its greatest.
 use Rattle.std.proofs.Common.{◌≡◌, ◌≢◌, ℕ, ◌+◌, ◌*◌, ◌≤◌, Bool, true, false, ◌&&◌, ◌||◌, not, cond, List, [], ◌∷◌, ◌++◌, length, refl, sym, ◌∙◌, ap, subst}
 use Rattle.std.proofs.Common.{arith, length-append, nat_lt, suc}
 use Rattle.std.specs.Prelude.{filter, Option, None, Some, Ok, Err, Result, codes, nat_eq, ◌==◌, if◌then◌else◌}

@@ -1,4 +1,4 @@
--- What is written behind a script mends the directory.
+-- What is written after a script mends the directory.
 use Rattle.std.proofs.Common.{◌≡◌, ℕ, suc, ◌+◌, ◌*◌, ◌≤◌, Bool, true, false, List, [], ◌∷◌, map, length, refl, sym, ◌∙◌, ap, subst, arith, if◌then◌else◌}
 use Rattle.std.specs.Prelude.{Option, Some, is_some, ◌==◌, codes}
 use Rattle.std.proofs.lemmas.Bool.Decides.{nat_tests}
@@ -30,7 +30,7 @@ use Rattle.mend_program.proofs.ScriptHouses.{commands_make, run_made, script_ran
 use Rattle.mend_program.proofs.Serials.{serials_left}
 use Rattle.mend_program.proofs.Sums.{AllMend, commands_script, lines_text, numbered, script_append, settled_mends}
 
--- ---- a script, and what mends a directory behind it
+-- ---- a script, and what mends a directory after it
 
 length_lines : (cs : List Command) → length (map command_line cs) ≡ length cs
 length_lines [] = refl

@@ -62,7 +62,8 @@ named_directory (w ∷ dash ∷ houses) d is = by_test (bytes_eq dash (codes "-"
     by_test true is = directory_range w d is
     by_test false is = absurd (cc (is))
 
--- what was written, of a whole input in which nothing is faulty, is what mends the directory behind the script that was read
+-- what was written, of a whole input in which nothing is faulty, is what mends the directory after
+-- the script that was read
 pub is_mending : (d : ℕ) (hs : List ℕ) (run : Run) → IsDirectory d → Wrote (mend_form d hs) run IsWhole → IsMending d hs run
 is_mending d hs run dir wrote =
     let script = faultless_script mend_rule running_quietly (mending d hs) (λ number g line. refl) empty_cell wrote.read

@@ -1,4 +1,5 @@
--- A script makes houses whose numbers lines can have, so that each house of its cell has such a number.
+-- A script makes houses whose numbers lines can have, so that each house of its cell has such a
+-- number.
 use Rattle.std.proofs.Common.{◌≡◌, ℕ, ◌+◌, ◌≤◌, Bool, true, false, ◌&&◌, ◌||◌, List, [], ◌∷◌, ◌++◌, map, take, refl, sym, ◌∙◌, ap, subst}
 use Rattle.std.proofs.Common.{arith, if◌then◌else◌}
 use Rattle.std.specs.Prelude.{Option, None, Some, Ok, Err, Result, codes, nat_le, nat_eq, ◌==◌}

@@ -1,4 +1,5 @@
--- How many messages the lines of a script post: so few that serial numbers are left for those that mend a directory.
+-- How many messages the lines of a script post: so few that serial numbers are left for those that
+-- mend a directory.
 use Rattle.std.proofs.Common.{◌≡◌, ℕ, ◌+◌, ◌*◌, ◌≤◌, Bool, true, false, zero, suc, List, [], ◌∷◌, ◌++◌, map, length, take, refl, sym, ◌∙◌, ap, subst}
 use Rattle.std.proofs.Common.{append_assoc, arith, length-append}
 use Rattle.std.proofs.lemmas.List.{length-map}
@@ -276,7 +277,7 @@ line_adds cs (line.Question q) short = question_adds cs q short
 
 -- ---- scripts
 
--- behind n lines there are at most so many values that were made present, and so many messages
+-- after n lines there are at most so many values that were made present, and so many messages
 record IsWithin (n : ℕ) (cs : List Command) : Type 0 where
   pub values : made cs ≤ 403 * n
   pub messages : posted cs ≤ 865435935936 * n

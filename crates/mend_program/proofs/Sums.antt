@@ -1,4 +1,4 @@
--- A script and the lines behind it that mend a directory are a script that mends it.
+-- A script and the lines after it that mend a directory are a script that mends it.
 use Rattle.std.proofs.Common.{◌≡◌, inl, inr, ℕ, suc, ◌+◌, ◌≤◌, List, [], ◌∷◌, ◌++◌, map, length, refl, sym, ◌∙◌, ap, subst}
 use Rattle.std.proofs.Common.{arith}
 use Rattle.std.specs.Prelude.{Option, None, Some, Ok, Err, Result}
@@ -51,7 +51,7 @@ commands_script number (c ∷ cs) all few = (
       (numbered (number + 1) cs, refl, commands_script (number + 1) cs all.1 (omega (arith, few))),
 )
 
--- one script behind another
+-- one script after another
 pub script_append : (number : ℕ) (xs ys : List (List ℕ)) (said more : List Numbered) → IsScript number xs said → IsScript (number + length xs) ys more
     → IsScript number (xs ++ ys) (said ++ more)
 script_append number [] ys said more first second =
@@ -82,13 +82,13 @@ commands_again g number (c ∷ cs) all =
     (ap (λ (s : model.Command). s ∷ []) (is_as_command c all.0))
     ∙ ap (λ (ds : List model.Command). c ∷ ds) (commands_again (outcome g c).cell (number + 1) cs all.1)
 
--- behind a script they come behind its commands
+-- after a script they come after its commands
 pub commands_behind : (said : List Numbered) (number : ℕ) (cs : List model.Command) → AllMend cs
     → commands_of (said ++ numbered number cs) ≡ commands_of said ++ cs
 commands_behind said number cs all =
     commands-append empty_cell said (numbered number cs) ∙ ap (λ (ds : List model.Command). commands_of said ++ ds) (commands_again (cell_after_script said) number cs all)
 
--- so the cell is that behind both
+-- so the cell is that after both
 pub cell_both : (said : List Numbered) (number : ℕ) (cs : List model.Command) → AllMend cs
     → cell_after_script (said ++ numbered number cs) ≡ replay_from (cell_after_script said) cs
 cell_both said number cs all = ap replay (commands_behind said number cs all) ∙ replay-append (commands_of said) cs empty_cell
@@ -111,7 +111,7 @@ worked_answer model.NoReplica w = absurd w
 worked_answer model.Foreign w = absurd w
 worked_answer (model.Refused r) w = absurd w
 
--- a line among those of commands is that of one of them, behind the commands before it
+-- a line among those of commands is that of one of them, after the commands before it
 pub record IsSplit (number : ℕ) (cs : List model.Command) (early late : List Numbered) (l : Numbered) : Type 0 where
   pub front : List model.Command
   pub command : model.Command

@@ -36,7 +36,7 @@ use Rattle.cds_cell.specs.Asking.{View}
 use Rattle.cds_cell.specs.Readings.{slot_view, values_at, values_of}
 use Rattle.script_replay.specs.Replies.{trusted_reader}
 
--- ---- lists in which nothing stands twice
+-- ---- lists in which nothing is there twice
 
 abbrev Apart : List (List ℕ) → Type 0
 Apart [] = Unit {0}

@@ -1,4 +1,4 @@
--- A script, and the lines behind it that mend a directory (own, after C705, skulks and new epochs).
+-- A script, and the lines after it that mend a directory (own, after C705, skulks and new epochs).
 use Rattle.std.specs.Prelude.{◌≡◌, ℕ, ◌+◌, ◌*◌, ◌≤◌, List, [], ◌∷◌, ◌++◌, length, Option, Some}
 use Rattle.std.specs.Io.KnownBytes.{Consumes, Appends}
 use Rattle.cds_base.specs.declared.scan.TheConstants.{MOST_LINES}
@@ -17,8 +17,8 @@ use Rattle.line_forms.specs.Leaving.{text_of}
 use Rattle.mend_model.specs.Leaving.{new_master, smaller_list}
 use Rattle.mend_replay.specs.MendLines.{mend_text}
 
--- the answer to a line that was neither refused nor in vain: a house is up, a new epoch was taken, a message was taken, a skulk began, or
--- completed (own)
+-- the answer to a line that was neither refused nor in vain: a house is up, a new epoch was taken,
+-- a message was taken, a skulk began, or completed (own)
 abbrev pub LineWorks : Option Answer → Type 0
 LineWorks (Some answer.Done) = Unit {0}
 LineWorks (Some (answer.Epoch e ns)) = Unit {0}
@@ -27,14 +27,15 @@ LineWorks (Some (answer.Stamped s ns)) = Unit {0}
 LineWorks (Some (answer.Complete t ns)) = Unit {0}
 LineWorks _ = ⊥
 
--- each of these lines works, behind a script and those in front of it (own)
+-- each of these lines works, after a script and those in front of it (own)
 abbrev pub AllLinesWork : (said added : List Numbered) → Type 0
 AllLinesWork said added =
     (early late : List Numbered) (l : Numbered) → added ≡ early ++ l ∷ late → LineWorks (reply_to (cell_after_script (said ++ early)) l.says)
 
--- Lines behind a script mend a directory with the stamp t: each works, and the last is answered that the skulk t of the directory is complete
--- at the master of the console's list. Behind them each house of that list holds the directory at one epoch, runs no skulk of it, and agrees
--- up to t with all the updates that the master has (own)
+-- Lines after a script mend a directory with the stamp t: each works, and the last is answered that
+-- the skulk t of the directory is complete at the master of the console's list. After them each
+-- house of that list holds the directory at one epoch, runs no skulk of it, and agrees up to t with
+-- all the updates that the master has (own)
 pub record MendsBehind (said : List Numbered) (dir : ℕ) (t : Stamp) (members : List Member) (added : List Numbered) : Type 0 where
   pub works : AllLinesWork said added
   pub early : List Numbered
@@ -48,8 +49,9 @@ pub record MendsBehind (said : List Numbered) (dir : ℕ) (t : Stamp) (members :
   pub idle : IsIdleBy (cell_after_script (said ++ added)) dir members
   pub agreed : IsAgreedBy (commands_of (said ++ added)) dir t members
 
--- A text is lines that mend a directory with these members behind those of a script. Both together are a script, if they are not too many
--- lines; for n members there are at most 6 n - 3 lines more (own)
+-- A text is lines that mend a directory with these members after those of a script. Both together
+-- are a script, if they are not too many lines; for n members there are at most 6 n - 3 lines more
+-- (own)
 pub record IsMended (lines : List (List ℕ)) (said : List Numbered) (dir : ℕ) (t : Stamp) (members : List Member) (text : List ℕ) : Type 0 where
   pub more : List (List ℕ)
   pub added : List Numbered
@@ -58,13 +60,15 @@ pub record IsMended (lines : List (List ℕ)) (said : List Numbered) (dir : ℕ)
   pub script : length lines + length more ≤ MOST_LINES → IsScript 1 (lines ++ more) (said ++ added)
   pub mends : MendsBehind said dir t members added
 
--- the members of a directory that is mended without these houses, with the master m: those of the console's list, if no houses are named (own)
+-- the members of a directory that is mended without these houses, with the master m: those of the
+-- console's list, if no houses are named (own)
 abbrev pub members_without : Cell → (dir : ℕ) → (hs : List ℕ) → (m : ℕ) → List Member
 members_without g dir [] m = g.present dir
 members_without g dir (h ∷ hs) m = smaller_list g dir (h ∷ hs) m
 
--- A script was read, and what mends the directory behind it without these houses was written, or why nothing does. If there is such a
--- directory, a house that stays can be its master, and this one has a stamp left, these are lines that mend it (own)
+-- A script was read, and what mends the directory after it without these houses was written, or why
+-- nothing does. If there is such a directory, a house that stays can be its master, and this one
+-- has a stamp left, these are lines that mend it (own)
 pub record IsMending (dir : ℕ) (hs : List ℕ) (run : Run) : Type 0 where
   pub lines : List (List ℕ)
   pub said : List Numbered

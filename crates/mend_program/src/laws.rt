@@ -10,8 +10,9 @@ ghost use Rattle.mend_replay.specs.MendLines.{mend_text};
 ghost use Rattle.mend_replay.specs.SayableCommands.{IsDirectory};
 ghost use Rattle.mend_program.specs.Mended.{IsMended, members_without};
 
-/// A script followed by the lines that mend a directory behind it mends it without the houses that are named, wherever there is such a
-/// directory, a house that stays can be its master, and this one has a stamp left.
+/// A script followed by the lines that mend a directory after it mends it without the houses that
+/// are named, wherever there is such a directory, a house that stays can be its master, and this
+/// one has a stamp left.
 pub fn scripts_are_mended()
     ensures { (lines : List (List ℕ)) (said : List Numbered) (d : ℕ) (hs : List ℕ) (m : ℕ) (t : Stamp)
         → IsScript 1 lines said → IsDirectory d

@@ -1,4 +1,4 @@
-//! `cdsmend` over a source and a sink: the commands that mend a directory behind a script.
+//! `cdsmend` over a source and a sink: the commands that mend a directory after a script.
 #![tactic(auto)]
 
 pub mod laws;

@@ -16,8 +16,8 @@ use cell_script::number_up_to;
 use line_forms::Status;
 use std::alloc::{AllocError, Global};
 
-/// The directory that the words of the command line name: one number, as the lines of a script have it, alone or before a `-` and
-/// houses.
+/// The directory that the words of the command line name: one number, as the lines of a script have
+/// it, alone or before a `-` and houses.
 fn directory_in(words: &[String]) -> Option<DirId>
     ensures { directory_named (map string_bytes words.now) ≡ option_map (λ dir. dir.0) result }
 {

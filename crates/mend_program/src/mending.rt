@@ -1,4 +1,4 @@
-// The form of `cdsmend`: a script is replayed, and what mends a directory behind it is written.
+// The form of `cdsmend`: a script is replayed, and what mends a directory after it is written.
 ghost use Rattle.mend_program.specs.MendForm.{mend_form};
 ghost use Rattle.line_forms.specs.Runs.{Ended, run_of};
 ghost use Rattle.house_directory.specs.HouseMessages.{numbers_of};
@@ -9,7 +9,8 @@ use line_forms::{Status, serve_lines};
 use mend_replay::Mender;
 use std::alloc::Global;
 
-/// Reads a script, and writes the lines that mend the directory behind it without these houses, or why none do.
+/// Reads a script, and writes the lines that mend the directory after it without these houses, or
+/// why none do.
 pub fn mend_directory<S: Source, K: Sink>(
     alloc: Global,
     dir: DirId,

@@ -13,7 +13,8 @@ use Rattle.std.proofs.Math.Nat.{mul_comm}
 use native.Mathlib.Numerals.{unary_clauses}
 use Rattle.cell_script.specs.Words.{value_of, is_decimal, number_end, number_of, number_to}
 
--- the digits of a number: its first digit is no zero, unless it is the only one, and there are at most so many of them
+-- the digits of a number: its first digit is no zero, unless it is the only one, and there are at
+-- most so many of them
 pub record IsSpelled (n : ℕ) (ds : List ℕ) : Type 0 where
   pub some : 0 < length ds
   pub digits : list_all is_ascii_digit ds ≡ true
@@ -30,7 +31,7 @@ one_digit n few = record {
   first = λ some c cs is e. let head : 48 + n ≡ c = cc (is) in omega (arith, some, head, e);
 }
 
--- one digit more behind others
+-- one digit more after others
 value_behind : (ds : List ℕ) (d : ℕ) → value_of (ds ++ d ∷ []) ≡ value_of ds * 10 + (d - 48)
 value_behind [] d = let same : (d - 48) * 1 + 0 ≡ 0 * 10 + (d - 48) = omega arith in same
 value_behind (c ∷ cs) d =

@@ -1,4 +1,5 @@
--- The kinds of the members of a list: which words they have, and that the secondary ones are some of the others.
+-- The kinds of the members of a list: which words they have, and that the secondary ones are some
+-- of the others.
 use Rattle.std.proofs.Common.{◌≡◌, inl, inr, ⊎_elim, ℕ, ◌+◌, ◌<◌, ◌≤◌, le_refl, Bool, true, false, ◌||◌, List, [], ◌∷◌, ◌++◌, map, refl, sym, ◌∙◌, ap, subst}
 use Rattle.std.proofs.Common.{arith, if◌then◌else◌}
 use Rattle.std.specs.Prelude.{None, Some, ◌==◌, nat_lt, filter}
@@ -32,7 +33,7 @@ least_of place least (y ∷ ys) none x i =
     by_order behind false below none (inr i) =
         let low : least ≤ y.house = grind (arith, nat_tests, below) in let more = behind none i in omega (arith, low, more)
 
--- no house of a list in ascending order stands twice
+-- no house of a list in ascending order is there twice
 pub once_ordered : (place least : ℕ) (ms : List Member) → first_unordered place least ms ≡ None → Once (houses_of ms)
 once_ordered place least [] none = tt
 once_ordered place least (y ∷ ys) none =

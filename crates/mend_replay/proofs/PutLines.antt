@@ -1,4 +1,4 @@
--- Lines that are put behind others.
+-- Lines that are put after others.
 use Rattle.std.proofs.Common.{◌≡◌, ℕ, suc, ◌+◌, ◌-◌, ◌<◌, Bool, true, false, List, [], ◌∷◌, ◌++◌, map, length, refl, sym, ◌∙◌, ap, arith, append_assoc}
 use Rattle.std.proofs.Common.{append-nil, if◌then◌else◌}
 use Rattle.std.specs.Prelude.{codes, count_by, not, ◌==◌}
@@ -17,7 +17,7 @@ use Rattle.mend_replay.proofs.MemberKinds.{kinds_known, once_ordered, words_matc
 pub put_none : (old : List ℕ) → IsScriptWith old old []
 put_none old = sym (append-nil old)
 
--- lines behind lines
+-- lines after lines
 pub put_both : (old mid new : List ℕ) (cs ds : List Command) → IsScriptWith old mid cs → IsScriptWith mid new ds → IsScriptWith old new (cs ++ ds)
 put_both old mid new cs ds first second =
     second ∙ ap (λ (l : List ℕ). l ++ command_lines ds) first ∙ append_assoc old (command_lines cs) (command_lines ds)
@@ -69,7 +69,7 @@ put_epoch old a b c' e new d m ms ordered first second third fourth fifth =
 
 -- ---- one more of several
 
--- what is left of the lines of a list of commands, once this much stands
+-- what is left of the lines of a list of commands, once this much is
 abbrev pub Left : (all now : List ℕ) → List Command → Type 0
 Left all now cs = now ++ command_lines cs ≡ all
 

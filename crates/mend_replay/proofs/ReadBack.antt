@@ -164,7 +164,8 @@ command_are_words (model.Crash h) can = absurd can
 
 -- ---- the line of a command says it
 
--- one of the four commands that mend; the secondary houses of an epoch are some of the others, in their order
+-- one of the four commands that mend; the secondary houses of an epoch are some of the others, in
+-- their order
 abbrev pub CanMend : model.Command → Type 0
 CanMend (model.Start h) = Unit {0}
 CanMend (model.Epoch d m rs ss) = ss ≡ filter (λ x. has x ss) rs

@@ -1,4 +1,4 @@
--- The commands that mend a directory, as lines of a script (own).
+-- The commands that mend a directory, as lines of a script.
 use Rattle.std.specs.Prelude.{ℕ, if◌then◌else◌, List, [], ◌∷◌, ◌++◌, map, codes, is_some, Option, Some, None}
 use Rattle.std.specs.Fmt.{decimal}
 use Rattle.std.specs.List.{flat_map}
@@ -14,11 +14,11 @@ use Rattle.mend_replay.specs.Readiness.{is_ready}
 
 -- ---- lines
 
--- a house of a list, behind an `s` where it is one of the secondary ones (own)
+-- a house of a list, after an `s` where it is one of the secondary ones
 abbrev pub listed_word : (ss : List ℕ) → ℕ → List ℕ
 listed_word ss x = if has x ss then 115 ∷ decimal x else decimal x
 
--- the words of these four commands; the others mend nothing, and have none here (own)
+-- the words of these four commands; the others mend nothing, and have none here
 abbrev pub command_words : Command → List (List ℕ)
 command_words (Start h) = codes "start" ∷ decimal h ∷ []
 command_words (Epoch d m rs ss) = codes "epoch" ∷ decimal d ∷ decimal m ∷ map (listed_word ss) rs
@@ -26,59 +26,60 @@ command_words (Skulk h d) = codes "skulk" ∷ decimal h ∷ decimal d ∷ []
 command_words (Deliver n) = codes "deliver" ∷ decimal n ∷ []
 command_words _ = []
 
--- words behind others, each behind a space (own)
+-- words after others, each after a space
 abbrev pub words_behind : List (List ℕ) → List ℕ
 words_behind = flat_map (λ w. 32 ∷ w)
 
--- words in a line, with a space between two of them (own)
+-- words in a line, with a space between two of them
 abbrev pub line_of : List (List ℕ) → List ℕ
 line_of [] = []
 line_of (w ∷ ws) = w ++ words_behind ws
 
--- the line of a command, without its end (own)
+-- the line of a command, without its end
 abbrev pub command_line : Command → List ℕ
 command_line c = line_of (command_words c)
 
--- the lines of commands, each with its end (own)
+-- the lines of commands, each with its end
 abbrev pub command_lines : List Command → List ℕ
 command_lines = flat_map (λ c. command_line c ++ 10 ∷ [])
 
 -- ---- what mends a directory
 
--- the commands that mend a directory of a cell: a skulk is enough where its houses are ready (own)
+-- the commands that mend a directory of a cell: a skulk is enough where its houses are ready
 abbrev pub mends : Cell → (d : ℕ) → List Command
 mends g d = if is_ready g d then skulking_at g d else mend_commands g d
 
--- the line of a refusal (own)
+-- the line of a refusal
 abbrev pub refusal_line : List ℕ → List ℕ
 refusal_line why = codes "refused " ++ (why ++ 10 ∷ [])
 
--- the lines of these commands; or that its master has no stamp left, without which none is mended (own)
+-- the lines of these commands; or that its master has no stamp left, without which none is mended
 abbrev pub mending_text : (d : ℕ) → Cell → List ℕ
 mending_text d g =
     if is_some (stamp_at (g.house (master_of (g.present d)))) then command_lines (mends g d)
     else refusal_line (codes "StampsSpent")
 
--- the lines of the commands that leave houses out with the master m; or that this one has no stamp left (own)
+-- the lines of the commands that leave houses out with the master m; or that this one has no stamp
+-- left
 abbrev pub led_text : (d : ℕ) → (hs : List ℕ) → Cell → (m : ℕ) → List ℕ
 led_text d hs g m =
     if is_some (stamp_at (g.house m)) then command_lines (leaving_commands g d hs m)
     else refusal_line (codes "StampsSpent")
 
--- the same with this master; or that no house that stays can be master (own)
+-- the same with this master; or that no house that stays can be master
 abbrev pub text_led_by : (d : ℕ) → (hs : List ℕ) → Cell → Option ℕ → List ℕ
 text_led_by d hs g (Some m) = led_text d hs g m
 text_led_by d hs g None = refusal_line (codes "NoReplica")
 
--- the same with the master that such a list has (own)
+-- the same with the master that such a list has
 abbrev pub leaving_text : (d : ℕ) → (hs : List ℕ) → Cell → List ℕ
 leaving_text d hs g = text_led_by d hs g (new_master g d hs)
 
--- what mends a directory, or leaves houses out of it if any are named (own)
+-- what mends a directory, or leaves houses out of it if any are named
 abbrev pub known_text : (d : ℕ) → (hs : List ℕ) → Cell → List ℕ
 known_text d [] g = mending_text d g
 known_text d (h ∷ hs) g = leaving_text d (h ∷ hs) g
 
--- the same; or that there is no such directory (own)
+-- the same; or that there is no such directory
 abbrev pub mend_text : (d : ℕ) → (hs : List ℕ) → Cell → List ℕ
 mend_text d hs g = if is_unknown g d then refusal_line (codes "NoDirectory") else known_text d hs g

@@ -1,4 +1,4 @@
--- What the form of `cdsmend` makes of its input (own).
+-- What the form of `cdsmend` makes of its input.
 use Rattle.std.specs.Prelude.{◌≡◌, ℕ, List}
 use Rattle.cell_model.specs.Cells.{Cell}
 use Rattle.cell_script.specs.CommandRows.{said_in}
@@ -13,17 +13,18 @@ use Rattle.mend_replay.specs.MendLines.{mend_text}
 use Rattle.mend_replay.specs.Quiet.{running_quietly}
 use Rattle.mend_replay.specs.declared.mender.Mender.{Mender}
 
--- the state of the form: the directory that is to be mended, the houses that are left out, and the cell that is replayed (own)
+-- the state of the form: the directory that is to be mended, the houses that are left out, and the
+-- cell that is replayed
 pub record MendState : Type 0 where
   pub dir : ℕ
   pub without : List ℕ
   pub cell : Cell
 
--- a directory is to be mended in a cell, without these houses (own)
+-- a directory is to be mended in a cell, without these houses
 abbrev pub mending : (dir : ℕ) → (without : List ℕ) → Cell → MendState
 mending dir hs g = record { dir = dir; without = hs; cell = g }
 
--- lines are replayed without answers, and in the end it says what mends the directory (own)
+-- lines are replayed without answers, and in the end it says what mends the directory
 abbrev pub mend_rule : LineRule MendState
 mend_rule =
     record {
@@ -32,6 +33,6 @@ mend_rule =
       fault_text = line_fault_text;
     }
 
--- a mender of this directory, without those houses, stands for that cell (own)
+-- a mender of this directory, without those houses, stands for that cell
 abbrev pub MendsAt : Mender → MendState → Type 0
 MendsAt m s = (m.dir.0 ≡ s.dir) × (numbers_of m.without.items ≡ s.without) × Stands m.replayer.cell s.cell

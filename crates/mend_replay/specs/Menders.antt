@@ -1,4 +1,4 @@
--- What a script is replayed for that is to be mended (own).
+-- What a script is replayed for that is to be mended.
 use Rattle.std.specs.Prelude.{ℕ, List}
 use Rattle.cell_model.specs.Cells as model
 use Rattle.cds_cell.specs.ModelCells.{Stands}
@@ -8,7 +8,7 @@ use Rattle.reply_buffer.specs.Responses.{ResponseOf}
 use Rattle.reply_buffer.specs.LineEnds.{Ends}
 use Rattle.mend_replay.specs.declared.mender.Mender.{Mender}
 
--- the cell goes on as the model's behind the line (own)
+-- the cell goes on as the model's after the line
 abbrev pub Mends : LineEnd → ResponseOf model.Cell → (waited waits : List ℕ) → Mender → Type 0
 Mends end r waited waits m = Ends end r waited waits (Stands m.replayer.cell)
 

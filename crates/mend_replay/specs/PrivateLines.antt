@@ -1,4 +1,4 @@
--- Words of private contracts: lines that are put behind others (own).
+-- Words of private contracts: lines that are put after others.
 use Rattle.std.specs.Prelude.{◌≡◌, ℕ, ◌+◌, Bool, ◌==◌, if◌then◌else◌, List, [], ◌∷◌, ◌++◌, length, None}
 use Rattle.std.specs.Fmt.{decimal}
 use Rattle.cds_stamps.specs.declared.members.MemberKind.TheVariants.{Master}
@@ -8,7 +8,7 @@ use Rattle.cell_model.specs.Commands.{Command, Epoch}
 use Rattle.cell_model.specs.Mending.{deliver_commands, skulk_commands, start_commands}
 use Rattle.mend_replay.specs.MendLines.{command_lines}
 
--- the lines of these commands come behind a script
+-- the lines of these commands come after a script
 abbrev pub IsScriptWith : (old new : List ℕ) → List Command → Type 0
 IsScriptWith old new cs = new ≡ old ++ command_lines cs
 
@@ -16,7 +16,7 @@ IsScriptWith old new cs = new ≡ old ++ command_lines cs
 abbrev pub member_word : (secondary : Bool) → ℕ → List ℕ
 member_word secondary x = if secondary then 115 ∷ decimal x else decimal x
 
--- the words of members but the master, each behind a space
+-- the words of members but the master, each after a space
 abbrev pub listed_words : (m : ℕ) → List Member → List ℕ
 listed_words m [] = []
 listed_words m (y ∷ ys) = if y.house == m then listed_words m ys else 32 ∷ member_word (is_secondary y.kind) y.house ++ listed_words m ys
@@ -29,7 +29,8 @@ AreOrdered ms = first_unordered 1 0 ms ≡ None
 abbrev pub led_member : (m : ℕ) → Member → Member
 led_member m y = record y { kind = if y.house == m then Master else y.kind }
 
--- these houses are started, get an epoch with the master m that posts so many messages, take its Joins, and then a skulk completes
+-- these houses are started, get an epoch with the master m that posts so many messages, take its
+-- Joins, and then a skulk completes
 abbrev pub commands_without : Cell → (d m : ℕ) → List Member → (posted : ℕ) → List Command
 commands_without g d m kept posted =
     let rs : List ℕ = others_of m kept in

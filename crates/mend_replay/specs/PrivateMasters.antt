@@ -1,4 +1,4 @@
--- Words of private contracts: houses that could be master (own).
+-- Words of private contracts: houses that could be master.
 use Rattle.std.specs.Prelude.{ℕ, nat_le, if◌then◌else◌, Option, Some, None}
 use Rattle.mend_model.specs.Leaving as model
 use Rattle.mend_replay.specs.declared.masters.Candidate.{Candidate}

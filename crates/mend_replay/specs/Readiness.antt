@@ -19,6 +19,7 @@ is_held_at g x d k = (g.house x).up && holds_at ((g.house x).slots d) k
 abbrev pub is_held_by : Cell → (d k : ℕ) → List Member → Bool
 is_held_by g d k ms = list_all (λ m. is_held_at g m.house d k) ms
 
--- there is such a directory, and each house of the console's present list is up, and holds it at the console's last epoch (own)
+-- there is such a directory, and each house of the console's present list is up, and holds it at
+-- the console's last epoch (own)
 abbrev pub is_ready : Cell → ℕ → Bool
 is_ready g d = not (is_unknown g d) && is_held_by g d (g.top d) (g.present d)

@@ -1,4 +1,4 @@
--- What the lines of commands say when they are read (own).
+-- What the lines of commands say when they are read.
 use Rattle.std.specs.Prelude.{◌≡◌, ℕ, ◌<◌, ◌≤◌, List, filter, length, Some, Ok}
 use Rattle.cds_stamps.specs.Members.{most_members}
 use Rattle.cell_model.specs.Commands as model
@@ -9,7 +9,7 @@ use Rattle.cell_script.specs.CommandRows.{said_in}
 use Rattle.cell_script.specs.Words.{most_directory, most_house, most_serial, words_of}
 use Rattle.cds_cell.specs.Scripted.{step_of}
 
--- the number of a house, a directory and a message, as lines have them (own)
+-- the number of a house, a directory and a message, as lines have them
 abbrev pub IsHouse : ℕ → Type 0
 IsHouse x = (1 ≤ x) × (x ≤ most_house)
 
@@ -19,8 +19,8 @@ IsDirectory d = (1 ≤ d) × (d ≤ most_directory)
 abbrev pub IsSerial : ℕ → Type 0
 IsSerial n = (1 ≤ n) × (n ≤ most_serial)
 
--- one of the four commands that mend, with numbers that lines can have; of an epoch, the secondary houses are some of the others, in their
--- order (own)
+-- one of the four commands that mend, with numbers that lines can have; of an epoch, the secondary
+-- houses are some of the others, in their order
 abbrev pub CanBeSaid : model.Command → Type 0
 CanBeSaid (model.Start h) = IsHouse h
 CanBeSaid (model.Epoch d m rs ss) = IsDirectory d × IsHouse m × ((x : ℕ) → In x rs → IsHouse x) × (ss ≡ filter (λ x. has x ss) rs) × (length rs < most_members)
@@ -28,6 +28,6 @@ CanBeSaid (model.Skulk h d) = IsHouse h × IsDirectory d
 CanBeSaid (model.Deliver n) = IsSerial n
 CanBeSaid _ = ⊥
 
--- the line says this command of the model (own)
+-- the line says this command of the model
 abbrev pub SaysCommand : List ℕ → model.Command → Type 0
 SaysCommand text c = (said : Command) × (said_in (words_of text) ≡ Ok (Some (line.Cell said))) × (step_of said ≡ c)

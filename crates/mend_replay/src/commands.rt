@@ -16,7 +16,8 @@ use cds_cell::Cell;
 use cds_stamps::{DirId, EpochNo, HouseNo, Member, Members};
 use std::alloc::{AllocError, Global};
 
-/// The lines of the commands that mend a directory of a cell without these houses, or the line of the reason why none do.
+/// The lines of the commands that mend a directory of a cell without these houses, or the line of
+/// the reason why none do.
 pub(crate) fn mend_text(
     alloc: Global,
     cell: &Cell,
@@ -105,7 +106,7 @@ fn push_mending(
     )
 }
 
-/// A skulk of this master with so many others, and each message of its rounds behind the first ones.
+/// A skulk of this master with so many others, and each message of its rounds after the first ones.
 pub(crate) fn push_skulking(
     script: &mut Vec<u8>,
     first: u64,

@@ -17,7 +17,8 @@ use cds_cell::Cell;
 use cds_stamps::{DirId, HouseNo, Member, MemberKind, Members};
 use std::alloc::{AllocError, Global};
 
-/// The lines that leave houses out of a directory with these members, or the line of the reason why none do.
+/// The lines that leave houses out of a directory with these members, or the line of the reason why
+/// none do.
 pub(crate) fn leaving_text(
     alloc: Global,
     cell: &Cell,
@@ -59,8 +60,8 @@ fn led_text(
     Ok(script)
 }
 
-// The houses that stay are started, get an epoch without the others and take its Joins; then a skulk completes. The epoch posts so many
-// messages.
+// The houses that stay are started, get an epoch without the others and take its Joins; then a
+// skulk completes. The epoch posts so many messages.
 fn push_leaving(
     script: &mut Vec<u8>,
     cell: &Cell,

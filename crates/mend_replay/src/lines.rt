@@ -1,4 +1,4 @@
-// The lines of four commands. Each is put behind those that stand there.
+// The lines of four commands. Each is put after those that stand there.
 ghost use Rattle.std.specs.Prelude.{◌≡◌, ◌∷◌, [], ◌+◌, ◌<◌, ◌^◌, ◌++◌, decimal, IfOk, OnOk};
 ghost use Rattle.cds_stamps.specs.Members.{is_secondary, members_of, others_of, secondaries_of};
 ghost use Rattle.cell_model.specs.Commands.{Deliver, Epoch, Skulk, Start};
@@ -20,7 +20,8 @@ pub(crate) fn push_start(script: &mut Vec<u8>, house: HouseNo) -> Result<(), All
     Ok(())
 }
 
-/// `epoch D M R..`, with this master and the other members of a list, a secondary one behind its letter.
+/// `epoch D M R..`, with this master and the other members of a list, a secondary one after its
+/// letter.
 pub(crate) fn push_epoch(
     script: &mut Vec<u8>,
     dir: DirId,
@@ -56,7 +57,7 @@ pub(crate) fn push_skulk(
     Ok(())
 }
 
-/// `deliver N` for so many messages behind the first ones.
+/// `deliver N` for so many messages after the first ones.
 pub(crate) fn push_deliveries(
     script: &mut Vec<u8>,
     first: u64,
@@ -95,7 +96,7 @@ fn push_others(script: &mut Vec<u8>, master: HouseNo, members: &[Member]) -> Res
     Ok(())
 }
 
-// The word of a member, behind a space: its number, behind an `s` where it is secondary.
+// The word of a member, after a space: its number, after an `s` where it is secondary.
 fn push_member(script: &mut Vec<u8>, member: &Member) -> Result<(), AllocError>
     ensures { OnOk result
         (script.new.items
@@ -109,7 +110,7 @@ fn push_member(script: &mut Vec<u8>, member: &Member) -> Result<(), AllocError>
     push_number(script, u64::from(member.house.0))
 }
 
-// A number, behind a space.
+// A number, after a space.
 fn push_word(script: &mut Vec<u8>, number: u64) -> Result<(), AllocError>
     ensures { OnOk result (script.new.items ≡ script.old.items ++ (32 ∷ decimal number)) }
 {

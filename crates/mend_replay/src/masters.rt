@@ -23,8 +23,8 @@ pub(crate) struct Candidate {
     epoch: EpochNo,
 }
 
-/// The master of a directory without these houses: as before, if that one stays; else the member that holds the latest epoch; or
-/// none.
+/// The master of a directory without these houses: as before, if that one stays; else the member
+/// that holds the latest epoch; or none.
 pub(crate) fn new_master(
     alloc: Global,
     cell: &Cell,
@@ -46,7 +46,8 @@ pub(crate) fn new_master(
     }
 }
 
-// The member that stays and holds the latest epoch, of its `since` or later; of two at one epoch, the first.
+// The member that stays and holds the latest epoch, of its `since` or later; of two at one epoch,
+// the first.
 fn best_of(
     alloc: Global,
     cell: &Cell,
@@ -84,7 +85,8 @@ fn better(so_far: Option<Candidate>, next: Option<Candidate>) -> Option<Candidat
     }
 }
 
-// A member as one that could be master, if it stays and holds the directory at its `since` or later.
+// A member as one that could be master, if it stays and holds the directory at its `since` or
+// later.
 fn candidate_of(
     alloc: Global,
     cell: &Cell,
@@ -108,8 +110,8 @@ fn candidate_of(
     }
 }
 
-// The epoch of what a house holds, if that is a replica of this epoch or a later one. Of a house that is down it is read from its
-// image.
+// The epoch of what a house holds, if that is a replica of this epoch or a later one. Of a house
+// that is down it is read from its image.
 fn held_since(
     alloc: Global,
     cell: &Cell,

@@ -45,7 +45,7 @@ impl Mender {
         }
     }
 
-    /// Replays a line: the reply to a fault waits behind the others, and no other line is answered.
+    /// Replays a line: the reply to a fault waits after the others, and no other line is answered.
     pub fn take_line(
         &mut self,
         alloc: Global,
@@ -86,7 +86,8 @@ impl Mender {
         }
     }
 
-    /// The lines that mend the directory, or the line of the reason why none do. (A cell that is spent ran out of memory before.)
+    /// The lines that mend the directory, or the line of the reason why none do. (A cell that is
+    /// spent ran out of memory before.)
     pub fn print_lines(&self, alloc: Global) -> Result<Vec<u8>, AllocError>
         ensures { (g : model.Cell) → Stands self.now.replayer.cell g
             → IfOk result (λ text. text.items

@@ -1,4 +1,5 @@
-// Whether the houses of a directory are ready for a skulk, and whether its master has a stamp for one.
+// Whether the houses of a directory are ready for a skulk, and whether its master has a stamp for
+// one.
 ghost use Rattle.std.specs.Prelude.{◌≡◌, ◌==◌, not, IfOk, is_some};
 ghost use Rattle.cds_stamps.specs.declared.numbers.HouseNo as number;
 ghost use Rattle.cds_stamps.specs.Members.{members_of};
@@ -49,8 +50,8 @@ fn holds_at(home: &Clearinghouse, dir: DirId, epoch: EpochNo) -> bool
     }
 }
 
-/// Whether a house has a stamp left: one at the last time of 64 bits has none. Of a house that is down, its floor is read from its
-/// image.
+/// Whether a house has a stamp left: one at the last time of 64 bits has none. Of a house that is
+/// down, its floor is read from its image.
 pub(crate) fn has_stamp(alloc: Global, cell: &Cell, house: HouseNo) -> Result<bool, AllocError>
     ensures { (g : model.Cell) → Stands cell.now g
         → IfOk result (λ left. left ≡ is_some (stamp_at (g.house house.0))) }

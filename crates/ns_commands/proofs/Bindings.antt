@@ -1,4 +1,5 @@
--- Bindings that an importer gives one after the other: those that were given, and those that are still to come.
+-- Bindings that an importer gives one after the other: those that were given, and those that are
+-- still to come.
 use Rattle.std.proofs.Common.{◌≡◌, ◌∙◌, ℕ, ◌+◌, ◌<◌, Bool, true, false, List, [], ◌∷◌, ◌++◌, length, drop}
 use Rattle.std.proofs.Common.{slice_get, refl, sym, ap, subst, arith, append_assoc, append-nil}
 use Rattle.std.specs.Prelude.{Option, Some, None, is_none}
@@ -25,7 +26,7 @@ module _ {A : Type 0} where
       let is : new ≡ Some xs = (gives (x ∷ xs) refl).1 in
       subst (λ (o : Option (List A)). left_over o < length (x ∷ xs)) (sym is) (omega arith)
 
-  -- and this one stands behind those that were given
+  -- and this one is after those that were given
   pub given_more : (first old new : Option (List A)) (given : List A) (b : A) → Given first old given → Gives old new (Some b)
       → Given first new (given ++ b ∷ [])
   given_more first old new given b so_far gives all is = by_left (so_far all is).0 (so_far all is).1 (so_far all is).2

@@ -1,5 +1,5 @@
--- What the commands of the name service that change an entry ask of a cell, over any reader of it (own, after C706, name
--- service entries).
+-- What the commands of the name service that change an entry ask of a cell, over any reader of it
+-- (own, after C706, name service entries).
 use Rattle.std.specs.Prelude.{ℕ, true, is_none, List, Option, Some, None, Result, Ok, Err}
 use Rattle.std.specs.Option.{option_map}
 use Rattle.tower_codec.specs.declared.binding.StringBinding.{StringBinding}
@@ -82,7 +82,8 @@ abbrev pub of_entry : {Entry : Type 0} → Result Entry ScriptRefusal → (Entry
 of_entry (Ok entry) ask = ask entry
 of_entry (Err r) ask = Err r
 
--- the place of an entry of this kind, or of none; one that is absent or an object can be given values (own)
+-- the place of an entry of this kind, or of none; one that is absent or an object can be given
+-- values (own)
 abbrev pub to_fill : Option Kind → Place → Result Place ScriptRefusal
 to_fill None place = Ok place
 to_fill (Some kind.Object) place = Ok place
@@ -126,8 +127,8 @@ export reader name interface bindings objects =
 abbrev pub unless_none : Found → List Change → Asks
 unless_none entry gone = changes_unless (option_map refusal_of_export (unexport_fault gone)) entry gone
 
--- a server is unexported: the entry loses the towers of the interface, if one is given, and the objects (own, after C706,
--- unexporting a server)
+-- a server is unexported: the entry loses the towers of the interface, if one is given, and the
+-- objects (own, after C706, unexporting a server)
 abbrev pub unexport : Reader → List (List ℕ) → Option Interface → (objects : List (List ℕ)) → Asks
 unexport reader name interface objects = of_entry (object_in (walk_end reader true name)) (λ entry.
     unless_none entry (unexport_changes entry.name (reader.values entry tower_attribute) (reader.values entry object_attribute) interface objects))
@@ -143,20 +144,23 @@ delete_member reader name member = of_entry (object_in (walk_end reader true nam
     changes_unless (option_map refusal_of_group (groups_of.delete_fault (reader.values entry groups_of.group) member)) entry
     (groups_of.member_deletion entry.name member))
 
--- an element is added to a profile; where no interface is given it is a default element (own, after C706, profiles)
+-- an element is added to a profile; where no interface is given it is a default element (own, after
+-- C706, profiles)
 abbrev pub add_element : Reader → List (List ℕ) → Option Interface → (member : List (List ℕ)) → (priority : ℕ) → (annotation : List ℕ) → Asks
 add_element reader name interface member priority annotation =
     unless (option_map refusal_of_profile (profiles_of.add_fault interface member priority annotation))
     (of_entry (place_to_fill (place_of_walk reader name)) (λ place.
     fills place (profiles_of.element_addition place.name (is_none place.kind) (profiles_of.new_element interface member priority annotation))))
 
--- the elements for an interface, or the default ones, with this member are deleted from a profile (own, after C706, profiles)
+-- the elements for an interface, or the default ones, with this member are deleted from a profile
+-- (own, after C706, profiles)
 abbrev pub deleted_from : Option Interface → (member : List (List ℕ)) → Found → (values : List (List ℕ)) → Asks
 deleted_from interface member entry values =
     changes_unless (option_map refusal_of_profile (profiles_of.delete_fault interface member values)) entry
     (profiles_of.element_deletion entry.name interface member values)
 
--- a profile loses its elements for an interface, or the default ones, with this member (own, after C706, profiles)
+-- a profile loses its elements for an interface, or the default ones, with this member (own, after
+-- C706, profiles)
 abbrev pub delete_element : Reader → List (List ℕ) → Option Interface → (member : List (List ℕ)) → Asks
 delete_element reader name interface member = of_entry (object_in (walk_end reader true name)) (λ entry.
     deleted_from interface member entry (reader.values entry profiles_of.profile))

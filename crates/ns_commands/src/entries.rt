@@ -32,8 +32,8 @@ pub(crate) fn place_to_fill<R: EntryReader>(
     }
 }
 
-/// The object that a name leads to, the links of the name followed. A name that leads to no entry is refused as its walk is,
-/// and an entry that is a link or a child pointer is `NotObject`.
+/// The object that a name leads to, the links of the name followed. A name that leads to no entry
+/// is refused as its walk is, and an entry that is a link or a child pointer is `NotObject`.
 pub fn object<R: EntryReader>(
     alloc: Global,
     reader: &R,
@@ -51,7 +51,8 @@ pub fn object<R: EntryReader>(
     }
 }
 
-/// The values that show of an entry in the attribute of this name, 1 to 31 octets that a name of an attribute may have.
+/// The values that show of an entry in the attribute of this name, 1 to 31 octets that a name of an
+/// attribute may have.
 pub fn values_of<R: EntryReader>(
     alloc: Global,
     reader: &R,

@@ -19,8 +19,9 @@ use std::alloc::Global;
 use tower_codec::{Interface, StringBinding};
 use uuid::Uuid;
 
-/// The updates that export a server of an interface at these bindings, with these objects, to the entry of a name, which is
-/// made where it is absent. Where there is nothing to export no memory is asked for.
+/// The updates that export a server of an interface at these bindings, with these objects, to the
+/// entry of a name, which is made where it is absent. Where there is nothing to export no memory is
+/// asked for.
 pub fn export<R: EntryReader>(
     alloc: Global,
     reader: &R,
@@ -44,8 +45,8 @@ pub fn export<R: EntryReader>(
     }
 }
 
-/// The updates that unexport a server: the entry of a name loses the towers of the interface, if one is given, and these
-/// objects.
+/// The updates that unexport a server: the entry of a name loses the towers of the interface, if
+/// one is given, and these objects.
 pub fn unexport<R: EntryReader>(
     alloc: Global,
     reader: &R,

@@ -15,7 +15,8 @@ use script_answers::{Answer, ScriptRefusal};
 use server_entries::Wanted;
 use std::alloc::{AllocError, Global};
 
-/// The answer to an import: the bindings for a client, in the order of the search that begins at the entry of a name.
+/// The answer to an import: the bindings for a client, in the order of the search that begins at
+/// the entry of a name.
 pub fn import<R: EntryReader>(
     alloc: Global,
     reader: &R,

@@ -1,4 +1,5 @@
-//! The commands of the name service: what they ask of a cell, or what they answer, over any reader of its entries.
+//! The commands of the name service: what they ask of a cell, or what they answer, over any reader
+//! of its entries.
 #![tactic(auto)]
 
 mod entries;

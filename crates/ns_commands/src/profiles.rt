@@ -20,8 +20,9 @@ use script_answers::ScriptRefusal;
 use std::alloc::Global;
 use tower_codec::Interface;
 
-/// The updates that add an element to the profile of a name, which is made where it is absent: a default element where no
-/// interface is given. The annotation's octets are 0x20 to 0x7E. Where there is a fault of the element no memory is asked for.
+/// The updates that add an element to the profile of a name, which is made where it is absent: a
+/// default element where no interface is given. The annotation's octets are 0x20 to 0x7E. Where
+/// there is a fault of the element no memory is asked for.
 pub fn add_element<R: EntryReader>(
     alloc: Global,
     reader: &R,
@@ -58,8 +59,8 @@ pub fn add_element<R: EntryReader>(
     }
 }
 
-/// The updates that delete the elements for an interface, or the default elements where none is given, that have this
-/// member from the profile of a name.
+/// The updates that delete the elements for an interface, or the default elements where none is
+/// given, that have this member from the profile of a name.
 pub fn delete_element<R: EntryReader>(
     alloc: Global,
     reader: &R,

@@ -1,4 +1,5 @@
--- The members of a group are the full names among its values, and accepted updates change them as they say.
+-- The members of a group are the full names among its values, and accepted updates change them as
+-- they say.
 use Rattle.std.proofs.Common.{◌≡◌, ◌≢◌, ◌↔◌, ◌⊎◌, inl, inr, ⊎_elim, ℕ, Bool, true, false, List, [], ◌∷◌, ◌++◌, map}
 use Rattle.std.proofs.Common.{Option, Some, None, refl, sym, ap, subst, ◌∙◌}
 use Rattle.std.specs.Prelude.{filter, is_none, if◌then◌else◌}

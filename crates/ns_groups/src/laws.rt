@@ -17,8 +17,8 @@ pub fn member_values_have_no_fault()
     ensures { (octets : List ℕ) → (member_fault octets ≡ None) ↔ IsFullName octets }
 {}
 
-/// The members of a group are the one list of names that ascend by their octets, and are the full names whose octets are
-/// a value.
+/// The members of a group are the one list of names that ascend by their octets, and are the full
+/// names whose octets are a value.
 pub fn members_are_one_list()
     ensures { (values : List (List ℕ)) (names : List (List (List ℕ)))
         → IsMembers values names ↔ (names ≡ members_of values) }
@@ -36,9 +36,10 @@ pub fn only_members_are_deleted()
         → (delete_fault values member ≡ None) ↔ Contains (members_of values) member }
 {}
 
-/// The updates of groups are accepted: a name that shows nothing can be created, and of an entry that shows, members can be
-/// added and removed. Those that add a member are accepted one after the other, whether the entry shows or is absent, and
-/// so are those that delete one of an entry that shows.
+/// The updates of groups are accepted: a name that shows nothing can be created, and of an entry
+/// that shows, members can be added and removed. Those that add a member are accepted one after the
+/// other, whether the entry shows or is absent, and so are those that delete one of an entry that
+/// shows.
 pub fn group_updates_are_accepted()
     ensures additions { (h : List Mark) (n : List ℕ) (member : List (List ℕ)) → IsHistory h
         → AreAccepted h (member_addition n (is_none (shown_of_name h n)) member) }
@@ -52,8 +53,8 @@ pub fn group_updates_are_accepted()
         → refusal_of (Some e) (Remove n group (full_name_octets member)) ≡ None }
 {}
 
-/// An update that adds a member to an entry that shows leaves the members that were there and this one, and one that
-/// removes it leaves the others.
+/// An update that adds a member to an entry that shows leaves the members that were there and this
+/// one, and one that removes it leaves the others.
 pub fn group_updates_change_members()
     ensures added { (h : List Mark) (n : List ℕ) (e : Shown) (s : Stamp) (member : List (List ℕ))
         → shown_of_name h n ≡ Some e → IsBefore h s

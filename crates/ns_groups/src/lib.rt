@@ -1,4 +1,5 @@
-//! Groups of the name service: entries whose values of one attribute spell the full names of their members.
+//! Groups of the name service: entries whose values of one attribute spell the full names of their
+//! members.
 #![tactic(auto)]
 
 pub mod laws;

@@ -20,7 +20,8 @@ pub enum GroupFault {
     NoSuchMember,
 }
 
-/// The member that a value spells: BadMemberValue where its octets are no full name, and then no memory is asked for.
+/// The member that a value spells: BadMemberValue where its octets are no full name, and then no
+/// memory is asked for.
 pub fn member_of(alloc: Global, value: &Value) -> Result<FullName, AllocOr<GroupFault>>
     ensures answer { Answers result (ok_unless (member_fault value.now) (components_of value.now)) }
     ensures faulty { IfSome (member_fault value.now) (λ fault. result ≡ Err (Fault fault)) }
@@ -32,8 +33,8 @@ pub fn member_of(alloc: Global, value: &Value) -> Result<FullName, AllocOr<Group
     }
 }
 
-/// The members that values in any order spell, in ascending order of their octets. A value that is no full name is passed
-/// over, and one that stands twice counts once.
+/// The members that values in any order spell, in ascending order of their octets. A value that is
+/// no full name is passed over, and one that is there twice counts once.
 pub fn members(alloc: Global, values: &[Value]) -> Result<Vec<FullName>, AllocError>
     ensures { IfOk result (λ v. v.items ≡ members_of values.now) }
 {
@@ -42,8 +43,8 @@ pub fn members(alloc: Global, values: &[Value]) -> Result<Vec<FullName>, AllocEr
     LentName::copies(alloc, &names)
 }
 
-/// The members that these values spell, in the order of the values: where they ascend, as those that show of an entry do, the
-/// order of `members`. Their octets stay in the values.
+/// The members that these values spell, in the order of the values: where they ascend, as those
+/// that show of an entry do, the order of `members`. Their octets stay in the values.
 pub fn members_in_order<'a>(
     alloc: Global,
     values: &[&'a Value],
@@ -59,7 +60,7 @@ pub fn members_in_order<'a>(
     Ok(names)
 }
 
-// Puts the full name of these octets behind others, if they are one.
+// Puts the full name of these octets after others, if they are one.
 fn push_if_readable<'a>(names: &mut Vec<LentName<'a>>, octets: &'a [u8]) -> Result<(), AllocError>
     ensures { OnOk result
         (names.new.items

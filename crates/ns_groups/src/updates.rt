@@ -20,7 +20,8 @@ use std::alloc::{AllocError, Global};
 /// The attribute with the members of a group.
 pub const GROUP: &[u8] = b"RPC_Group";
 
-/// The updates that add a member to an entry: one that creates the entry, where it is absent, and one that adds the member.
+/// The updates that add a member to an entry: one that creates the entry, where it is absent, and
+/// one that adds the member.
 pub fn add(
     alloc: Global,
     name: &SimpleName,
@@ -34,8 +35,8 @@ pub fn add(
     Ok(updates)
 }
 
-/// The update that deletes a member of an entry with these values of the group attribute: NoSuchMember where none of them
-/// is the octets of the member, and then no memory is asked for.
+/// The update that deletes a member of an entry with these values of the group attribute:
+/// NoSuchMember where none of them is the octets of the member, and then no memory is asked for.
 pub fn delete(
     alloc: Global,
     name: &SimpleName,

@@ -23,7 +23,7 @@ use Rattle.ns_import.proofs.Landing.{Leads, names_within, edges_within}
 -- ---- a name is taken off
 
 module _ (reader : Reader) (searched : List Found) (before after : List (List (List ℕ))) (name : List (List ℕ)) (popped : before ≡ after ++ name ∷ []) where
-  -- what is left behind the searched entries, by where the name leads
+  -- what is left after the searched entries, by where the name leads
   left_by : (at : Result Found ImportFault) → object_at reader name ≡ at
       → behind_seen same_entry searched (cons_option (result_ok at) (objects_of_names reader (reverse after)))
       ≡ behind_seen same_entry searched (objects_of_names reader (reverse before))

@@ -47,7 +47,8 @@ module _ (reader : Reader) (objects : List Found) (leads : Leads reader objects)
       (edges_within reader objects leads wanted) (edges_within reader others leads_too wanted) start
       (has_from same_entry same_entry-itself start objects among) (has_from same_entry same_entry-itself start others among_too)
 
-  -- an import that begins at this entry has its bindings before it, by any list that has all objects
+  -- an import that begins at this entry has its bindings before it, by any list that has all
+  -- objects
   pub begins_with : (others : List Found) → Leads reader others → (wanted : Wanted) (name : List (List ℕ)) (start : Found) → object_at reader name ≡ Ok start
       → (client : Wanted) → client ≡ wanted → (ready : List StringBinding) (searched : List Found) (names : List (List (List ℕ)))
       → ready ≡ bindings_at reader client start → searched ≡ start ∷ [] → names ≡ names_of reader client.interface start ++ []

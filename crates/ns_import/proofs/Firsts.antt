@@ -1,4 +1,5 @@
--- Lists by the test for sameness: what has an item, which list is within another, and where items come first.
+-- Lists by the test for sameness: what has an item, which list is within another, and where items
+-- come first.
 use Rattle.std.proofs.Common.{◌≡◌, ◌⊎◌, inl, inr, ⊎_elim, Bool, true, false, not, cond, List, [], ◌∷◌, ◌++◌, filter, flat_map, Contains, refl}
 use Rattle.std.proofs.Common.{sym, ap, ◌∙◌, subst, append_assoc, append-nil}
 use Rattle.std.specs.Prelude.{◌||◌, Option, Some, None, filter_map, if◌then◌else◌}
@@ -86,7 +87,7 @@ module _ {A : Type 0} (same : A → A → Bool) where
     pub has_last : (x : A) (xs : List A) → has same x (xs ++ x ∷ []) ≡ true
     has_last x xs = has_rest x xs (x ∷ []) (has_head x [])
 
-    -- what stands in a list, the test finds
+    -- what is in a list, the test finds
     pub has_from : (x : A) (xs : List A) → Contains xs x → has same x xs ≡ true
     has_from x xs c = list_any_at (same x) xs c.0 x c.1 (ap (same x) c.2 ∙ itself x)
 
@@ -104,7 +105,7 @@ module _ {A : Type 0} (same : A → A → Bool) where
     only_one : (x f : A) → has same x (f ∷ []) ≡ true → x ≡ f
     only_one x f h = ⊎_elim (exact x f) (λ none. absurd cc) (or_cases (same x f) false h)
 
-    -- what the test finds stands in the list
+    -- what the test finds is in the list
     pub has_stands : (x : A) (xs : List A) → has same x xs ≡ true → Contains xs x
     has_stands x xs h = Contains-from_any exact x xs h
 
@@ -167,7 +168,7 @@ module _ {A : Type 0} (same : A → A → Bool) where
       → firsts same seen (x ∷ xs) ≡ x ∷ firsts same (seen ++ x ∷ []) xs
   firsts_new seen x xs e = ap (λ b. (if b then [] else x ∷ []) ++ firsts same (seen ++ (if b then [] else x ∷ [])) xs) e
 
-  -- the first places of two parts: those of the first, and behind these those of the second
+  -- the first places of two parts: those of the first, and after these those of the second
   pub firsts_parts : (seen xs ys : List A) → firsts same seen (xs ++ ys) ≡ firsts same seen xs ++ firsts same (seen ++ firsts same seen xs) ys
   firsts_parts seen [] ys = sym (nothing_added seen ys)
   firsts_parts seen (x ∷ xs) ys =

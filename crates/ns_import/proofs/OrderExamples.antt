@@ -22,7 +22,7 @@ earlier zero = 1 ∷ 2 ∷ []
 earlier (suc zero) = 2 ∷ 3 ∷ []
 earlier (suc (suc n)) = []
 
--- an item that is come to again from one behind it
+-- an item that is come to again from one after it
 abbrev again : ℕ → List ℕ
 again zero = 1 ∷ 2 ∷ []
 again (suc zero) = []

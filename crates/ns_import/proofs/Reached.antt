@@ -19,13 +19,14 @@ module _ {A : Type 0} (same : A → A → Bool) (exact : (x y : A) → same x y 
       there e from.0 f (has_stands same exact from.0 (edges e) out.0) (unfolded_reached k (path ++ e ∷ []) from.0 f from.2))
       (or_cases (same f e) (has same f (branches same edges k (path ++ e ∷ []) (edges e))) h)
 
-  -- what is reached from an item of a list is in the list, where the edges of its items lead to its items
+  -- what is reached from an item of a list is in the list, where the edges of its items lead to its
+  -- items
   closed_reached : (seen : List A) → Closed same edges seen [] → (e f : A) → Reaches edges e f → has same e seen ≡ true → has same f seen ≡ true
   closed_reached seen closed e f (here x) h = h
   closed_reached seen closed e f (there a x b edge on) h =
       closed_reached seen closed x b on (closed.finished a h refl x (has_from same itself x (edges a) edge))
 
-  -- each item of the order stands there once
+  -- each item of the order is there once
   pub order_once : (steps : ℕ) (e : A) → IsDistinct same (order same edges steps e)
   order_once steps e = firsts-once same exact itself [] (unfold_paths same edges steps [] e)
 

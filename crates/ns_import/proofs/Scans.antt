@@ -30,7 +30,7 @@ module _ {A : Type 0} (same : A → A → Bool) where
       by_front true old later d = later d
       by_front false new later d = let is : g ≡ f = cc in ap (λ z. has same z seen) (sym is) ∙ new
 
-  -- what is left behind what was seen waited
+  -- what is left after what was seen waited
   front_waited : (seen rest : List A) → Within same rest (behind_seen same seen rest)
   front_waited seen [] x h = h
   front_waited seen (g ∷ rest) x h = by_front (has same g seen) (front_waited seen rest x) h
@@ -40,18 +40,18 @@ module _ {A : Type 0} (same : A → A → Bool) where
       by_front true later d = or_right (same x g) (has same x rest) (later d)
       by_front false later d = d
 
-  -- and so did the item in front and what is left behind it
+  -- and so did the item in front and what is left after it
   pub front_within : (seen rest : List A) (f : A) (fs : List A) → behind_seen same seen rest ≡ f ∷ fs → Within same rest (f ∷ fs)
   front_within seen rest f fs e x h = front_waited seen rest x (ap (has same x) e ∙ h)
 
 module _ {A : Type 0} (same : A → A → Bool) (edges : A → List A) where
-  -- searches of which the same is left behind what was seen are one
+  -- searches of which the same is left after what was seen are one
   same_front : (steps : ℕ) (seen rest others : List A) → behind_seen same seen rest ≡ behind_seen same seen others
       → depth_first same edges steps seen rest ≡ depth_first same edges steps seen others
   same_front zero seen rest others e = refl
   same_front (suc k) seen rest others e = ap (enter_first same edges (λ s r. depth_first same edges k s r) seen) e
 
-  -- where nothing is left behind what was seen, the search is at its end
+  -- where nothing is left after what was seen, the search is at its end
   pub depth_first_ends : (steps : ℕ) (seen rest : List A) → behind_seen same seen rest ≡ [] → depth_first same edges steps seen rest ≡ []
   depth_first_ends zero seen rest e = refl
   depth_first_ends (suc k) seen rest e = ap (enter_first same edges (λ s r. depth_first same edges k s r) seen) e
@@ -65,7 +65,7 @@ module _ {A : Type 0} (same : A → A → Bool) (edges : A → List A) where
       → depth_first same edges steps seen (f ∷ rest) ≡ depth_first same edges steps seen rest
   depth_first-old steps seen f rest e = same_front steps seen (f ∷ rest) rest (behind_seen-old same seen f rest e)
 
-  -- what is left behind what was seen is searched as all that waits
+  -- what is left after what was seen is searched as all that waits
   pub depth_first-behind_seen : (steps : ℕ) (seen rest : List A)
       → depth_first same edges steps seen rest ≡ depth_first same edges steps seen (behind_seen same seen rest)
   depth_first-behind_seen steps seen rest = same_front steps seen rest (behind_seen same seen rest) (sym (again rest))

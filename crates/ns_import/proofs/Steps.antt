@@ -79,7 +79,7 @@ module _ {A : Type 0} (same : A → A → Bool) (exact : (x y : A) → same x y 
       depth_first_ends same edges steps seen rest
       (behind_seen-none same seen rest itself (λ x h. unseen_none same exact itself objects seen x (w x h) none))
 
-  -- behind an item that is entered the search stays among the objects
+  -- after an item that is entered the search stays among the objects
   stays_within : (f : A) (rest : List A) → Within same objects rest → Within same objects (edges f ++ rest)
   stays_within f rest w = within_both same objects (edges f) rest (lands f) w
 
@@ -115,7 +115,8 @@ module _ {A : Type 0} (same : A → A → Bool) (exact : (x y : A) → same x y 
           ∙ ap (λ (l : List A). f ∷ l)
           (depth_first_enough k (suc k) (seen ++ f ∷ []) (edges f ++ rest) (stays_within f rest w) (omega arith) (omega arith))
 
-  -- the first item that waits and was not seen is entered, and its edges come before what waits behind it
+  -- the first item that waits and was not seen is entered, and its edges come before what waits
+  -- after it
   pub depth_first_goes_on : (seen rest : List A) (f : A) (fs : List A) → Within same objects rest → behind_seen same seen rest ≡ f ∷ fs
       → depth_first same edges (length objects) seen rest ≡ f ∷ depth_first same edges (length objects) (seen ++ f ∷ []) (edges f ++ fs)
   depth_first_goes_on seen rest f fs w e =

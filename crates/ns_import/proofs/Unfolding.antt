@@ -15,7 +15,8 @@ module _ {A : Type 0} (same : A → A → Bool) (edges : A → List A) where
   abbrev pub branches : (steps : ℕ) → (path fs : List A) → List A
   branches k path fs = flat_map (λ f. unfold_paths same edges k path f) (filter (λ f. not (has same f path)) fs)
 
-  -- each item of the path was seen, and each other that was seen is finished: its edges lead to items that were seen
+  -- each item of the path was seen, and each other that was seen is finished: its edges lead to
+  -- items that were seen
   pub record Closed (seen path : List A) : Type 0 where
     pub path_seen : Within same seen path
     pub finished : (x : A) → has same x seen ≡ true → has same x path ≡ false → Within same seen (edges x)
@@ -49,8 +50,8 @@ module _ {A : Type 0} (same : A → A → Bool) (exact : (x y : A) → same x y 
   abbrev rest_of : (seen rest : List A) → List A
   rest_of seen rest = depth_first same edges (length objects) seen rest
 
-  -- the search comes from these items first to `new`, and then to what it comes to from the others; then the items were
-  -- seen, and what was seen is finished or on the path
+  -- the search comes from these items first to `new`, and then to what it comes to from the others;
+  -- then the items were seen, and what was seen is finished or on the path
   record Searched (seen path new fs rest : List A) : Type 0 where
     found : rest_of seen (fs ++ rest) ≡ new ++ rest_of (seen ++ new) rest
     closed : Closed same edges (seen ++ new) path
@@ -115,7 +116,8 @@ module _ {A : Type 0} (same : A → A → Bool) (exact : (x y : A) → same x y 
   off_path : (seen path : List A) (f : A) → Closed same edges seen path → has same f seen ≡ false → has same f path ≡ false
   off_path seen path f closed fresh = by_test (has same f path) (λ on. not_both (has same f seen) (closed.path_seen f on) fresh) (λ no. no)
 
-  -- along these edges the search comes to the first places of what the paths come to, where it does so from each item
+  -- along these edges the search comes to the first places of what the paths come to, where it does
+  -- so from each item
   branches_searched : (k : ℕ)
       → ((seen path : List A) (f : A) (rest : List A) → unseen same objects path ≤ k → Closed same edges seen path → has same f seen ≡ false
       → has same f objects ≡ true → Within same objects rest → Searched seen path (firsts same seen (unfold_paths same edges k path f)) (f ∷ []) rest)
@@ -161,7 +163,8 @@ module _ {A : Type 0} (same : A → A → Bool) (exact : (x y : A) → same x y 
           subst (λ new. Searched seen path new (f ∷ fs) rest) (sym (old_branch old))
           (searched_old seen path (firsts same seen (branches same edges k path fs)) f fs rest old others)
 
-  -- from an item that was not seen the search comes to the first places of what the paths from it come to
+  -- from an item that was not seen the search comes to the first places of what the paths from it
+  -- come to
   unfolded_searched : (k : ℕ) (seen path : List A) (f : A) (rest : List A) → unseen same objects path ≤ k → Closed same edges seen path
       → has same f seen ≡ false → has same f objects ≡ true → Within same objects rest
       → Searched seen path (firsts same seen (unfold_paths same edges k path f)) (f ∷ []) rest

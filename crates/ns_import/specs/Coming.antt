@@ -1,4 +1,5 @@
--- Words of private contracts alone: what an importer still gives, by how far its search has come. Own.
+-- Words of private contracts alone: what an importer still gives, by how far its search has come.
+-- Own.
 use Rattle.std.specs.Prelude.{ℕ, List, ◌++◌, length, reverse}
 use Rattle.tower_codec.specs.declared.rpc.Interface.{Interface}
 use Rattle.server_entries.specs.Clients.{entry_bindings}
@@ -26,13 +27,15 @@ bindings_in values wanted = entry_bindings wanted (values tower_attribute) (valu
 abbrev pub objects_of_names : Reader → List (List (List ℕ)) → List Found
 objects_of_names reader names = filter_map (object_of reader) names
 
--- the bindings of the entries that a search still comes to, where these were searched and these names wait
+-- the bindings of the entries that a search still comes to, where these were searched and these
+-- names wait
 abbrev pub to_come : Reader → (objects : List Found) → Wanted → (searched : List Found) → (names : List (List (List ℕ))) → List StringBinding
 to_come reader objects wanted searched names =
     flat_map (bindings_at reader wanted)
     (depth_first same_entry (edges reader wanted.interface) (length objects) searched (objects_of_names reader names))
 
--- the bindings that are still to come: those that are ready, and those of the entries that the search still comes to
+-- the bindings that are still to come: those that are ready, and those of the entries that the
+-- search still comes to
 abbrev pub bindings_to_come : Reader → (objects : List Found) → Wanted → Progress → List StringBinding
 bindings_to_come reader objects wanted progress =
     reverse progress.ready.items ++ to_come reader objects wanted progress.searched.keys (reverse progress.names.items)

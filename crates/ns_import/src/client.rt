@@ -46,7 +46,8 @@ impl Model for Client {
         × (c.group ≡ group_attribute) × (c.profile ≡ profile_attribute) };
 }
 
-/// What an entry says: the names at which a search goes on from it, and its bindings, of both the next one last.
+/// What an entry says: the names at which a search goes on from it, and its bindings, of both the
+/// next one last.
 #[derive(Drop)]
 pub(crate) struct Said<'a> {
     pub(crate) names: Vec<Waiting<'a>>,
@@ -54,7 +55,8 @@ pub(crate) struct Said<'a> {
 }
 
 impl<'a> Said<'a> {
-    // What these members, then these elements and these bindings say, all of them in the order of a search.
+    // What these members, then these elements and these bindings say, all of them in the order of a
+    // search.
     fn of(
         mut members: Vec<Waiting<'a>>,
         mut elements: Vec<Waiting<'a>>,
@@ -165,8 +167,8 @@ fn lent_members<'a>(alloc: Global, values: &[&'a Value]) -> Result<Vec<Waiting<'
     Waiting::all_lent(alloc, members_in_order(alloc, values)?)
 }
 
-// The members of the elements among these values that a search for the interface takes, in the order of the values, which keep
-// their octets.
+// The members of the elements among these values that a search for the interface takes, in the
+// order of the values, which keep their octets.
 fn lent_elements<'a>(
     alloc: Global,
     values: &[&'a Value],

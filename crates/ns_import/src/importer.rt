@@ -18,8 +18,8 @@ use std::alloc::{AllocError, Global};
 use std::marker::Model;
 use tower_codec::StringBinding;
 
-/// An import, which gives the bindings of a search one by one. Contracts see the bindings that are still to come, or nothing
-/// once it is spent.
+/// An import, which gives the bindings of a search one by one. Contracts see the bindings that are
+/// still to come, or nothing once it is spent.
 #[derive(Drop)]
 pub struct Importer<'a, R: EntryReader> {
     reader: &'a R,
@@ -42,7 +42,8 @@ impl<'a, R: EntryReader> Model for Importer<'a, R> {
 }
 
 impl<'a, R: EntryReader> Importer<'a, R> {
-    /// Begins a search at the entry that a name leads to, links followed to the last. That entry is read, and no other.
+    /// Begins a search at the entry that a name leads to, links followed to the last. That entry is
+    /// read, and no other.
     pub fn begin(
         alloc: Global,
         reader: &'a R,
@@ -65,8 +66,8 @@ impl<'a, R: EntryReader> Importer<'a, R> {
         })
     }
 
-    /// The next binding, or none at the end. The search goes just as far as that binding. After want of memory the importer
-    /// is spent: each further call answers want of memory.
+    /// The next binding, or none at the end. The search goes just as far as that binding. After it
+    /// ran out of memory the importer is spent: each further call answers out of memory.
     pub fn next(&mut self, alloc: Global) -> Result<Option<StringBinding>, AllocError>
         ensures call { IsCall self.old self.new result }
         ensures next { (left : List StringBinding) → self.old ≡ Some left

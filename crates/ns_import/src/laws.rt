@@ -9,7 +9,8 @@ ghost use Rattle.server_entries.specs.declared.client.Wanted.{Wanted};
 ghost use Rattle.ns_import.specs.Orders.{order, Reaches};
 ghost use Rattle.ns_import.specs.Imports.{same_entry, edges, order_from, import_list, IsImport};
 
-/// A search comes exactly to the entries that are reached along edges from the one at which it begins, and to each once.
+/// A search comes exactly to the entries that are reached along edges from the one at which it
+/// begins, and to each once.
 pub fn searches_reach_each_entry_once()
     ensures exactly { (reader : Reader) (objects : List Found) (wanted : Interface)
         (start e : Found) → ShowsOnly reader objects
@@ -20,8 +21,8 @@ pub fn searches_reach_each_entry_once()
         → IsDistinct same_entry (order_from reader objects wanted start) }
 {}
 
-/// As many steps as there are objects are enough for the order of a search: more change nothing. So the order is the same by
-/// any list that has all objects.
+/// As many steps as there are objects are enough for the order of a search: more change nothing. So
+/// the order is the same by any list that has all objects.
 pub fn more_steps_change_nothing()
     ensures steps { (reader : Reader) (objects : List Found) (wanted : Interface) (start : Found)
         (steps : ℕ) → ShowsOnly reader objects
@@ -34,7 +35,8 @@ pub fn more_steps_change_nothing()
         → order_from reader others wanted start ≡ order_from reader objects wanted start }
 {}
 
-/// What an import of a name lists are the bindings of the entries that are reached from it, in the order of the search.
+/// What an import of a name lists are the bindings of the entries that are reached from it, in the
+/// order of the search.
 pub fn imports_list_what_is_reached()
     ensures { (reader : Reader) (objects : List Found) (wanted : Wanted) (name : List (List ℕ))
         (bindings : List StringBinding)

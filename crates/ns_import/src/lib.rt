@@ -1,5 +1,5 @@
-//! The search for bindings: an import that begins at an entry, goes on at the members of groups and at the elements of
-//! profiles, and gives one binding after the other, over any reader of a cell.
+//! The search for bindings: an import that begins at an entry, goes on at the members of groups and
+//! at the elements of profiles, and gives one binding after the other, over any reader of a cell.
 #![tactic(auto)]
 
 mod client;

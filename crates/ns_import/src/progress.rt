@@ -15,9 +15,9 @@ use resolver::{EntryReader, Found, Near};
 use std::alloc::{AllocError, Global};
 use tower_codec::StringBinding;
 
-/// How far a search has come: the entries that were searched, the names that wait, the bindings of the last entry that
-/// were not given yet, and the directory where the search was last, if one is kept. Of names and of bindings the next one
-/// stands last.
+/// How far a search has come: the entries that were searched, the names that wait, the bindings of
+/// the last entry that were not given yet, and the directory where the search was last, if one is
+/// kept. Of names and of bindings the next one is last.
 #[derive(Drop)]
 pub(crate) struct Progress<'a> {
     searched: IndexSet<Found>,

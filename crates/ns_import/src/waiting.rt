@@ -15,7 +15,8 @@ use resolver::{EntryReader, Found, Near, Refusal, resolve, resolve_near};
 use std::alloc::{AllocError, Global};
 use std::marker::Model;
 
-/// A full name at which a search goes on: its octets are where the reader keeps them, or it has memory of its own.
+/// A full name at which a search goes on: its octets are where the reader keeps them, or it has
+/// memory of its own.
 #[derive(Drop)]
 pub(crate) struct Waiting<'a> {
     name: Name<'a>,
@@ -84,8 +85,8 @@ impl<'a> Waiting<'a> {
         Ok(all)
     }
 
-    /// The object that the name leads to, links followed to the last. A name whose octets the reader keeps is looked up at once
-    /// in the directory that is near, if it is of that.
+    /// The object that the name leads to, links followed to the last. A name whose octets the
+    /// reader keeps is looked up at once in the directory that is near, if it is of that.
     pub(crate) fn object<R: EntryReader>(
         self,
         alloc: Global,

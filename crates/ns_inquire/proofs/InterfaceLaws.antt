@@ -19,7 +19,7 @@ all_three false y z = refl
 derived-same : (a b : Interface) → eq-value.it a b ≡ same_interface a b
 derived-same a b = all_three (bytes_eq a.uuid b.uuid) (a.major == b.major) (a.minor == b.minor)
 
--- an interface that is inserted stands after the others, if it isn't among them
+-- an interface that is inserted is after the others, if it isn't among them
 pub inserted : (keys : List Interface) (x : Interface)
     → (if list_any (eq-value.it x) keys then keys else keys ++ x ∷ []) ≡ keys ++ if_new same_interface keys x
 inserted keys x = (λ i. if list_any (λ y. derived-same x y i) keys then keys else keys ++ x ∷ []) ∙ by_test (list_any (same_interface x) keys)

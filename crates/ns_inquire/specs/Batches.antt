@@ -10,7 +10,8 @@ module _ {A : Type 0} where
   last_batch [] = []
   last_batch (x ∷ xs) = (x ∷ xs) ∷ []
 
-  -- the batches of what is left, where these items are in the one at hand: each is full, but for the last
+  -- the batches of what is left, where these items are in the one at hand: each is full, but for
+  -- the last
   abbrev pub batches_from : (most : ℕ) → (batch left : List A) → List (List A)
   batches_from most batch [] = last_batch batch
   batches_from most batch (x ∷ xs) =
@@ -26,7 +27,8 @@ module _ {A : Type 0} where
   first_batch most [] = None
   first_batch most (x ∷ xs) = Some (take most (x ∷ xs))
 
--- a look-up: how many bindings a batch has at most, and the bindings that are still to come, none where it is spent
+-- a look-up: how many bindings a batch has at most, and the bindings that are still to come, none
+-- where it is spent
 pub record Batching : Type 0 where
   pub most : ℕ
   pub left : Option (List StringBinding)

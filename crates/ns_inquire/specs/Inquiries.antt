@@ -20,7 +20,8 @@ use Rattle.ns_inquire.specs.declared.version.Version.TheVariants as version
 
 -- ---- versions
 
--- the version of an interface that is offered is one that is meant, where this one is asked for (C706, versions of an inquiry)
+-- the version of an interface that is offered is one that is meant, where this one is asked for
+-- (C706, versions of an inquiry)
 abbrev pub by_version : Version → (asked offered : Interface) → Bool
 by_version version.All asked offered = true
 by_version version.Compatible asked offered = (offered.major == asked.major) && nat_le asked.minor offered.minor
@@ -55,7 +56,8 @@ is_picked (inquiry.ByBoth asked v member) e = is_offered asked v e && is_name e.
 abbrev pub picked_in : Inquiry → List ℕ → Option Element
 picked_in asked octets = option_and_then (λ e. if is_picked asked e then Some e else None) (element_of octets)
 
--- the elements among values that an inquiry asks for, by priority and then by their octets, default elements last
+-- the elements among values that an inquiry asks for, by priority and then by their octets, default
+-- elements last
 abbrev pub elements_of : Inquiry → List (List ℕ) → List Element
 elements_of asked values =
     flat_map (λ p. of_priority p (filter (is_picked asked) (elements_in values))) (priorities ++ default_priority ∷ [])
@@ -66,7 +68,8 @@ elements_of asked values =
 abbrev pub interface_in : List ℕ → Option Interface
 interface_in octets = option_map (λ tower. tower.interface) (rpc_tower_of octets)
 
--- the interfaces of the towers of servers, each where it is first in ascending order of the towers' octets
+-- the interfaces of the towers of servers, each where it is first in ascending order of the towers'
+-- octets
 abbrev pub interfaces_of : List (List ℕ) → List Interface
 interfaces_of towers = firsts same_interface [] (filter_map interface_in (in_ascending_order towers))
 

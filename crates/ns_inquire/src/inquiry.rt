@@ -70,7 +70,7 @@ fn is_offered(asked: &Interface, version: Version, element: &LentElement<'_>) ->
 
 /// The elements among values that an inquiry asks for: by priority, and those of one priority by
 /// their octets, so default elements come last. The values may stand in any order; one that is no
-/// element is passed over, and one that stands twice counts once.
+/// element is passed over, and one that is there twice counts once.
 pub fn elements(
     alloc: Global,
     values: &[Value],

@@ -1,6 +1,6 @@
-//! Inquiries: what an entry says, asked for directly. The elements of a profile, the interfaces and the
-//! objects of a server, and the bindings of an import in batches. It does not know how an entry is
-//! found, or who asks.
+//! Inquiries: what an entry says, asked for directly. The elements of a profile, the interfaces and
+//! the objects of a server, and the bindings of an import in batches. It does not know how an entry
+//! is found, or who asks.
 #![tactic(auto)]
 
 mod inquiry;

@@ -17,11 +17,11 @@ use std::alloc::{AllocError, Global};
 use std::marker::Model;
 use tower_codec::StringBinding;
 
-/// An import that gives its bindings in batches. Contracts see how many bindings a batch has at most,
-/// and the bindings that are still to come, or none once it is spent.
+/// An import that gives its bindings in batches. Contracts see how many bindings a batch has at
+/// most, and the bindings that are still to come, or none once it is spent.
 ///
-/// It is spent by itself, and not only as its importer is: a binding that the importer gave may find
-/// no room in the batch, and would be missing from the next one.
+/// It is spent by itself, and not only as its importer is: a binding that the importer gave may
+/// find no room in the batch, and would be missing from the next one.
 #[derive(Drop)]
 pub struct Lookup<'a, R: EntryReader> {
     importer: Importer<'a, R>,
@@ -41,8 +41,8 @@ impl<'a, R: EntryReader> Model for Lookup<'a, R> {
 }
 
 impl<'a, R: EntryReader> Lookup<'a, R> {
-    /// Begins an import at the entry that a name leads to, links followed to the last, in batches of
-    /// at most so many bindings. That entry is read, and no other.
+    /// Begins an import at the entry that a name leads to, links followed to the last, in batches
+    /// of at most so many bindings. That entry is read, and no other.
     pub fn begin(
         alloc: Global,
         reader: &'a R,
@@ -63,9 +63,9 @@ impl<'a, R: EntryReader> Lookup<'a, R> {
         })
     }
 
-    /// The next batch, or none at the end: full, or all that is left. The search goes just as far as
-    /// the last binding of the batch. After it ran out of memory the look-up is spent: each further
-    /// call answers out of memory.
+    /// The next batch, or none at the end: full, or all that is left. The search goes just as far
+    /// as the last binding of the batch. After it ran out of memory the look-up is spent: each
+    /// further call answers out of memory.
     pub fn next(&mut self, alloc: Global) -> Result<Option<Vec<StringBinding>>, AllocError>
         ensures call { IsCall self.old.left self.new.left result }
         ensures most { self.new.most ≡ self.old.most }

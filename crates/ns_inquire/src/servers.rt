@@ -14,9 +14,9 @@ use std::alloc::{AllocError, Global};
 use tower_codec::Interface;
 use uuid::Uuid;
 
-/// The interfaces of the towers among values, in ascending order of the octets of the towers, each at
-/// its first tower. The values may stand in any order; one that is not the tower of an RPC server is
-/// passed over.
+/// The interfaces of the towers among values, in ascending order of the octets of the towers, each
+/// at its first tower. The values may stand in any order; one that is not the tower of an RPC
+/// server is passed over.
 pub fn interfaces(alloc: Global, towers: &[Value]) -> Result<Vec<Interface>, AllocError>
     ensures { IfOk result (λ v. v.items ≡ interfaces_of towers.now) }
 {
@@ -67,7 +67,7 @@ fn interface_in(value: &Value) -> Option<Interface>
 }
 
 /// The objects among values, those of 16 octets, ascending. The values may stand in any order; one
-/// that stands twice counts once.
+/// that is there twice counts once.
 pub fn objects(alloc: Global, values: &[Value]) -> Result<Vec<Uuid>, AllocError>
     ensures { IfOk result (λ v. v.items ≡ objects_of values.now) }
 {

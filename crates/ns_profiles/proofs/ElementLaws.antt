@@ -22,7 +22,7 @@ use Rattle.ns_profiles.specs.Elements.{element_of, is_annotation_octet, no_inter
 
 -- ---- faults, field by field
 
--- behind a field without a fault the first fault is that of the other fields
+-- after a field without a fault the first fault is that of the other fields
 pub after_field : (octets : List ℕ) (field : Field) (fields : List Field) → field_fault octets field ≡ None
     → first_fault octets (field ∷ fields) ≡ first_fault octets fields
 after_field octets field fields e = ap (λ (o : Option ProfileFault). option_or o (first_fault octets fields)) e
@@ -115,7 +115,7 @@ zeros_are (suc n) (x ∷ xs) len e =
 range_length : (octets : List ℕ) (a n : ℕ) → a + n ≤ length octets → length (take n (drop a octets)) ≡ n
 range_length octets a n h = omega (arith, length-take n (drop a octets), length-drop a octets)
 
--- what stands from one count on: the next field, and what stands behind it
+-- what is from one count on: the next field, and what is after it
 cut : (octets : List ℕ) (a n : ℕ) → drop a octets ≡ take n (drop a octets) ++ drop (a + n) octets
 cut octets a n =
     sym (take-append-drop n (drop a octets)) ∙ ap (λ (rest : List ℕ). take n (drop a octets) ++ rest) (drop-drop n a octets)

@@ -17,7 +17,7 @@ use Rattle.ns_profiles.specs.Elements.{is_default, name_length, element_fault, e
 use Rattle.ns_profiles.specs.Elements.{IsElement, IsElementOf}
 use Rattle.ns_profiles.proofs.ElementLaws.{after_field, kept_field, said_element, element_there}
 
--- the field that stands behind so many octets, and what stands behind it
+-- the field that is after so many octets, and what is after it
 record Stands (x part rest : List ℕ) (a n : ℕ) : Type 0 where
   here : take n (drop a x) ≡ part
   behind : drop (a + n) x ≡ rest
@@ -58,7 +58,7 @@ module _ (e : Element) (lawful : IsElement e) where
   short : length name ≤ 1023
   short = lawful.member.short
 
-  -- what stands behind the UUID, the versions, the length and the name
+  -- what is after the UUID, the versions, the length and the name
   abbrev r5 : List ℕ
   r5 = e.annotation ++ []
 
@@ -133,7 +133,7 @@ module _ (e : Element) (lawful : IsElement e) where
       (ap (λ (k : ℕ). list_all is_annotation_octet (slice_range x (23 + length name) k)) to
       ∙ ap (list_all is_annotation_octet) (take_rest x (23 + length name) ∙ annotation_again) ∙ all)
 
-  -- the fields behind the length, the minor version, the major version, the UUID and the priority
+  -- the fields after the length, the minor version, the major version, the UUID and the priority
   abbrev f6 : List Field
   f6 = member_field (name_length x) ∷ annotation_field (name_length x) (length x) ∷ []
 

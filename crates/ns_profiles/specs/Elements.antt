@@ -1,4 +1,5 @@
--- Elements of profiles: their octets field by field, and the first fault of octets that are none (own, after C706, profile elements).
+-- Elements of profiles: their octets field by field, and the first fault of octets that are none
+-- (own, after C706, profile elements).
 use Rattle.std.specs.Prelude.{◌≡◌, ℕ, ◌+◌, ◌-◌, ◌≤◌, Bool, true, not, ◌&&◌, ◌||◌, nat_lt, nat_le, ◌==◌, IsTrue, List, [], ◌∷◌, Option, Some, None}
 use Rattle.std.specs.Prelude.{is_none, length, drop, slice_index, if◌then◌else◌}
 use Rattle.std.specs.Int.{to_be_bytes, from_be_bytes, w16}
@@ -24,8 +25,9 @@ no_interface = record { uuid = zero_bytes; major = 0; minor = 0 }
 abbrev pub is_annotation_octet : ℕ → Bool
 is_annotation_octet b = nat_le 32 b && nat_le b 126
 
--- the fields of an element: priority, UUID, major and minor version, length of the member's name, the member's name and
--- the annotation; the highest octet of a number comes first (own, after C706, profile elements)
+-- the fields of an element: priority, UUID, major and minor version, length of the member's name,
+-- the member's name and the annotation; the highest octet of a number comes first (own, after C706,
+-- profile elements)
 abbrev pub element_fields : Element → List (List ℕ)
 element_fields e =
     (e.priority ∷ [])
@@ -37,12 +39,12 @@ element_fields e =
     ∷ e.annotation
     ∷ []
 
--- the octets of an element: its fields one behind another (own)
+-- the octets of an element: its fields one after another (own)
 abbrev pub element_octets : Element → List ℕ
 element_octets e = concat (element_fields e)
 
--- the fields have lawful values: a priority of 0 to 8, where 8 is that of default elements, which have no interface; a
--- full name; and octets of annotations (own, after C706, profile elements)
+-- the fields have lawful values: a priority of 0 to 8, where 8 is that of default elements, which
+-- have no interface; a full name; and octets of annotations (own, after C706, profile elements)
 pub record IsElement (e : Element) : Type 0 where
   pub priority : e.priority ≤ default_priority
   pub interface : IsInterface e.interface
@@ -55,7 +57,8 @@ pub record IsElementOf (octets : List ℕ) (e : Element) : Type 0 where
   pub lawful : IsElement e
   pub spelled : octets ≡ element_octets e
 
--- a field of octets: how many octets stand before it, how many it has, and whether octets keep its rule (own)
+-- a field of octets: how many octets stand before it, how many it has, and whether octets keep its
+-- rule (own)
 pub record Field : Type 0 where
   pub before : ℕ
   pub width : ℕ
@@ -65,8 +68,8 @@ pub record Field : Type 0 where
 abbrev pub field_octets : Field → List ℕ → List ℕ
 field_octets field octets = slice_range octets field.before (field.before + field.width)
 
--- the fault of a field: behind the last octet, where the octets end before the field is whole, and else at its first
--- octet, where it breaks its rule (own)
+-- the fault of a field: after the last octet, where the octets end before the field is whole, and
+-- else at its first octet, where it breaks its rule (own)
 abbrev pub field_fault : List ℕ → Field → Option ProfileFault
 field_fault octets field =
     if nat_lt (length octets) (field.before + field.width) then Some (BadElement (length octets + 1))
@@ -93,7 +96,7 @@ length_field = record { before = 21; width = 2; keeps = λ x. true }
 abbrev pub member_field : ℕ → Field
 member_field width = record { before = 23; width = width; keeps = is_full_name }
 
--- the annotation, behind a name of this length: what is left of so many octets (own)
+-- the annotation, after a name of this length: what is left of so many octets (own)
 abbrev pub annotation_field : (name whole : ℕ) → Field
 annotation_field name whole = record { before = 23 + name; width = whole - (23 + name); keeps = list_all is_annotation_octet }
 
@@ -133,7 +136,7 @@ interface_in octets = record {
 abbrev pub member_octets : List ℕ → List ℕ
 member_octets octets = slice_range octets 23 (23 + name_length octets)
 
--- the octets of the annotation: all that are behind the member's name (own)
+-- the octets of the annotation: all that are after the member's name (own)
 abbrev pub annotation_octets : List ℕ → List ℕ
 annotation_octets octets = drop (23 + name_length octets) octets
 

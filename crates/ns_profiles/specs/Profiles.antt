@@ -1,4 +1,5 @@
--- Profiles: the updates that add and delete elements, and the order in which a search takes them (own, after C706, profile attributes).
+-- Profiles: the updates that add and delete elements, and the order in which a search takes them
+-- (own, after C706, profile attributes).
 use Rattle.std.specs.Prelude.{ℕ, ◌+◌, Bool, false, not, ◌&&◌, ◌||◌, nat_lt, ◌==◌, List, [], ◌∷◌, ◌++◌, map, filter, Option, Some}
 use Rattle.std.specs.Prelude.{None, length, codes, if◌then◌else◌}
 use Rattle.std.specs.List.{filter_map, flat_map, list_any}
@@ -48,13 +49,15 @@ add_fault interface member priority annotation =
     if not (is_priority interface priority) then Some BadPriority
     else (if nat_lt most_text (length (full_name_octets member) + length annotation) then Some ElementTooLong else None)
 
--- to add an element to the entry n: the entry is created if it is absent, and then the element becomes a value (own)
+-- to add an element to the entry n: the entry is created if it is absent, and then the element
+-- becomes a value (own)
 abbrev pub element_addition : (n : List ℕ) → (absent : Bool) → Element → List Change
 element_addition n absent element = creation n absent ++ Add n profile (element_octets element) ∷ []
 
 -- ---- deleting
 
--- an element is for this interface; where there is none, it is a default element, which is for no interface (own)
+-- an element is for this interface; where there is none, it is a default element, which is for no
+-- interface (own)
 abbrev pub is_for : Option Interface → Element → Bool
 is_for None element = element.priority == default_priority
 is_for (Some interface) element = not (element.priority == default_priority) && same_interface element.interface interface
@@ -77,7 +80,8 @@ element_deletion n interface member values = map (Remove n profile) (filter (is_
 
 -- ---- searching
 
--- the elements among values, in ascending order of their octets; what is no element is passed over (own)
+-- the elements among values, in ascending order of their octets; what is no element is passed over
+-- (own)
 abbrev pub elements_in : List (List ℕ) → List Element
 elements_in values = filter_map element_of (in_ascending_order values)
 
@@ -97,8 +101,8 @@ of_priority priority = filter (λ e. e.priority == priority)
 abbrev pub priorities : List ℕ
 priorities = 0 ∷ 1 ∷ 2 ∷ 3 ∷ 4 ∷ 5 ∷ 6 ∷ 7 ∷ []
 
--- the members at which a search for an interface goes on: those of the elements that serve it, by priority, and then
--- those of the default elements (own, after C706, search of profiles)
+-- the members at which a search for an interface goes on: those of the elements that serve it, by
+-- priority, and then those of the default elements (own, after C706, search of profiles)
 abbrev pub search_order : (wanted : Interface) → (values : List (List ℕ)) → List (List (List ℕ))
 search_order wanted values =
     let serving = filter (λ e. serves e.interface wanted) (elements_in values) in

@@ -64,7 +64,8 @@ impl Annotation {
     }
 }
 
-/// An element of a profile: where a search for the interface may go on, or for any where the priority is 8.
+/// An element of a profile: where a search for the interface may go on, or for any where the
+/// priority is 8.
 #[derive(Debug, PartialEq, Eq)]
 pub struct Element {
     /// 0 to 7, searched in this order; or 8, a default element.
@@ -88,10 +89,10 @@ impl Drop for Element {
 }
 
 impl Element {
-    /// The element of a value, or the place of the first field that breaks the layout, or of the first octet that is
-    /// missing. The layout is: the priority (1 octet), the UUID (16), the major and the minor version (2 each), the
-    /// length of the member's name (2), the name, and the annotation up to the end. No memory is asked for where there
-    /// is a fault.
+    /// The element of a value, or the place of the first field that breaks the layout, or of the
+    /// first octet that is missing. The layout is: the priority (1 octet), the UUID (16), the major
+    /// and the minor version (2 each), the length of the member's name (2), the name, and the
+    /// annotation up to the end. No memory is asked for where there is a fault.
     pub fn read(alloc: Global, value: &Value) -> Result<Element, AllocOr<ProfileFault>>
         ensures read { IfOk result (IsElementOf value.now) }
         ensures known { IfOk result (λ e. element_of value.now ≡ Some e) }
@@ -260,8 +261,8 @@ fn uuid_of(octets: &[u8]) -> Uuid
     }
 }
 
-/// Whether octets are an element, and else the place of the first field that breaks the layout, or of the first octet
-/// that is missing. Takes no memory.
+/// Whether octets are an element, and else the place of the first field that breaks the layout, or
+/// of the first octet that is missing. Takes no memory.
 pub(crate) fn check(octets: &[u8]) -> Result<(), ProfileFault>
     ensures found { MatchResult result (λ _. element_fault octets.now ≡ None)
         (λ fault. element_fault octets.now ≡ Some fault) }
@@ -283,7 +284,7 @@ fn check_fields(octets: &[u8]) -> Result<(), ProfileFault>
     check_texts(octets)
 }
 
-// The octets of a field, or the place behind the last octet where they end too early.
+// The octets of a field, or the place after the last octet where they end too early.
 fn field(octets: &[u8], from: usize, to: usize) -> Result<&[u8], ProfileFault>
     requires { from ≤ to }
     ensures value { IfOk result (λ x. x.now ≡ slice_range octets.now from to) }

@@ -16,8 +16,8 @@ pub fn elements_have_no_fault()
         → (element_fault octets ≡ None) ↔ ((e : Element) × IsElementOf octets e) }
 {}
 
-/// What is written of an element is read as that element, and what is read was written of it; so octets are those of one
-/// element at most.
+/// What is written of an element is read as that element, and what is read was written of it; so
+/// octets are those of one element at most.
 pub fn elements_read_back()
     ensures read { (e : Element) → IsElement e → element_of (element_octets e) ≡ Some e }
     ensures known { (octets : List ℕ) (e : Element) → IsElementOf octets e
@@ -26,9 +26,10 @@ pub fn elements_read_back()
         → element_of octets ≡ Some e → IsElementOf octets e }
 {}
 
-/// The updates of profiles are accepted: a name that shows nothing can be created, and of an entry that shows, elements can be
-/// added and removed. Those that add an element are accepted one after the other, whether the entry shows or is absent, and
-/// so are those that delete elements of an entry that shows.
+/// The updates of profiles are accepted: a name that shows nothing can be created, and of an entry
+/// that shows, elements can be added and removed. Those that add an element are accepted one after
+/// the other, whether the entry shows or is absent, and so are those that delete elements of an
+/// entry that shows.
 pub fn profile_updates_are_accepted()
     ensures additions { (h : List Mark) (n : List ℕ) (element : Element) → IsHistory h
         → AreAccepted h (element_addition n (is_none (shown_of_name h n)) element) }

@@ -10,9 +10,10 @@ use cell_names::{FullName, LentName};
 use std::alloc::{AllocError, Global};
 use tower_codec::Interface;
 
-/// The members at which a search for an interface goes on: those of the elements that serve it, by priority and then by
-/// their octets, and then those of the default elements, by their octets. The values may stand in any order; one that is
-/// no element is passed over, and one that stands twice counts once.
+/// The members at which a search for an interface goes on: those of the elements that serve it, by
+/// priority and then by their octets, and then those of the default elements, by their octets. The
+/// values may stand in any order; one that is no element is passed over, and one that is there
+/// twice counts once.
 pub fn elements_for(
     alloc: Global,
     values: &[Value],
@@ -25,8 +26,9 @@ pub fn elements_for(
     LentName::copies(alloc, &names)
 }
 
-/// The members of the elements among these values that a search for the interface takes, in the order of the values: where
-/// they ascend, as those that show of an entry do, the order of `elements_for`. Their octets stay in the values.
+/// The members of the elements among these values that a search for the interface takes, in the
+/// order of the values: where they ascend, as those that show of an entry do, the order of
+/// `elements_for`. Their octets stay in the values.
 pub fn elements_in_order<'a>(
     alloc: Global,
     values: &[&'a Value],
@@ -41,7 +43,8 @@ pub fn elements_in_order<'a>(
     members_of(alloc, &found)
 }
 
-// The values that are elements for this interface and have this member. No memory is asked for where there are none.
+// The values that are elements for this interface and have this member. No memory is asked for
+// where there are none.
 pub(crate) fn elements_of<'a>(
     alloc: Global,
     values: &'a [Value],
@@ -143,7 +146,8 @@ fn is_meant(octets: &[u8], interface: Option<&Interface>, member: &FullName) -> 
     is_for(octets, interface) && is_member(octets, member)
 }
 
-// Whether the octets of an element are for this interface, or of a default element where there is none.
+// Whether the octets of an element are for this interface, or of a default element where there is
+// none.
 fn is_for(octets: &[u8], interface: Option<&Interface>) -> bool
     requires { element_fault octets.now ≡ None }
     ensures { result ≡ is_for (option_copied interface.entry) (element_of_octets octets.now) }

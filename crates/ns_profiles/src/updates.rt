@@ -29,13 +29,15 @@ use uuid::Uuid;
 /// The attribute with the elements of a profile.
 pub const PROFILE: &[u8] = b"RPC_Profile";
 
-// The most octets of a member's name and an annotation together: with the octets in front of them they make a value.
+// The most octets of a member's name and an annotation together: with the octets in front of them
+// they make a value.
 const MOST_TEXT: usize = 1001;
 
-/// The updates that add an element to an entry: one that creates the entry, where it is absent, and one that adds the
-/// element, which is a default element where no interface is given. BadPriority where a default element's priority is not
-/// 8, or another's is above 7; then ElementTooLong where the member's name and the annotation have more than 1,001 octets
-/// together. No memory is asked for where there is a fault. The annotation's octets are 0x20 to 0x7E.
+/// The updates that add an element to an entry: one that creates the entry, where it is absent, and
+/// one that adds the element, which is a default element where no interface is given. BadPriority
+/// where a default element's priority is not 8, or another's is above 7; then ElementTooLong where
+/// the member's name and the annotation have more than 1,001 octets together. No memory is asked
+/// for where there is a fault. The annotation's octets are 0x20 to 0x7E.
 pub fn add(
     alloc: Global,
     name: &SimpleName,
@@ -66,9 +68,10 @@ pub fn add(
     }
 }
 
-/// The updates that delete the elements for an interface, or the default elements where none is given, that have this
-/// member: one for each of the values that is such an element, in ascending order of their octets, whatever order the
-/// values have and however often they stand there. NoSuchElement where none of them is, and then no memory is asked for.
+/// The updates that delete the elements for an interface, or the default elements where none is
+/// given, that have this member: one for each of the values that is such an element, in ascending
+/// order of their octets, whatever order the values have and however often they stand there.
+/// NoSuchElement where none of them is, and then no memory is asked for.
 pub fn delete(
     alloc: Global,
     name: &SimpleName,
@@ -90,8 +93,9 @@ pub fn delete(
     Ok(removals(alloc, name, &sorted)?)
 }
 
-/// Whether an element may be added: BadPriority where a default element's priority is not 8, or another's is above 7; then
-/// ElementTooLong where the member's name and the annotation have more than 1,001 octets together.
+/// Whether an element may be added: BadPriority where a default element's priority is not 8, or
+/// another's is above 7; then ElementTooLong where the member's name and the annotation have more
+/// than 1,001 octets together.
 pub fn check_new(
     interface: Option<&Interface>,
     member: &FullName,
@@ -167,7 +171,7 @@ fn element(
     Ok(octets)
 }
 
-// Puts a number behind octets, the higher octet first.
+// Puts a number after octets, the higher octet first.
 fn push_number(octets: &mut Vec<u8>, number: u16) -> Result<(), AllocError>
     ensures { OnOk result (octets.new.items ≡ octets.old.items ++ to_be_bytes w16 number) }
 {

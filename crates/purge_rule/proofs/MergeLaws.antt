@@ -1,4 +1,5 @@
--- Tables and entries that are merged up to an AllUpTo: valid, with no later time, and those of both histories.
+-- Tables and entries that are merged up to an AllUpTo: valid, with no later time, and those of both
+-- histories.
 use Rattle.std.proofs.Common.{◌≡◌, ℕ, ◌≤◌, Bool, true, false, List, ◌++◌, Option, Some, None, Result, Ok, Err, refl, sym, ap, subst, ◌∙◌}
 use Rattle.std.specs.Prelude.{◌&&◌, ◌||◌, not, IfSome, OnOk, if◌then◌else◌}
 use Rattle.std.specs.FinMap.{get}

@@ -101,7 +101,8 @@ arrives t old now none way v = sym (purged_none now t v (λ d has. absurd (apart
 
 -- ---- steps
 
--- so many steps, and what is held after them, are at most what was held before; and just that, where it could be counted
+-- so many steps, and what is held after them, are at most what was held before; and just that,
+-- where it could be counted
 pub record Spends (steps held : ℕ) (more left : ℕ) : Type 0 where
   pub most : more + left ≤ steps + held
   pub exact : held ≤ most_held → more + left ≡ steps + held

@@ -59,7 +59,8 @@ latest_in_entry-≤ n e =
 pub latest_in-≤ : (n : ℕ) (t : Entries) → (latest_in t ≤ n) ↔ TableUpTo n t
 latest_in-≤ n t = greatest_value-≤ nat_list_cmp_total octets_exact latest_in_entry n (EntryUpTo n) (latest_in_entry-≤ n) t
 
--- the greatest time of a replica is at most n exactly where no time of its table, nor that of its AllUpTo, is later
+-- the greatest time of a replica is at most n exactly where no time of its table, nor that of its
+-- AllUpTo, is later
 pub latest_time-≤ : (n : ℕ) (r : Replica) → (latest_time r ≤ n) ↔ ReplicaUpTo n r
 latest_time-≤ n r =
     let table = latest_in-≤ n r.table in
@@ -166,7 +167,7 @@ module _ (n : ℕ) where
       by_case true = q
       by_case false = tt
 
-  -- no time stands in the empty table
+  -- no time is in the empty table
   pub empty-up_to : TableUpTo n empty
   empty-up_to k = subst (λ x. IfSome x (EntryUpTo n)) (sym (get-empty octets_cmp k)) tt
 

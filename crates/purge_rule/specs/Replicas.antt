@@ -13,7 +13,8 @@ use Rattle.directory.specs.Purges.{purged_table, purged_entries, take_entry, tak
 use Rattle.purge_rule.specs.declared.delta.Delta.{Delta}
 use Rattle.purge_rule.specs.declared.replica.Replica.{Replica}
 
--- the replica of a history up to an AllUpTo: the table of the history, without the deletions stamped at most that (own)
+-- the replica of a history up to an AllUpTo: the table of the history, without the deletions
+-- stamped at most that (own)
 abbrev pub replica_of : List Mark → Option Stamp → Replica
 replica_of h t = record { table = purged_entries h t; all_up_to = t }
 
@@ -34,8 +35,8 @@ pub record IsDelta (d : Delta) : Type 0 where
 abbrev pub together : Option Stamp → Option Stamp → Option Stamp
 together = maybe later_stamp
 
--- two tables, merged up to an AllUpTo: of the other what is later is taken, and deletions up to it are dropped (own, after C705,
--- skulks and AllUpTo)
+-- two tables, merged up to an AllUpTo: of the other what is later is taken, and deletions up to it
+-- are dropped (own, after C705, skulks and AllUpTo)
 abbrev pub merged_table : Option Stamp → Entries → Entries → Entries
 merged_table None own other = join_tables own other
 merged_table (Some t) own other = purged_table t (take_table t own other)

@@ -1,5 +1,5 @@
-//! What a replica has that is later than its AllUpTo, and the merge of that into another replica. Of messages and of
-//! octets it knows nothing.
+//! What a replica has that is later than its AllUpTo, and the merge of that into another replica.
+//! Of messages and of octets it knows nothing.
 ghost use Rattle.std.specs.Prelude.{◌≡◌, ◌++◌, ℕ, List, IfOk, OnOk, OnErr};
 ghost use Rattle.directory.specs.Entries.{IsValidTable};
 ghost use Rattle.directory.specs.Histories.{Mark, CanMerge};
@@ -13,8 +13,8 @@ use cds_stamps::{Lattice, Stamp, later_of};
 use directory::Excerpt;
 use std::alloc::{AllocError, Global};
 
-/// What a house sends of a replica in a skulk: what of its table is later than a stamp, if there is one, else the whole
-/// table.
+/// What a house sends of a replica in a skulk: what of its table is later than a stamp, if there is
+/// one, else the whole table.
 pub struct Delta {
     pub table: Excerpt,
     pub above: Option<Stamp>,
@@ -63,8 +63,8 @@ impl Replica {
         })
     }
 
-    /// Merges the delta of another replica in, as `take` merges the replica: of two histories that can be merged it becomes
-    /// the replica of both together.
+    /// Merges the delta of another replica in, as `take` merges the replica: of two histories that
+    /// can be merged it becomes the replica of both together.
     pub fn take_delta(&mut self, alloc: Global, other: &Delta) -> Result<(), AllocError>
         ensures merged { OnOk result ((h g : List Mark) →
             let t = together self.old.all_up_to other.now.above in CanMerge h g t →

@@ -1,4 +1,4 @@
-// How much stands in a table.
+// How much is in a table.
 ghost use Rattle.std.specs.Prelude.{◌≡◌, min};
 ghost use Rattle.directory.specs.Held.{held_in, most_held};
 

@@ -1,4 +1,4 @@
-// The greatest time that stands in a table.
+// The greatest time that is in a table.
 ghost use Rattle.std.specs.Prelude.{◌≡◌};
 ghost use Rattle.purge_rule.specs.Latest.{greatest_of, latest_in_entry, latest_in_cell, time_of};
 

@@ -32,8 +32,9 @@ pub fn replicas_show_histories()
         → shown_in (replica_of h t).table n ≡ shown_of_name h n }
 {}
 
-/// What is left of the table of a history up to the later AllUpTo, with what is taken of that of another that can be merged,
-/// is what is left of the table of both. What is taken of the other's delta is the same.
+/// What is left of the table of a history up to the later AllUpTo, with what is taken of that of
+/// another that can be merged, is what is left of the table of both. What is taken of the other's
+/// delta is the same.
 pub fn purged_replicas_merge()
     ensures replica { (h g : List Mark) (a b : Option Stamp) (t : Stamp) →
         together a b ≡ Some t → CanMerge h g (Some t) →
@@ -58,8 +59,8 @@ pub fn deltas_make_no_later_time()
     ensures { (r : Replica) (n : ℕ) → ReplicaUpTo n r → DeltaUpTo n (delta_in r) }
 {}
 
-/// The table of marks, purged or not, and the entry of a name among them, have no later time than the marks, and the empty table
-/// has none.
+/// The table of marks, purged or not, and the entry of a name among them, have no later time than
+/// the marks, and the empty table has none.
 pub fn marks_make_no_later_time()
     ensures entry { (h : List Mark) (name : List ℕ) (n : ℕ) → AllByRecursion (MarkUpTo n) h →
         IfSome (entry_of h name) (EntryUpTo n) }

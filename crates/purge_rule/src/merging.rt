@@ -28,8 +28,8 @@ pub(crate) fn merge_table(
     }
 }
 
-/// Takes of another table what is later than t, and then drops deletions up to t, since what is dropped could not come back where
-/// memory runs out.
+/// Takes of another table what is later than t, and then drops deletions up to t, since what is
+/// dropped could not come back where memory runs out.
 fn take_table(own: &mut Table, alloc: Global, other: &Table, t: Stamp) -> Result<(), AllocError>
     ensures ok { OnOk result (own.new ≡ purged_table t (take_table t own.old other.now)) }
     ensures err { OnErr result (own.new ≡ own.old) }
@@ -57,7 +57,8 @@ pub(crate) fn merge_excerpt(
     }
 }
 
-/// Takes of an excerpt what is later than t, and then drops deletions up to t, as `take_table` does.
+/// Takes of an excerpt what is later than t, and then drops deletions up to t, as `take_table`
+/// does.
 fn take_excerpt(
     own: &mut Table,
     alloc: Global,
@@ -73,8 +74,8 @@ fn take_excerpt(
     Ok(())
 }
 
-/// Takes of the entry of one name what is later than t, unless it is passed by. An entry that is not valid is left out. Nothing is
-/// copied where all of it is later.
+/// Takes of the entry of one name what is later than t, unless it is passed by. An entry that is
+/// not valid is left out. Nothing is copied where all of it is later.
 fn take_entry(
     own: &mut Table,
     alloc: Global,
@@ -123,7 +124,8 @@ fn join_later(
     own.join_entry(alloc, &later)
 }
 
-/// Merges the entry of one name in, up to a stamp, if there is one. An entry that is not valid is left out.
+/// Merges the entry of one name in, up to a stamp, if there is one. An entry that is not valid is
+/// left out.
 pub(crate) fn merge_entry(
     own: &mut Table,
     alloc: Global,

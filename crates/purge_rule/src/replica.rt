@@ -20,7 +20,8 @@ use directory::{Fragment, Table};
 use std::alloc::{AllocError, Global};
 use std::sync::ledger::Ledger;
 
-/// What a house holds of a directory: its table, and the stamp up to which each member of the replica set has each mark.
+/// What a house holds of a directory: its table, and the stamp up to which each member of the
+/// replica set has each mark.
 pub struct Replica {
     pub table: Table,
     pub all_up_to: Option<Stamp>,
@@ -46,8 +47,9 @@ impl Replica {
         })
     }
 
-    /// Merges another replica in, up to the later AllUpTo: of its table what is later than that is taken, and deletions up to it
-    /// are dropped. Of two histories that can be merged it becomes the replica of both together.
+    /// Merges another replica in, up to the later AllUpTo: of its table what is later than that is
+    /// taken, and deletions up to it are dropped. Of two histories that can be merged it becomes
+    /// the replica of both together.
     pub fn take(&mut self, alloc: Global, other: &Replica) -> Result<(), AllocError>
         ensures merged { OnOk result ((h g : List Mark) →
             let t = together self.old.all_up_to other.now.all_up_to in
@@ -71,9 +73,9 @@ impl Replica {
         Ok(())
     }
 
-    /// Merges the marks of one update in: of their entry what is later than AllUpTo is taken, and every other name stays as it
-    /// is. Of a history that they can be merged with it becomes the replica of both together, up to the same stamp. An entry that is
-    /// not valid is left out.
+    /// Merges the marks of one update in: of their entry what is later than AllUpTo is taken, and
+    /// every other name stays as it is. Of a history that they can be merged with it becomes the
+    /// replica of both together, up to the same stamp. An entry that is not valid is left out.
     pub fn take_marks(&mut self, alloc: Global, fragment: &Fragment) -> Result<(), AllocError>
         ensures merged { OnOk result ((h marks : List Mark) →
             CanMerge h marks self.old.all_up_to → IsFragmentOf marks fragment.now →
@@ -100,7 +102,8 @@ impl Replica {
         Ok(())
     }
 
-    /// Raises AllUpTo to this stamp, if that is later, and drops the deletions up to it. It takes no memory.
+    /// Raises AllUpTo to this stamp, if that is later, and drops the deletions up to it. It takes
+    /// no memory.
     pub fn advance(&mut self, t: Stamp)
         ensures merged { (h : List Mark) → self.old ≡ replica_of h self.old.all_up_to
             → self.new ≡ replica_of h (together self.old.all_up_to (Some t)) }
@@ -114,8 +117,8 @@ impl Replica {
         self.table.drop_up_to(up_to);
     }
 
-    /// The same, and its steps are counted: a deletion that the index of the table hands out is one, and so is each further record
-    /// that is dropped with its entry.
+    /// The same, and its steps are counted: a deletion that the index of the table hands out is
+    /// one, and so is each further record that is dropped with its entry.
     pub fn advance_counted<L: Ledger>(&mut self, t: Stamp, steps: &mut Steps<L>)
         ensures merged { (h : List Mark) → self.old ≡ replica_of h self.old.all_up_to
             → self.new ≡ replica_of h (together self.old.all_up_to (Some t)) }
@@ -146,7 +149,8 @@ impl Replica {
         *up_to
     }
 
-    /// How many entries, deaths, clears and marks of values it holds, or the last number of 64 bits where there are more.
+    /// How many entries, deaths, clears and marks of values it holds, or the last number of 64 bits
+    /// where there are more.
     pub fn held(&self) -> u64
         ensures { result ≡ min (held_in self.now.table) most_held }
     {

@@ -13,7 +13,8 @@ use directory::Table;
 use std::marker::Model;
 use std::sync::ledger::{Blank, Book, Ledger, Share};
 
-/// How many steps were taken: deletions that an index handed out, and further records that were dropped with their entries.
+/// How many steps were taken: deletions that an index handed out, and further records that were
+/// dropped with their entries.
 #[derive(Drop)]
 pub struct Steps<L: Ledger> {
     book: Book<L>,
@@ -64,7 +65,8 @@ impl<L: Ledger> Steps<L> {
     }
 }
 
-/// Drops the deletions up to t, and counts them, and what is dropped with them. One that is handed out and stays counts as well.
+/// Drops the deletions up to t, and counts them, and what is dropped with them. One that is handed
+/// out and stays counts as well.
 pub(crate) fn forget<L: Ledger>(table: &mut Table, t: Stamp, steps: &mut Steps<L>)
     ensures dropped { table.new ≡ purged_table t table.old }
     ensures times { (n : ℕ) → TableUpTo n table.old → TableUpTo n table.new }

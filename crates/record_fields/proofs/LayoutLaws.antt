@@ -1,4 +1,4 @@
--- Reading by a layout gives exactly what stands there, or exactly the first field that breaks a rule.
+-- Reading by a layout gives exactly what is there, or exactly the first field that breaks a rule.
 use Rattle.std.proofs.Common.{◌≡◌, ℕ, ◌<◌, ◌≤◌, ◌⊎◌, List, [], ◌++◌, length, take, drop, Option, Some, None, Result, Ok, Err, refl, sym, ap, subst, ◌∙◌, inl}
 use Rattle.std.proofs.Common.{inr, append_assoc, append-nil, arith}
 use Rattle.std.proofs.lemmas.Bool.{le-ltb, lt-ltb, cases_lt}
@@ -67,13 +67,13 @@ ruled_err (Some r) n v y b e =
 
 -- ---- the laws
 
--- what stands at the front is read
+-- what is at the front is read
 pub stands_read : {A : Type 0} (l : Layout A) (x : List ℕ) (v : A) (rest : List ℕ) → Stands l x v rest → read l x ≡ Ok (v, rest)
 stands_read (done a) x v rest h = λ i. Ok (h.0 i, h.1 i)
 stands_read (field size says rule) x v rest h = ap (one size says rule) h.1 ∙ field_ok size says rule h.0 rest v h.2 h.3 h.4
 stands_read (next first second) x v rest h = rw (stands_read first x h.0 h.1 h.2) (stands_read (second h.0) h.1 v rest h.3)
 
--- what is read stands at the front
+-- what is read is at the front
 pub read_stands : {A : Type 0} (l : Layout A) (x : List ℕ) (v : A) (rest : List ℕ) → read l x ≡ Ok (v, rest) → Stands l x v rest
 read_stands {A} (done a) x v rest e =
     let same : (a, x) ≡ (v, rest) = ok_is (a, x) (v, rest) e in
@@ -127,7 +127,7 @@ read_breaks (next first second) x b e =
       | inr a ↦ inr (a.0.0, a.0.1, read_stands first x a.0.0 a.0.1 a.1, read_breaks (second a.0.0) a.0.1 b a.2)
     ]
 
--- what stands in front of a rest stands so in front of any
+-- what is in front of a rest is so in front of any
 pub front_stands : {A : Type 0} (l : Layout A) (x : List ℕ) (v : A) (rest : List ℕ) → Stands l x v rest
     → (front : List ℕ) × (x ≡ front ++ rest) × ((other : List ℕ) → Stands l (front ++ other) v other)
 front_stands (done a) x v rest h = ([], h.1, λ other. (h.0, refl))

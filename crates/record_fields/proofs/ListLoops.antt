@@ -52,7 +52,7 @@ module _ {K X : Type 0} (key : Option K → Layout K) (content : Layout X) where
       let one : behind front (read (ascending_items key content (count - i) before) x) ≡ Err b = rw (k, puts) refl in
       sym so_far ∙ one
 
-  -- behind the last item the list is read
+  -- after the last item the list is read
   pub list_done : (front : List (K × X)) (count i : ℕ) (before : Option K) (x : List ℕ) (total : Result (List (K × X) × List ℕ) Broken) → count ≤ i
       → behind front (read (ascending_items key content (count - i) before) x) ≡ total → total ≡ Ok (front, x)
   unfolding ascending_items

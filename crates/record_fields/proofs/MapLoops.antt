@@ -53,7 +53,7 @@ module _ {K X : Type 0} {R : K → K → Ordering} (key : Option K → Layout K)
       let one : to_come key content m count i before x ≡ Err b = rw (k, adds) refl in
       sym so_far ∙ one
 
-  -- behind the last item the map is read
+  -- after the last item the map is read
   pub is_done : (m : FinMap R X) (count i : ℕ) (before : Option K) (x : List ℕ) (total : Result (FinMap R X × List ℕ) Broken) → count ≤ i
       → to_come key content m count i before x ≡ total → total ≡ Ok (m, x)
   unfolding ascending_items

@@ -24,7 +24,7 @@ decoding_decodes {A} l octets = go (read l octets) refl
     go (Ok (value, rest)) is = decoded l octets value rest (length octets - length rest) is refl
     go (Err b) is = not_decoded l octets b (fault_at b.rule (length octets - b.left + 1)) is refl
 
--- each answer is what is decoded, or want of memory
+-- each answer is what is decoded, or out of memory
 pub answers_decoding : {A : Type 0} (l : Layout A) (octets : List ℕ) (r : Result (A × ℕ) (AllocOr RecordFault)) → Decodes l octets r
     → Answers r (decode_by l octets)
 answers_decoding {A} l octets r h = go (decode_by l octets) (decoding_decodes l octets)

@@ -152,7 +152,7 @@ says_64 : SaysOne 8 (from_be_bytes w64)
 says_64 =
     record { same = λ a b p q l k e. sym (be_bytes_8 a (from_be_bytes w64 a) l (each_byte a p) refl) ∙ be_bytes_8 b (from_be_bytes w64 a) k (each_byte b q) e }
 
--- two things said, one behind the other
+-- two things said, one after the other
 say_both : {A B C : Type 0} (m n : ℕ) (one : List ℕ → A) (two : List ℕ → B) (says : List ℕ → C) → SaysOne m one → SaysOne n two
     → ((a b : List ℕ) → IsBytes (drop m a) → IsBytes (drop m b) → says a ≡ says b → (one (take m a) ≡ one (take m b)) × (two (drop m a) ≡ two (drop m b)))
     → SaysOne (m + n) says
@@ -212,7 +212,7 @@ pub spell_stamp : (rule : Stamp → Option Rule) → OneSpelling (stamp rule)
 unfolding stamp
 spell_stamp rule = spell_field stamp_says
 
--- octets behind their number
+-- octets after their number
 pub spell_sized : {count : Layout ℕ} (rule : List ℕ → Option Rule) → OneSpelling count → OneSpelling (next count (λ n. octets_of n rule))
 unfolding octets_of
 spell_sized rule one = spell_next (tells length (λ n o w x g h. ap length (sym h.3) ∙ h.2)) one (λ n. spell_field (octets_say n))

@@ -1,4 +1,4 @@
--- Want of memory of a part, and of the whole.
+-- Out of memory of a part, and of the whole.
 use Rattle.std.proofs.Common.{ℕ, Result, Ok, Err}
 use Rattle.cds_stamps.specs.declared.alloc_or.AllocOr.{AllocOr}
 use Rattle.cds_stamps.specs.declared.alloc_or.AllocOr.TheVariants.{Fault, OutOfMemory}

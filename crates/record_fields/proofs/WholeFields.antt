@@ -150,7 +150,7 @@ within_lawful rule least most n low high = grind arith
 name_rule_lawful : (p : ℕ → Bool) (before : Option (List ℕ)) (o : List ℕ) → list_all p o ≡ true → octets_order before o ≡ None → name_rule p before o ≡ None
 name_rule_lawful p before o each above = rw each above
 
--- a simple name behind its length
+-- a simple name after its length
 pub simple_name_whole : (before : Option (List ℕ)) (o : List ℕ) → simple_name_fault o ≡ None → octets_order before o ≡ None
     → Whole (simple_name before) o (name_octets o)
 unfolding simple_name name_octets
@@ -160,7 +160,7 @@ simple_name_whole before o lawful above =
     (octet_whole (outside BadLength 1 longest_component) (length o) (within_lawful BadLength 1 longest_component (length o) l.1 l.2))
     (octets_whole (name_rule is_name_octet before) o (name_rule_lawful is_name_octet before o l.0 above))
 
--- an attribute's name behind its length
+-- an attribute's name after its length
 pub attr_name_whole : (before : Option (List ℕ)) (o : List ℕ) → attr_fault o ≡ None → octets_order before o ≡ None → Whole (attr_name before) o (name_octets o)
 unfolding attr_name name_octets
 attr_name_whole before o lawful above =
@@ -169,7 +169,7 @@ attr_name_whole before o lawful above =
     (octet_whole (outside BadLength 1 longest_attr) (length o) (within_lawful BadLength 1 longest_attr (length o) l.1 l.2))
     (octets_whole (name_rule is_attr_octet before) o (name_rule_lawful is_attr_octet before o l.0 above))
 
--- a value behind its length
+-- a value after its length
 pub value_whole : (before : Option (List ℕ)) (o : List ℕ) → value_fault o ≡ None → octets_order before o ≡ None → Whole (value before) o (value_octets o)
 unfolding value value_octets
 value_whole before o lawful above =
@@ -180,7 +180,7 @@ value_whole before o lawful above =
 
 -- ---- orders of keys
 
--- an order of keys, and the rule that a key keeps behind the one before it
+-- an order of keys, and the rule that a key keeps after the one before it
 pub record KeyOrder (K : Type 0) : Type 0 where
   pub cmp : K → K → Ordering
   pub rule : Option K → K → Option Rule
@@ -207,8 +207,8 @@ octets_keys = record {
 
 -- ---- items and maps
 
--- a layout of keys and one of what is said of them, and their octets: each key that fits and is in order is whole, and so is each content that fits
--- and is valid
+-- a layout of keys and one of what is said of them, and their octets: each key that fits and is in
+-- order is whole, and so is each content that fits and is valid
 pub record Keyed {K X : Type 0} (o : KeyOrder K) (V : X → Type 0) (key : Option K → Layout K) (content : Layout X) (P : K → Type 0) (Q : X → Type 0)
     (named : K → List ℕ) (said : X → List ℕ) : Type 0 where
   pub keys : (before : Option K) (k : K) → P k → o.rule before k ≡ None → Whole (key before) k (named k)

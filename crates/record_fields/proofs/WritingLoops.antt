@@ -1,4 +1,4 @@
--- Octets written one behind another, and the entries of a map in a loop.
+-- Octets written one after another, and the entries of a map in a loop.
 use Rattle.std.proofs.Common.{◌≡◌, ℕ, ◌/◌, ◌%◌, arith, List, [], ◌∷◌, ◌++◌, refl, sym, ap, subst, ◌∙◌, append_assoc, append-nil}
 use Rattle.std.specs.Int.{bytes_high_first}
 use Rattle.record_fields.specs.Fields.{node_octets}
@@ -15,25 +15,25 @@ six_octets n =
     let f : n % 256 ≡ n % 4294967296 % 256 = omega arith in
     λ i. a i ∷ n / 4294967296 % 256 ∷ c i ∷ d i ∷ e i ∷ f i ∷ []
 
--- octets that are written behind others, which were written behind the old ones
+-- octets that are written after others, which were written after the old ones
 pub behind : (old x y out new : List ℕ) → out ≡ old ++ x → new ≡ out ++ y → new ≡ old ++ (x ++ y)
 behind old x y out new e f = f ∙ ap (λ (z : List ℕ). z ++ y) e ∙ append_assoc old x y
 
--- three, five and six parts, one behind another
+-- three, five and six parts, one after another
 pub behind_3 : {b c d : List ℕ} (a x y z : List ℕ) → b ≡ a ++ x → c ≡ b ++ y → d ≡ c ++ z → d ≡ a ++ (x ++ y ++ z)
 behind_3 a x y z e f g = behind a (x ++ y) z _ _ (behind a x y _ _ e f) g
 
--- five parts that are written one behind another stand as one piece behind the old octets
+-- five parts that are written one after another stand as one piece after the old octets
 pub behind_5 : {b c d e f : List ℕ} (a u v x y z : List ℕ) → b ≡ a ++ u → c ≡ b ++ v → d ≡ c ++ x → e ≡ d ++ y → f ≡ e ++ z
     → f ≡ a ++ (u ++ v ++ x ++ y ++ z)
 behind_5 a u v x y z p q r s t = behind_3 a (u ++ v ++ x) y z (behind_3 a u v x p q r) s t
 
--- six parts that are written one behind another stand as one piece behind the old octets
+-- six parts that are written one after another stand as one piece after the old octets
 pub behind_6 : {b c d e f g : List ℕ} (a u v w x y z : List ℕ) → b ≡ a ++ u → c ≡ b ++ v → d ≡ c ++ w → e ≡ d ++ x → f ≡ e ++ y → g ≡ f ++ z
     → g ≡ a ++ (u ++ v ++ w ++ x ++ y ++ z)
 behind_6 a u v w x y z p q r s t i = behind a (u ++ v ++ w ++ x ++ y) z _ _ (behind_5 a u v w x y p q r s t) i
 
--- octets that are written behind none
+-- octets that are written after none
 pub from_none : (old x new : List ℕ) → old ≡ [] → new ≡ old ++ x → new ≡ x
 from_none old x new none e = e ∙ ap (λ (z : List ℕ). z ++ x) none
 
@@ -59,7 +59,7 @@ module _ {K X : Type 0} (named : K → List ℕ) (said : X → List ℕ) (P : K 
         fits = λ more. h.fits (fits, more);
       }
 
-  -- behind the last item all are written
+  -- after the last item all are written
   pub writing_ends : (all rest : List (K × X)) (old out : List ℕ) → rest ≡ [] → Written all rest old out
       → (out ≡ old ++ items_octets named said all) × ItemsFit P Q all
   unfolding items_octets

@@ -2,9 +2,9 @@
 use cds_stamps::AllocOr;
 use thiserror::Error;
 
-/// Why octets begin with no message or no image, and where: the place of the first octet of the field that breaks its
-/// rule, counted from 1; of Short the number of octets and one more. Trailing is told by callers that want an image and nothing behind
-/// it: the readers here leave what follows.
+/// Why octets begin with no message or no image, and where: the place of the first octet of the
+/// field that breaks its rule, counted from 1; of Short the number of octets and one more. Trailing
+/// is told by callers that want an image and nothing after it: the readers here leave what follows.
 #[derive(Clone, Copy, Debug, PartialEq, Eq, Drop, Error)]
 pub enum RecordFault {
     #[error("the octets end in a field, at {0}")]
@@ -27,7 +27,7 @@ pub enum RecordFault {
     Trailing(usize),
 }
 
-/// A rule that a field of a record breaks: that it stands there whole, or what its value is to be.
+/// A rule that a field of a record breaks: that it is there whole, or what its value is to be.
 #[derive(Clone, Copy, Debug, PartialEq, Eq)]
 pub enum Rule {
     Short,
@@ -40,7 +40,8 @@ pub enum Rule {
     BadHeld,
 }
 
-/// A field that breaks a rule, by the number of octets that are left from its first one on; none, where it is not whole.
+/// A field that breaks a rule, by the number of octets that are left from its first one on; none,
+/// where it is not whole.
 #[derive(Clone, Copy, Debug, PartialEq, Eq, Drop)]
 pub struct Broken {
     pub rule: Rule,

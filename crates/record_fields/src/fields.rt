@@ -1,5 +1,5 @@
-// Readers of fields. Each takes the value at the front of what a reader still has, or answers the first field that breaks a
-// rule; then the reader is of no more use.
+// Readers of fields. Each takes the value at the front of what a reader still has, or answers the
+// first field that breaks a rule; then the reader is of no more use.
 ghost use Rattle.std.specs.Prelude.{◌≡◌, ◌≤◌, length, Some, None, true, if◌then◌else◌, IfOk};
 ghost use Rattle.std.specs.Int.{w16, w32, w64};
 ghost use Rattle.std.specs.List.{list_all};
@@ -201,7 +201,7 @@ impl<'a> Reader<'a> {
         Ok(number)
     }
 
-    /// A stamp behind a flag of 1, which is above, or a flag of 0.
+    /// A stamp after a flag of 1, which is above, or a flag of 0.
     #[tactic(auto, unfolding(crate::specs::Fields::optional_stamp))]
     pub fn optional_stamp(&mut self, above: &Option<Stamp>) -> Result<Option<Stamp>, Broken>
         ensures { ReadsSurely (λ x. x) (optional_stamp above.now) self.old self.new result }

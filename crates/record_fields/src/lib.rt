@@ -1,5 +1,5 @@
-//! The fields of records: what octets say by a layout of fields, readers and writers of stamps, names, values, marks and cells,
-//! and the first field that breaks a rule.
+//! The fields of records: what octets say by a layout of fields, readers and writers of stamps,
+//! names, values, marks and cells, and the first field that breaks a rule.
 #![tactic(auto)]
 
 mod cells;

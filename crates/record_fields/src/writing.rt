@@ -1,5 +1,5 @@
-// Writers of fields, marks and cells. Each puts the octets of a value behind those before. After want of memory some of them
-// may stand there.
+// Writers of fields, marks and cells. Each puts the octets of a value after those before. After it
+// ran out of memory some of them may stand there.
 ghost use Rattle.std.specs.Prelude.{◌≡◌, ◌+◌, ◌<◌, ◌^◌, ◌++◌, ◌∷◌, [], None, IfSome, OnOk, if◌then◌else◌};
 ghost use Rattle.std.specs.FinMap.{entries};
 ghost use Rattle.std.specs.Int.{w16, w32, w64, to_be_bytes};

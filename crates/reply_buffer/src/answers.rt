@@ -23,7 +23,7 @@ pub fn print_line_fault(alloc: Global, fault: LineFault) -> Result<Vec<u8>, Allo
     }
 }
 
-/// A faulty line: its fault waits behind the others, and nothing follows.
+/// A faulty line: its fault waits after the others, and nothing follows.
 pub fn reply_to_fault(
     alloc: Global,
     number: u32,
@@ -38,7 +38,7 @@ pub fn reply_to_fault(
     }
 }
 
-// The line of a fault waits behind the others.
+// The line of a fault waits after the others.
 fn queue_fault(
     alloc: Global,
     number: u32,

@@ -1,4 +1,5 @@
-//! The text of towers and of faults, the towers that lines of text say, and how replies wait to be written.
+//! The text of towers and of faults, the towers that lines of text say, and how replies wait to be
+//! written.
 #![tactic(auto)]
 
 mod answers;

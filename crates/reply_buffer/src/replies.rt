@@ -1,4 +1,5 @@
-// Replies that wait to be written: those to lines or towers that were read at once, one write for all of them.
+// Replies that wait to be written: those to lines or towers that were read at once, one write for
+// all of them.
 ghost use Rattle.std.specs.Prelude.{◌≡◌, ◌++◌, ◌<◌, ◌≤◌, [], length, take, OnOk, OnErr, IfErr};
 ghost use Rattle.std.specs.Io.KnownBytes.{Appends};
 ghost use Rattle.cds_base.specs.Counts.{HasCause};

@@ -10,7 +10,7 @@ ghost use Rattle.reply_buffer.specs.declared.limits.TheConstants.{LONGEST_TOWER}
 use std::alloc::AllocError;
 use tower_codec::{FloorView, TowerView};
 
-// Puts octets in hexadecimal digits behind the text.
+// Puts octets in hexadecimal digits after the text.
 fn append_hex(text: &mut Vec<u8>, octets: &[u8]) -> Result<(), AllocError>
     requires { length octets.now ≤ LONGEST_TOWER }
     ensures ok { OnOk result (text.new.items ≡ text.old.items ++ encode_lower octets.now) }
@@ -24,7 +24,7 @@ fn append_hex(text: &mut Vec<u8>, octets: &[u8]) -> Result<(), AllocError>
     }
 }
 
-// Puts a floor behind the text. After want of memory the text may have grown.
+// Puts a floor after the text. After it ran out of memory the text may have grown.
 fn append_floor(text: &mut Vec<u8>, floor: &FloorView<'_>) -> Result<(), AllocError>
     requires left { length floor.now.left.now ≤ LONGEST_TOWER }
     requires right { length floor.now.right.now ≤ LONGEST_TOWER }
@@ -36,7 +36,8 @@ fn append_floor(text: &mut Vec<u8>, floor: &FloorView<'_>) -> Result<(), AllocEr
     append_hex(text, floor.right)
 }
 
-// Puts floors behind the text, each behind a space. After want of memory the text may have grown.
+// Puts floors after the text, each after a space. After it ran out of memory the text may have
+// grown.
 fn append_floors(text: &mut Vec<u8>, floors: &TowerView<'_>) -> Result<(), AllocError>
     requires { length (tower_octets floors.now) ≤ LONGEST_TOWER }
     ensures ok { OnOk result
@@ -52,7 +53,7 @@ fn append_floors(text: &mut Vec<u8>, floors: &TowerView<'_>) -> Result<(), Alloc
     Ok(())
 }
 
-/// Puts the line of a tower behind the text. After want of memory the text may have grown.
+/// Puts the line of a tower after the text. After it ran out of memory the text may have grown.
 pub(crate) fn append_tower(text: &mut Vec<u8>, tower: &TowerView<'_>) -> Result<(), AllocError>
     requires { length (tower_octets tower.now) ≤ LONGEST_TOWER }
     ensures ok { OnOk result (text.new.items ≡ text.old.items ++ tower_text tower.now) }

@@ -38,7 +38,8 @@ fn is_no_floors(words: &[&[u8]]) -> bool
     }
 }
 
-// Puts the octets of hexadecimal digits in place of those that were there; false where the digits are at fault.
+// Puts the octets of hexadecimal digits in place of those that were there; false where the digits
+// are at fault.
 fn read_part(digits: &[u8], part: &mut Vec<u8>) -> Result<bool, AllocError>
     ensures { IfOk result
         (λ is. MatchOption (result_ok (decode_of digits.now)) (is ≡ false) (λ octets. (is ≡ true)
@@ -61,7 +62,7 @@ impl Speller {
         })
     }
 
-    /// What `untowers` makes of a line: the octets of its tower wait behind the others.
+    /// What `untowers` makes of a line: the octets of its tower wait after the others.
     pub fn spell_line(&mut self, alloc: Global, line: &[u8], waiting: &mut Waiting) -> LineEnd
         ensures { Spells result
             (spell_response (tower_said (words_of line.now))) waiting.old waiting.new }
@@ -87,7 +88,7 @@ impl Speller {
         }
     }
 
-    // The octets of the tower that the words say wait behind the others.
+    // The octets of the tower that the words say wait after the others.
     fn spell_tower(&mut self, words: &[&[u8]], waiting: &mut Waiting) -> LineEnd
         ensures { Spells result
             (spell_response (tower_in (map (λ w. w.now) words.now))) waiting.old waiting.new }
@@ -114,7 +115,7 @@ impl Speller {
         self.read_floors(words)
     }
 
-    // Reads a floor from each word, behind the floors that are there.
+    // Reads a floor from each word, after the floors that are there.
     fn read_floors(&mut self, words: &[&[u8]]) -> Result<bool, AllocError>
         requires { self.old.tower ≡ [] }
         ensures { IfOk result
@@ -129,7 +130,8 @@ impl Speller {
         Ok(true)
     }
 
-    // Puts the floor that a word says behind the others; false where it says none, or the tower gets too long.
+    // Puts the floor that a word says after the others; false where it says none, or the tower gets
+    // too long.
     #[tactic(auto, unfolding(crate::specs::TowerTexts::floor_said))]
     fn add_floor(&mut self, word: &[u8]) -> Result<bool, AllocError>
         requires { length (tower_octets self.old.tower) ≤ LONGEST_TOWER }
@@ -159,7 +161,7 @@ impl Speller {
         self.push_floor()
     }
 
-    // Puts the parts that were read behind the floors so far; false where the tower gets too long.
+    // Puts the parts that were read after the floors so far; false where the tower gets too long.
     fn push_floor(&mut self) -> Result<bool, AllocError>
         requires few { length (tower_octets self.old.tower) ≤ LONGEST_TOWER }
         requires some { 0 < length self.old.left.items }

@@ -34,7 +34,7 @@ cell = list_reader true (
     ∷ (2, up, seen.Link (record { 0 = 1 }) [])
     ∷ [])
 
--- one link is passed twice, with different rests of the name behind it
+-- one link is passed twice, with different rests of the name after it
 a_link_twice : Ends cell true (sub ∷ up ∷ sub ∷ up ∷ obj ∷ [])
     (Found (record { dir = record { 0 = 1 }; house = record { 0 = 1 }; name = obj; kind = kind.Object }))
 a_link_twice = goes _ refl (goes _ refl (goes _ refl (goes _ refl (stops refl))))

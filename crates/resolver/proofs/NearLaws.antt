@@ -35,11 +35,11 @@ entered_on reader cs i c at seen next all within is sees leads from =
     ∙ sym (at_drop_more (λ (l : List (List ℕ)). children reader l (Some at)) cs i c within)
     ∙ from
 
--- behind the last component the directory is the present one
+-- after the last component the directory is the present one
 pub entered_all : (reader : Reader) (cs : List (List ℕ)) (i : ℕ) (at all : Option Pointer) → length cs ≤ i → children reader (drop i cs) at ≡ all → at ≡ all
 entered_all reader cs i at all done from = sym (at_drop_all (λ (l : List (List ℕ)). children reader l at) cs i done) ∙ from
 
--- a component with others behind it
+-- a component with others after it
 inner : (reader : Reader) (w : Walker) (dir : ℕ) (d : List ℕ) (cs : List (List ℕ)) (c : List ℕ) (seen : Sight)
     → in_directory reader true w dir d (cs ++ c ∷ []) seen ≡ at_inner reader w dir (cs ++ c ∷ []) seen
 inner reader w dir d [] c seen = refl
@@ -93,7 +93,8 @@ module _ (reader : Reader) (c : List ℕ) (p : Pointer) (e : End) where
       by_sight (Link house target) at is on = absurd (nowhere is)
       by_sight (Child house child) at is on = goes _ (looked (Child house child) at) (on child is leads)
 
--- a walk comes to an object that its name has with no link on the way, whichever names came up and links were followed
+-- a walk comes to an object that its name has with no link on the way, whichever names came up and
+-- links were followed
 module _ (reader : Reader) (name : List (List ℕ)) (f : Found) (direct : IsDirect reader name f) where
   comes_there : (came_up : List (List (List ℕ))) (links : ℕ)
       → EndsFrom reader true (record { name = name; at = reader.root; done = 0; came_up = came_up; links = links }) (ends.Found f)

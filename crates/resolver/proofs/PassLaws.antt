@@ -151,7 +151,7 @@ rootless_walk {reader} {last} (c ∷ cs) h n =
     stops (ap (λ (at : Option Pointer). step_from reader last (record { name = c ∷ cs; at = reader.root; done = 0; came_up = (c ∷ cs) ∷ []; links = 0 })
     (c ∷ cs) at) n)
 
--- ---- want of memory
+-- ---- out of memory
 
 -- a call that ran out of memory answers as any end has it
 pub without_memory : {T : Type 0} (reader : Reader) (last : Bool) (name : List (List ℕ)) (answer : End

@@ -42,7 +42,8 @@ module _ {S : Type 0} (reader : ChangingReader S) (last : Bool) where
   abbrev SomeFrom : S → Walker → Type 0
   SomeFrom s w = (x : Ending S) × EndsChanging reader last s w x
 
-  -- wherever a name is walked with one more link followed, the walk ends, whatever the state of the reader
+  -- wherever a name is walked with one more link followed, the walk ends, whatever the state of the
+  -- reader
   abbrev GoesOn : Walker → Type 0
   GoesOn w = (s : S) (next : Walker) → w.links < most_links → next.links ≡ w.links + 1 → SomeFrom s next
 

@@ -1,4 +1,5 @@
--- Walks over a reader of which each look-up may change what it tells next, as a clerk with a cache is (after C705, caches of clerks).
+-- Walks over a reader of which each look-up may change what it tells next, as a clerk with a cache
+-- is (after C705, caches of clerks).
 use Rattle.std.specs.Prelude.{◌≡◌, ℕ, Bool, List, [], ◌∷◌, drop, Option, Some, None}
 use Rattle.std.specs.Option.{option_map, option_map_or}
 use Rattle.cell_names.specs.ChildPointers.{Pointer}

@@ -1,4 +1,5 @@
--- Directories that are entered from the root directory, child by child (own, after C705, name resolution by clerks).
+-- Directories that are entered from the root directory, child by child (own, after C705, name
+-- resolution by clerks).
 use Rattle.std.specs.Prelude.{◌≡◌, ℕ, List, [], ◌∷◌, ◌++◌, Option, Some, None, IfSome}
 use Rattle.std.specs.Option.{option_and_then}
 use Rattle.cell_names.specs.ChildPointers.{Pointer, pointer_in}
@@ -30,8 +31,8 @@ object_there dir name (Object house) = Some (object_found dir house name)
 object_there dir name (Link house target) = None
 object_there dir name (Child house child) = None
 
--- the directory to which these components lead from another, each a child of the one before; none where one is no child (own,
--- after C705, child pointers)
+-- the directory to which these components lead from another, each a child of the one before; none
+-- where one is no child (own, after C705, child pointers)
 abbrev pub children : Reader → List (List ℕ) → Option Pointer → Option Pointer
 children reader [] at = at
 children reader (c ∷ cs) at = children reader cs (option_and_then (λ p. child_seen (reader.sees p c)) at)

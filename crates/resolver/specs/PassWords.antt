@@ -66,6 +66,7 @@ come_to (Some e) next = Stops e
 abbrev pub IsNoRefusal : Step → Type 0
 IsNoRefusal t = (why : Refusal) → t ≢ Stops (ends.Refused why)
 
--- the walk has at most so many steps before it: 1,024 for each link that it may still follow, and as many less its components that are done
+-- the walk has at most so many steps before it: 1,024 for each link that it may still follow, and
+-- as many less its components that are done
 abbrev pub steps_ahead : Walk → ℕ
 steps_ahead w = (most_links - length w.later.items) * 1024 + (1024 - w.done)

@@ -1,4 +1,4 @@
--- What the end of a walk says of the reader (own).
+-- What the end of a walk says of the reader.
 use Rattle.std.specs.Prelude.{◌≡◌, ◌≢◌, ℕ, Bool, true, Option, Some, None}
 use Rattle.cell_names.specs.ChildPointers.{Pointer}
 use Rattle.directory.specs.declared.entry.Kind.{Kind}
@@ -9,7 +9,7 @@ use Rattle.resolver.specs.declared.walk.End.{End}
 use Rattle.resolver.specs.declared.walk.End.TheVariants as ends
 use Rattle.resolver.specs.Readers.{Reader, Sight, Unreachable, Absent, Object, Link, Child}
 
--- the house that shows an entry, and the kind of the entry (own)
+-- the house that shows an entry, and the kind of the entry
 abbrev pub entry_seen : Sight → Option (ℕ × Kind)
 entry_seen Unreachable = None
 entry_seen (Absent house) = None
@@ -17,21 +17,21 @@ entry_seen (Object house) = Some (house, kind.Object)
 entry_seen (Link house target) = Some (house, kind.Link)
 entry_seen (Child house child) = Some (house, kind.Child)
 
--- the entry is seen in its directory; where links are followed to the last, it is none (own)
+-- the entry is seen in its directory; where links are followed to the last, it is none
 pub record IsSeen (reader : Reader) (last : Bool) (f : Found) : Type 0 where
   pub at : Pointer
   pub dir : at.dir ≡ f.dir.0
   pub seen : entry_seen (reader.sees at f.name) ≡ Some (f.house.0, f.kind)
   pub followed : last ≡ true → f.kind ≢ kind.Link
 
--- no entry is seen of the name of this place in its directory (own)
+-- no entry is seen of the name of this place in its directory
 pub record IsMissing (reader : Reader) (place : Place) : Type 0 where
   pub at : Pointer
   pub dir : at.dir ≡ place.dir.0
   pub absent : reader.sees at place.name ≡ Absent place.house.0
   pub kind : place.kind ≡ None
 
--- what an end says is what the reader tells (own)
+-- what an end says is what the reader tells
 abbrev pub IsSeenEnd : Reader → (last : Bool) → End → Type 0
 IsSeenEnd reader last (ends.Found f) = IsSeen reader last f
 IsSeenEnd reader last (ends.Missing place done) = IsMissing reader place

@@ -49,14 +49,15 @@ SomeEndBy reader last s = (e : End) × EndsBy reader last s e
 abbrev SomeEndFrom : Reader → Bool → Walker → Type 0
 SomeEndFrom reader last w = (e : End) × EndsFrom reader last w e
 
--- what is left behind the next component
+-- what is left after the next component
 pub behind : (name : List (List ℕ)) (done : ℕ) (c : List ℕ) (rest : List (List ℕ)) → drop done name ≡ c ∷ rest → drop (done + 1) name ≡ rest
 behind name done c rest h =
     let within : done < length name = omega (arith, length-drop done name, ap length h) in
     let next = drop_more name done c within in
     cc
 
--- wherever a name is walked from the root directory with one more link followed, the walk comes to an end
+-- wherever a name is walked from the root directory with one more link followed, the walk comes to
+-- an end
 abbrev GoesOn : Reader → Bool → Walker → Type 0
 GoesOn reader last w = (next : Walker) → w.links < most_links → next.links ≡ w.links + 1 → SomeEndFrom reader last next
 

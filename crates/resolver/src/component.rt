@@ -11,7 +11,7 @@ use cds_stamps::{DirId, HouseNo, SimpleName};
 use directory::Kind;
 use std::alloc::{AllocError, Global};
 
-/// A component of a full name where it is looked up: the directory, its name, what stands after it
+/// A component of a full name where it is looked up: the directory, its name, what is after it
 /// in the full name, and how many components stand before it.
 #[derive(Clone, Copy)]
 pub(crate) struct Component<'a> {

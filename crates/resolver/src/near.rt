@@ -17,7 +17,8 @@ use cell_names::{ChildPointer, FullName, LentName};
 use directory::Kind;
 use std::alloc::{AllocError, Global};
 
-/// A directory that was entered from the root directory, child by child: its full name, and the pointer to it.
+/// A directory that was entered from the root directory, child by child: its full name, and the
+/// pointer to it.
 pub struct Near {
     name: FullName,
     at: ChildPointer,
@@ -32,8 +33,9 @@ impl Drop for Near {
     }
 }
 
-/// The entry that a full name leads to, links followed to the last: the same that `resolve` finds. The directory of the name
-/// is kept, so that the next name is looked up there at once if it has the same.
+/// The entry that a full name leads to, links followed to the last: the same that `resolve` finds.
+/// The directory of the name is kept, so that the next name is looked up there at once if it has
+/// the same.
 pub fn resolve_near<R: EntryReader>(
     alloc: Global,
     reader: &R,
@@ -50,7 +52,8 @@ pub fn resolve_near<R: EntryReader>(
     }
 }
 
-// The object that a full name leads to, if its directory and that of a link that it is are entered child by child.
+// The object that a full name leads to, if its directory and that of a link that it is are entered
+// child by child.
 fn object_near<R: EntryReader>(
     alloc: Global,
     reader: &R,
@@ -93,8 +96,8 @@ fn object_in<R: EntryReader>(
 }
 
 impl Near {
-    // The object that these octets are in the directory, or to which they lead as a link. Where more links lead there, or
-    // another, none is told.
+    // The object that these octets are in the directory, or to which they lead as a link. Where
+    // more links lead there, or another, none is told.
     fn object<R: EntryReader>(
         &self,
         alloc: Global,
@@ -178,7 +181,8 @@ fn enter<R: EntryReader>(
     }
 }
 
-// The directory to which these components lead from the root directory, each a child of the one before.
+// The directory to which these components lead from the root directory, each a child of the one
+// before.
 fn entered<R: EntryReader>(
     alloc: Global,
     reader: &R,

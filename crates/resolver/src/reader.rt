@@ -14,7 +14,7 @@ use cell_names::ChildPointer;
 use directory::AttrMap;
 use std::alloc::{AllocError, Global};
 
-/// A reader of the entries of a cell. Each call answers what the reader tells, or want of memory.
+/// A reader of the entries of a cell. Each call answers what the reader tells, or out of memory.
 pub trait EntryReader {
     /// What it tells.
     ghost tells: { Self → Reader };
@@ -42,8 +42,8 @@ pub trait EntryReader {
             (λ found. found.items ≡ (tells self.now).values at.now attr.now) }
         ensures ascending { IfOk result (λ found. IsStrictlySortedBy octets_cmp found.items) };
 
-    /// The cells of an entry's attributes, by which the same values show, where the reader keeps them: they are read in place.
-    /// A reader need keep none.
+    /// The cells of an entry's attributes, by which the same values show, where the reader keeps
+    /// them: they are read in place. A reader need keep none.
     fn attributes(&self, at: &Found) -> Option<&AttrMap>
         ensures { IfSome (option_copied result) (λ cells. (attr : List ℕ)
             → values_by cells attr ≡ (tells self.now).values at.now attr) }

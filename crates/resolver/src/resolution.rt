@@ -14,8 +14,9 @@ use cds_stamps::AllocOr;
 use cell_names::FullName;
 use std::alloc::Global;
 
-/// The entry that a full name leads to, over the entries that the reader tells. Links are followed, 64 at most; one that is
-/// the last component is followed where `follow_last` says so, and else it is what is found.
+/// The entry that a full name leads to, over the entries that the reader tells. Links are followed,
+/// 64 at most; one that is the last component is followed where `follow_last` says so, and else it
+/// is what is found.
 pub fn resolve<R: EntryReader>(
     alloc: Global,
     reader: &R,
@@ -34,8 +35,9 @@ pub fn resolve<R: EntryReader>(
     }
 }
 
-/// The place of the entry that a full name leads to, following links. The entry need not be there: where the last component
-/// has none, the place is that of the house which was asked, without a kind.
+/// The place of the entry that a full name leads to, following links. The entry need not be there:
+/// where the last component has none, the place is that of the house which was asked, without a
+/// kind.
 pub fn place<R: EntryReader>(
     alloc: Global,
     reader: &R,

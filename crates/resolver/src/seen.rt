@@ -6,8 +6,8 @@ use cell_names::{ChildPointer, FullName};
 use directory::Kind;
 use std::alloc::{AllocError, Global};
 
-/// What is seen of a simple name in a directory: that no house of the directory answers, that the house which was asked
-/// shows no entry of this name, or what it shows.
+/// What is seen of a simple name in a directory: that no house of the directory answers, that the
+/// house which was asked shows no entry of this name, or what it shows.
 #[derive(Debug, Drop)]
 pub enum Seen {
     Unreachable,
@@ -41,8 +41,8 @@ pub struct Found {
     pub kind: Kind,
 }
 
-/// Where an entry of a simple name is, or could be: the directory, the house that was asked, and the kind of the entry
-/// that it shows, if it shows one.
+/// Where an entry of a simple name is, or could be: the directory, the house that was asked, and
+/// the kind of the entry that it shows, if it shows one.
 #[derive(Debug)]
 pub struct Place {
     pub dir: DirId,

@@ -1,5 +1,5 @@
-//! The walk of a full name: between two of its look-ups, and to its end. A walk between look-ups knows
-//! no reader, so whoever looks up may have one of its own.
+//! The walk of a full name: between two of its look-ups, and to its end. A walk between look-ups
+//! knows no reader, so whoever looks up may have one of its own.
 ghost use Rattle.std.specs.Prelude.{◌≡◌, ◌+◌, ◌-◌, ◌<◌, ◌≤◌, [], ◌∷◌, ◌++◌, true, Some, Ok, Err, length, drop};
 ghost use Rattle.std.specs.Prelude.{option_copied, slice_get};
 ghost use Rattle.std.specs.Prelude.{IfOk, IfNone, IfSome, OnErr};
@@ -313,7 +313,7 @@ fn has_come_up(first: &FullName, later: &[FullName], target: &FullName, rest: &[
     false
 }
 
-// The full name that a link leads to, which stands at this place of the last name that came up. No
+// The full name that a link leads to, which is at this place of the last name that came up. No
 // memory is asked for where the link is not followed.
 fn follow(
     alloc: Global,

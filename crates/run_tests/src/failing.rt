@@ -28,15 +28,17 @@ fn words_of(alloc: Global, form: &str) -> Result<Vec<String>, AllocError> {
     Ok(words)
 }
 
-// The most octets of a read, the number of the read that fails, the most octets of a write, and the number of the write that
-// fails (at 0 none does). What is written then, how many octets are left, and how the run ends.
+// The most octets of a read, the number of the read that fails, the most octets of a write, and the
+// number of the write that fails (at 0 none does). What is written then, how many octets are left,
+// and how the run ends.
 type Row<'a> = (usize, u64, usize, u64, &'a [u8], usize, Status);
 
 #[rattlefmt::skip]
 static RUNS: [Row<'static>; 6] = [
     (4096, 0, 1, 2, b"1", 0, Status::WriteFault),
     (4096, 1, 4096, 0, b"", 170, Status::ReadFault),
-    // The first read gives the first line alone. Its answer goes out before the second, which is not made where that fails.
+    // The first read gives the first line alone. Its answer goes out before the second, which is
+    // not made where that fails.
     (21, 2, 4096, 1, b"", 149, Status::WriteFault),
     (21, 0, 4096, 1, b"", 149, Status::WriteFault),
     (21, 2, 4096, 0, b"1 ok\n", 149, Status::ReadFault),
@@ -92,8 +94,8 @@ fn end_of<K: Sink>(
     Ok(run(alloc, &words, source, sink))
 }
 
-// What a form writes over octets that are read and written in pieces, and how it ends, where the read and the write of these numbers
-// fail.
+// What a form writes over octets that are read and written in pieces, and how it ends, where the
+// read and the write of these numbers fail.
 fn outcome_of(
     alloc: Global,
     form: &str,
@@ -109,8 +111,9 @@ fn outcome_of(
     Ok((sink.written().to_vec(alloc)?, status))
 }
 
-// How many runs of a form meet a failed call, where the first call fails, then the second and so on. Each ends with this status,
-// a front of the answers being written, and the run behind them ends well with all answers.
+// How many runs of a form meet a failed call, where the first call fails, then the second and so
+// on. Each ends with this status, a front of the answers being written, and the run after them ends
+// well with all answers.
 fn runs_that_fail(
     alloc: Global,
     form: &str,
@@ -164,7 +167,8 @@ impl Sink for Counted {
     }
 }
 
-// How many writes of one octet a form makes, and how it ends, where the write of this number fails. The input is read at once.
+// How many writes of one octet a form makes, and how it ends, where the write of this number fails.
+// The input is read at once.
 fn writes_made(
     alloc: Global,
     form: &str,
@@ -180,7 +184,8 @@ fn writes_made(
     Ok((sink.calls, status))
 }
 
-// Forms, and what they read, where something is written after the last read: the line of a fault, the counts of `check`, and a tower.
+// Forms, and what they read, where something is written after the last read: the line of a fault,
+// the counts of `check`, and a tower.
 static LAST_WRITES: [(&str, &[u8]); 4] = [
     ("run", b"house 1 00000000000a\nmove\n"),
     ("inquire", b"house 1 00000000000a\nmove\n"),
@@ -245,8 +250,9 @@ fn repeated(alloc: Global, piece: &[u8], times: usize) -> Result<Vec<u8>, Fail> 
     Ok(octets)
 }
 
-// The numbers of the read and the write that fail, how many towers are told, how many octets are left, and how the run ends.
-// A read gives at most 750 octets of 750 towers of 2, so that the window of 1,025 octets is full after two.
+// The numbers of the read and the write that fail, how many towers are told, how many octets are
+// left, and how the run ends. A read gives at most 750 octets of 750 towers of 2, so that the
+// window of 1,025 octets is full after two.
 #[rattlefmt::skip]
 static TOWERS: [(u64, u64, usize, usize, Status); 4] = [
     (1, 0, 0, 1500, Status::ReadFault),
@@ -275,7 +281,8 @@ fn towers_over_ends_that_fail(rt: HostRuntime) -> Result<(), Fail> {
     Ok(())
 }
 
-// What is written of the answers to a script whose write of this number fails, and how many octets are left.
+// What is written of the answers to a script whose write of this number fails, and how many octets
+// are left.
 fn stopped(alloc: Global, script: Vec<u8>, failing: u64) -> Result<(usize, usize), Fail> {
     let words = words_of(alloc, "run")?;
     let mut source = MemSource::new(script, Vec::new(alloc), 1_000_000);
@@ -291,7 +298,7 @@ fn stopped(alloc: Global, script: Vec<u8>, failing: u64) -> Result<(usize, usize
 const COMMENT: &[u8] =
     b"###################################################################################################\n";
 
-// Lines behind the plain script, of 100,000 octets: with an answer each, and with none.
+// Lines after the plain script, of 100,000 octets: with an answer each, and with none.
 static BEHIND: [(&[u8], usize); 2] = [(b"clock 1 1\n", 10_000), (COMMENT, 1_000)];
 
 #[test]

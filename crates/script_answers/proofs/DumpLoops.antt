@@ -1,13 +1,13 @@
--- The lines of a map's entries, as a loop puts them one behind another.
+-- The lines of a map's entries, as a loop puts them one after another.
 use Rattle.std.proofs.Common.{◌≡◌, ℕ, List, [], ◌∷◌, ◌++◌, refl, sym, ap, subst, ◌∙◌, append_assoc, append-nil}
 use Rattle.std.proofs.lemmas.List.Concat.{flat_map-append}
 use Rattle.script_answers.specs.Texts.{line_text, lines_text, lines_of_each}
 
--- octets that are put behind others, which were put behind the old ones
+-- octets that are put after others, which were put after the old ones
 pub behind : (old x y out new : List ℕ) → out ≡ old ++ x → new ≡ out ++ y → new ≡ old ++ (x ++ y)
 behind old x y out new e f = f ∙ ap (λ (z : List ℕ). z ++ y) e ∙ append_assoc old x y
 
--- lines behind others
+-- lines after others
 pub lines_behind : (number : ℕ) (ls ms : List (List ℕ)) → lines_text number (ls ++ ms) ≡ lines_text number ls ++ lines_text number ms
 lines_behind number ls ms = flat_map-append (line_text number) ls ms
 
@@ -32,7 +32,7 @@ module _ {X : Type 0} (lines : List ℕ → X → List (List ℕ)) (number : ℕ
             ∙ ap (λ (z : List ℕ). out ++ z) (sym (lines_behind number (lines k x) (lines_of_each lines rest))) ∙ h.octets;
       }
 
-  -- behind the last entry all are written
+  -- after the last entry all are written
   pub writing_ends : (all rest : List (List ℕ × X)) (old out : List ℕ) → rest ≡ [] → Written all rest old out
       → out ≡ old ++ lines_text number (lines_of_each lines all)
   unfolding lines_of_each

@@ -17,7 +17,7 @@ use Rattle.script_answers.specs.declared.answer.ScriptRefusal.TheVariants as why
 use Rattle.script_answers.specs.Texts.{answer_line, answer_lines, line_text, lines_text, parse_fault_text, dump_line, entry_line, attr_line, value_line}
 use Rattle.script_answers.specs.Texts.{lines_of_each, value_lines}
 
--- the UUID that ends in b1 behind zeros
+-- the UUID that ends in b1 after zeros
 abbrev uuid_b : List ℕ
 uuid_b = 0 ∷ 0 ∷ 0 ∷ 0 ∷ 0 ∷ 0 ∷ 0 ∷ 0 ∷ 0 ∷ 0 ∷ 0 ∷ 0 ∷ 0 ∷ 0 ∷ 0 ∷ 177 ∷ []
 

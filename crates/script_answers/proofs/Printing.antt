@@ -1,4 +1,4 @@
--- Text that grows behind what stood before.
+-- Text that grows after what stood before.
 use Rattle.std.proofs.Common.{◌≡◌, ◌≤◌, ◌<◌, ◌+◌, List, [], ◌∷◌, ℕ, ◌++◌, take, drop, get_or, length, sym, ap, ◌∙◌, append_assoc, append-nil, add-one}
 use Rattle.std.specs.Prelude.{Result, Ok, Err, OnErr}
 use Rattle.std.specs.List.{flat_map}
@@ -41,7 +41,7 @@ row_goes_on piece xs i d old front line new within so_far more =
     ∙ ap (λ (l : List ℕ). old ++ l) (append_assoc front (flat_map piece (take i xs)) (piece (get_or xs i d))
     ∙ ap (λ (l : List ℕ). front ++ l) (sym (row_one piece xs i d within)))
 
--- a line behind the last piece of a row
+-- a line after the last piece of a row
 pub row_ends : {A : Type 0} (piece : A → List ℕ) (xs : List A) (i : ℕ) (old front line : List ℕ) → length xs ≤ i
     → line ≡ old ++ (front ++ flat_map piece (take i xs)) → line ≡ old ++ (front ++ flat_map piece xs)
 row_ends piece xs i old front line over so_far = so_far ∙ ap (λ ys. old ++ (front ++ flat_map piece ys)) (take_all i xs over)

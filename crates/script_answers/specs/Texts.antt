@@ -1,4 +1,4 @@
--- The text of answers, a line each or several, and of faults (own).
+-- The text of answers, a line each or several, and of faults.
 use Rattle.std.specs.Prelude.{ℕ, Bool, true, false, ◌==◌, if◌then◌else◌, List, [], ◌∷◌, ◌++◌, length, drop, map, codes, Option, Some, None}
 use Rattle.std.specs.List.{flat_map}
 use Rattle.std.specs.Fmt.{decimal}
@@ -27,58 +27,58 @@ use Rattle.script_answers.specs.declared.answer.ScriptRefusal.TheVariants as why
 use Rattle.cell_script.specs.declared.fault.ParseFault.{ParseFault}
 use Rattle.cell_script.specs.declared.fault.ParseFault.TheVariants as parse
 
--- a line of the output: the number of its script line, a space and what is said (own)
+-- a line of the output: the number of its script line, a space and what is said
 abbrev pub line_text : ℕ → List ℕ → List ℕ
 line_text number said = decimal number ++ (32 ∷ (said ++ 10 ∷ []))
 
--- several lines of the output that one script line has (own)
+-- several lines of the output that one script line has
 abbrev pub lines_text : ℕ → List (List ℕ) → List ℕ
 lines_text number = flat_map (line_text number)
 
--- numbers, each behind a space (own)
+-- numbers, each after a space
 abbrev pub spaced_numbers : List ℕ → List ℕ
 spaced_numbers = flat_map (λ n. 32 ∷ decimal n)
 
--- a node, in twelve hexadecimal digits (own)
+-- a node, in twelve hexadecimal digits
 abbrev pub node_octets : ℕ → List ℕ
 node_octets node = drop 2 (to_be_bytes w64 node)
 
--- a stamp: its time, `@` and its node (own)
+-- a stamp: its time, `@` and its node
 abbrev pub stamp_text : Stamp → List ℕ
 stamp_text s = decimal s.time ++ (64 ∷ encode_lower (node_octets s.node))
 
--- a stamp, or this word where there is none (own)
+-- a stamp, or this word where there is none
 abbrev pub stamp_or : List ℕ → Option Stamp → List ℕ
 stamp_or none None = none
 stamp_or none (Some s) = stamp_text s
 
--- two epochs, each behind a space (own)
+-- two epochs, each after a space
 abbrev pub epochs_text : EpochNo → EpochNo → List ℕ
 epochs_text a b = 32 ∷ (decimal a.0 ++ (32 ∷ decimal b.0))
 
--- the serial numbers of the messages that a step posted, where it posted any (own)
+-- the serial numbers of the messages that a step posted, where it posted any
 abbrev pub posted_text : List ℕ → List ℕ
 posted_text [] = []
 posted_text (n ∷ ns) = codes " posted" ++ spaced_numbers (n ∷ ns)
 
--- the stamp of an update, and the messages that it posted (own)
+-- the stamp of an update, and the messages that it posted
 abbrev pub stamped_text : Stamp → List ℕ → List ℕ
 stamped_text s ns = stamp_text s ++ posted_text ns
 
--- the values of an attribute: how many, and each in hexadecimal digits (own)
+-- the values of an attribute: how many, and each in hexadecimal digits
 abbrev pub values_text : List (List ℕ) → List ℕ
 values_text vs = decimal (length vs) ++ flat_map (λ v. 32 ∷ encode_lower v) vs
 
--- octets: how many, and they in hexadecimal digits (own)
+-- octets: how many, and they in hexadecimal digits
 abbrev pub counted_octets : List ℕ → List ℕ
 counted_octets octets = decimal (length octets) ++ (32 ∷ encode_lower octets)
 
--- how many updates were accepted before one that found no stamp, of commands that make several (own)
+-- how many updates were accepted before one that found no stamp, of commands that make several
 abbrev pub accepted_text : Option ℕ → List ℕ
 accepted_text None = []
 accepted_text (Some k) = 32 ∷ decimal k
 
--- the names of refusals (own)
+-- the names of refusals
 abbrev pub refusal_name : ScriptRefusal → List ℕ
 refusal_name why.HouseExists = codes "HouseExists"
 refusal_name why.NoHouse = codes "NoHouse"
@@ -120,7 +120,7 @@ refusal_name (why.OutOfOrder place) = codes "OutOfOrder"
 refusal_name (why.BadFlag place) = codes "BadFlag"
 refusal_name (why.NotAbove place) = codes "NotAbove"
 
--- the numbers behind them (own)
+-- the numbers after them
 abbrev pub refusal_numbers : ScriptRefusal → List ℕ
 refusal_numbers (why.StampsSpent k ns) = accepted_text k ++ posted_text ns
 refusal_numbers (why.NotJoined held since) = epochs_text held since
@@ -136,7 +136,7 @@ refusal_numbers (why.BadFlag place) = 32 ∷ decimal place
 refusal_numbers (why.NotAbove place) = 32 ∷ decimal place
 refusal_numbers other = []
 
--- the name of a message by its tag; other numbers have none (own)
+-- the name of a message by its tag; other numbers have none
 abbrev pub message_name : ℕ → List ℕ
 message_name tag =
     if tag == 1 then codes "Update"
@@ -150,76 +150,76 @@ message_name tag =
 
 -- ---- dumps
 
--- the kind of a member: the master, read-only or secondary (own)
+-- the kind of a member: the master, read-only or secondary
 abbrev pub member_letter : MemberKind → List ℕ
 member_letter member.Master = codes "m"
 member_letter member.ReadOnly = codes "r"
 member_letter member.Secondary = codes "s"
 
--- a member: its house, its since and its kind, with colons between (own)
+-- a member: its house, its since and its kind, with colons between
 abbrev pub member_text : Member → List ℕ
 member_text m = decimal m.house.0 ++ (58 ∷ (decimal m.since.0 ++ (58 ∷ member_letter m.kind)))
 
--- members, each behind a space (own)
+-- members, each after a space
 abbrev pub members_text : List Member → List ℕ
 members_text = flat_map (λ m. 32 ∷ member_text m)
 
--- AllUpTo, or none, and the members (own)
+-- AllUpTo, or none, and the members
 abbrev pub state_text : Option Stamp → List Member → List ℕ
 state_text all_up_to members = codes " allupto " ++ (stamp_or (codes "none") all_up_to ++ (codes " members" ++ members_text members))
 
--- the first line of a dump: the epoch, AllUpTo and the members (own)
+-- the first line of a dump: the epoch, AllUpTo and the members
 abbrev pub dump_line : EpochNo → Option Stamp → List Member → List ℕ
 dump_line epoch all_up_to members = codes "dump epoch " ++ (decimal epoch.0 ++ state_text all_up_to members)
 
--- the kind of an entry (own)
+-- the kind of an entry
 abbrev pub kind_word : Kind → List ℕ
 kind_word kind.Object = codes "object"
 kind_word kind.Link = codes "link"
 kind_word kind.Child = codes "child"
 
--- a value is present or absent (own)
+-- a value is present or absent
 abbrev pub presence : Bool → List ℕ
 presence true = codes "present"
 presence false = codes "absent"
 
--- the kind of an entry, its birth, and its death, if one is known (own)
+-- the kind of an entry, its birth, and its death, if one is known
 abbrev pub life_text : EntryCell → List ℕ
 life_text e = kind_word e.kind ++ (32 ∷ (stamp_text e.birth ++ (32 ∷ stamp_or (codes "live") e.death)))
 
--- an entry: its name, and these (own)
+-- an entry: its name, and these
 abbrev pub entry_line : List ℕ → EntryCell → List ℕ
 entry_line name e = codes "entry " ++ (name ++ (32 ∷ life_text e))
 
--- an attribute: its name, and its clear, if there was one (own)
+-- an attribute: its name, and its clear, if there was one
 abbrev pub attr_line : List ℕ → Option Stamp → List ℕ
 attr_line name cleared = codes "attr " ++ (name ++ (32 ∷ stamp_or (codes "none") cleared))
 
--- a value, and its mark (own)
+-- a value, and its mark
 abbrev pub value_line : List ℕ → ValueMark → List ℕ
 value_line value m = codes "value " ++ (encode_lower value ++ (32 ∷ (presence m.present ++ (32 ∷ stamp_text m.stamp))))
 
--- the lines of each key and of what stands at it, in ascending order (own)
+-- the lines of each key and of what is at it, in ascending order
 unfoldable pub lines_of_each : {X : Type 0} → (List ℕ → X → List (List ℕ)) → List (List ℕ × X) → List (List ℕ)
 lines_of_each lines es = flat_map (λ e. lines e.0 e.1) es
 
--- the lines of all keys of a map, and of what stands at them, in ascending order (own)
+-- the lines of all keys of a map, and of what is at them, in ascending order
 abbrev pub each_lines : {X : Type 0} → (List ℕ → X → List (List ℕ)) → FinMap octets_cmp X → List (List ℕ)
 each_lines lines m = lines_of_each lines (entries m)
 
--- the lines of a value: one (own)
+-- the lines of a value: one
 abbrev pub value_lines : List ℕ → ValueMark → List (List ℕ)
 value_lines value m = value_line value m ∷ []
 
--- the lines of an attribute: its own, and those of its values (own)
+-- the lines of an attribute: its own, and those of its values
 abbrev pub attr_lines : List ℕ → AttrCell → List (List ℕ)
 attr_lines name c = attr_line name c.cleared ∷ each_lines value_lines c.values
 
--- the lines of an entry: its own, and those of its attributes (own)
+-- the lines of an entry: its own, and those of its attributes
 abbrev pub entry_lines : List ℕ → EntryCell → List (List ℕ)
 entry_lines name e = entry_line name e ∷ each_lines attr_lines e.attrs
 
--- a dump: its first line, those of the entries, and the end (own)
+-- a dump: its first line, those of the entries, and the end
 abbrev pub dump_lines : EpochNo → Option Stamp → List Member → Entries → List (List ℕ)
 dump_lines epoch all_up_to members table = dump_line epoch all_up_to members ∷ (each_lines entry_lines table ++ codes "end" ∷ [])
 
@@ -229,17 +229,17 @@ dump_lines epoch all_up_to members table = dump_line epoch all_up_to members ∷
 abbrev pub binding_line : StringBinding → List ℕ
 binding_line b = codes "binding " ++ binding_text b
 
--- the last line of an import: how many bindings there are (own)
+-- the last line of an import: how many bindings there are
 abbrev pub import_end : ℕ → List ℕ
 import_end n = codes "end " ++ decimal n
 
--- an import: a line of each binding, and the end (own)
+-- an import: a line of each binding, and the end
 abbrev pub import_lines : List StringBinding → List (List ℕ)
 import_lines bs = map binding_line bs ++ import_end (length bs) ∷ []
 
 -- ---- answers
 
--- what an answer says that has one line; one of several lines says nothing here (own)
+-- what an answer says that has one line; one of several lines says nothing here
 abbrev pub answer_line : Answer → List ℕ
 answer_line answer.Done = codes "ok"
 answer_line (answer.Posted ns) = codes "ok" ++ posted_text ns
@@ -261,21 +261,22 @@ answer_line (answer.Octets octets) = codes "ok " ++ counted_octets octets
 answer_line (answer.Decoded tag used) = codes "ok " ++ (message_name tag ++ (32 ∷ decimal used))
 answer_line (answer.Refused why) = codes "refused " ++ (refusal_name why ++ refusal_numbers why)
 
--- the lines of an answer: an import and a dump may have several, each other answer has one (own)
+-- the lines of an answer: an import and a dump may have several, each other answer has one
 abbrev pub answer_lines : Answer → List (List ℕ)
 answer_lines (answer.Bindings bs) = import_lines bs
 answer_lines (answer.Dump epoch all_up_to members table) = dump_lines epoch all_up_to members table
 answer_lines other = answer_line other ∷ []
 
--- the text of the answer to the script line of this number (own)
+-- the text of the answer to the script line of this number
 abbrev pub answer_text : ℕ → Answer → List ℕ
 answer_text number a = lines_text number (answer_lines a)
 
--- the line of a fault: its name and its place (own)
+-- the line of a fault: its name and its place
 abbrev pub fault_text : ℕ → List ℕ → ℕ → List ℕ
 fault_text number name place = decimal number ++ (codes " fault " ++ (name ++ (32 ∷ (decimal place ++ 10 ∷ []))))
 
--- the line of a fault of a script line: its name, and the number of the word, or how many words there are (own)
+-- the line of a fault of a script line: its name, and the number of the word, or how many words
+-- there are
 abbrev pub parse_fault_text : ℕ → ParseFault → List ℕ
 parse_fault_text number (parse.UnknownCommand word) = fault_text number (codes "UnknownCommand") word
 parse_fault_text number (parse.WrongCount words) = fault_text number (codes "WrongCount") words

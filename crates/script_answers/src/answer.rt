@@ -21,7 +21,7 @@ pub enum Answer {
     Taken(Serials),
     /// A message of an epoch before that of the house: its epoch, and the house's.
     Late(EpochNo, EpochNo),
-    /// A message of an epoch behind that of the house: its epoch, and the house's.
+    /// A message of an epoch after that of the house: its epoch, and the house's.
     Early(EpochNo, EpochNo),
     /// A message of another skulk than the one that runs: its stamp, and the running one's.
     Stale(Stamp, Option<Stamp>),
@@ -88,7 +88,8 @@ pub enum ScriptRefusal {
     NoSuchEntry,
     EntryExists,
     WrongKind,
-    /// Of a command that makes several updates: how many were accepted before, and the messages that they posted.
+    /// Of a command that makes several updates: how many were accepted before, and the messages
+    /// that they posted.
     StampsSpent(Option<u64>, Serials),
     /// The epoch that the house holds, and the one that began its present term.
     NotJoined(EpochNo, EpochNo),
@@ -101,7 +102,8 @@ pub enum ScriptRefusal {
     TooManyLinks,
     NameTooLong,
     RootName,
-    /// A kept answer led to an entry, and the house that is asked for its values now does not show it, or none answers.
+    /// A kept answer led to an entry, and the house that is asked for its values now does not show
+    /// it, or none answers.
     Vanished,
     /// The entry that was found is no link, or no object.
     NotLink,
@@ -116,7 +118,8 @@ pub enum ScriptRefusal {
     /// The member's name and the annotation are too long together.
     ElementTooLong,
     NoSuchElement,
-    /// Octets begin with no message. This refusal and the six behind it have the place of the first fault.
+    /// Octets begin with no message. This refusal and the six after it have the place of the first
+    /// fault.
     Short(usize),
     BadTag(usize),
     BadLength(usize),

@@ -21,7 +21,7 @@ fn letter_of(kind: MemberKind) -> &'static [u8]
     }
 }
 
-// A member behind a space: its house, its since and its kind.
+// A member after a space: its house, its since and its kind.
 fn push_member(line: &mut Vec<u8>, member: &Member) -> Result<(), AllocError>
     ensures { OnOk result (line.new.items ≡ line.old.items ++ 32 ∷ member_text member.now) }
 {

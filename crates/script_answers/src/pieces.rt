@@ -1,5 +1,5 @@
-// The pieces of lines: numbers, octets, stamps, and the messages that were posted. Each is put behind what stands there.
-// After want of memory the text may have grown.
+// The pieces of lines: numbers, octets, stamps, and the messages that were posted. Each is put
+// after what is there. After it ran out of memory the text may have grown.
 ghost use Rattle.std.specs.Prelude.{◌≡◌, ◌++◌, [], ◌∷◌, length, take, OnOk, OnErr, decimal};
 ghost use Rattle.hex.specs.Hex.{encode_lower};
 ghost use Rattle.script_answers.specs.Texts.{stamp_text, stamp_or, epochs_text, posted_text, stamped_text};
@@ -17,7 +17,7 @@ pub fn push_number(line: &mut Vec<u8>, number: u64) -> Result<(), AllocError>
     line.extend_from_slice(digits.format(number).as_bytes())
 }
 
-/// The same behind a space.
+/// The same after a space.
 pub(crate) fn push_spaced(line: &mut Vec<u8>, number: u64) -> Result<(), AllocError>
     ensures ok { OnOk result (line.new.items ≡ line.old.items ++ 32 ∷ decimal number) }
     ensures err { OnErr result (take (length line.old.items) line.new.items ≡ line.old.items) }
@@ -75,7 +75,7 @@ pub fn push_stamp_or(
     }
 }
 
-/// Two epochs, each behind a space.
+/// Two epochs, each after a space.
 pub(crate) fn push_epochs(line: &mut Vec<u8>, a: EpochNo, b: EpochNo) -> Result<(), AllocError>
     ensures ok { OnOk result (line.new.items ≡ line.old.items ++ epochs_text a b) }
     ensures err { OnErr result (take (length line.old.items) line.new.items ≡ line.old.items) }

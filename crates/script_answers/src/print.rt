@@ -84,7 +84,8 @@ fn push_message(line: &mut Vec<u8>, tag: u8, used: usize) -> Result<(), AllocErr
     push_spaced(line, used as u64)
 }
 
-// The answer of a new directory: its number, the stamp of its entry, and the messages that were posted.
+// The answer of a new directory: its number, the stamp of its entry, and the messages that were
+// posted.
 fn push_made(
     line: &mut Vec<u8>,
     dir: DirId,
@@ -102,7 +103,7 @@ fn push_made(
     push_stamped(line, stamp, serials)
 }
 
-// The messages that were posted, behind a word.
+// The messages that were posted, after a word.
 fn push_posted_behind(line: &mut Vec<u8>, word: &[u8], serials: &[u64]) -> Result<(), AllocError>
     ensures ok { OnOk result
         (line.new.items ≡ line.old.items ++ (word.now ++ posted_text serials.now)) }
@@ -124,7 +125,7 @@ fn push_counted(line: &mut Vec<u8>, number: u64, serials: &[u64]) -> Result<(), 
     push_posted(line, serials)
 }
 
-// A stamp and the messages that were posted, behind words.
+// A stamp and the messages that were posted, after words.
 fn push_stamped_behind(
     line: &mut Vec<u8>,
     words: &[u8],
@@ -139,7 +140,7 @@ fn push_stamped_behind(
     push_stamped(line, stamp, serials)
 }
 
-// Two epochs, behind words.
+// Two epochs, after words.
 fn push_epochs_behind(
     line: &mut Vec<u8>,
     words: &[u8],
@@ -218,7 +219,7 @@ fn push_answer(alloc: Global, line: &mut Vec<u8>, answer: &Answer) -> Result<(),
     }
 }
 
-// The line of an answer that has one. After want of memory the text may have grown.
+// The line of an answer that has one. After it ran out of memory the text may have grown.
 fn push_line(
     alloc: Global,
     line: &mut Vec<u8>,
@@ -258,8 +259,8 @@ fn push_lines(
     }
 }
 
-/// Puts the lines of an answer behind the text, each with the number of the script line. After want of memory the text is as
-/// it was.
+/// Puts the lines of an answer after the text, each with the number of the script line. After it
+/// ran out of memory the text is as it was.
 pub fn append_answer(
     alloc: Global,
     text: &mut Vec<u8>,

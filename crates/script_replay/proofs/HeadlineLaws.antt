@@ -1,4 +1,5 @@
--- Where a line answers that a skulk is complete, its directory is settled; and what a line that imports lists.
+-- Where a line answers that a skulk is complete, its directory is settled; and what a line that
+-- imports lists.
 use Rattle.std.proofs.Common.{◌≡◌, ℕ, Bool, true, false, if◌then◌else◌, List, [], ◌∷◌, ◌++◌, refl, sym, ◌∙◌, ap, subst, append_assoc}
 use Rattle.std.specs.Prelude.{Option, Some, None, Result, Ok, Err}
 use Rattle.std.specs.Option.{option_and_then}
@@ -182,7 +183,7 @@ same_held g p q r s is this that =
     let slots : slot.Held r ≡ slot.Held s = sym this ∙ ap (λ (p : ℕ × ℕ). (g.house p.0).slots p.1) same ∙ that in
     cc
 
--- the commands of lines, and of lines behind them
+-- the commands of lines, and of lines after them
 pub commands-append : (g : Cell) (xs ys : List Numbered)
     → commands_from steps_of g (xs ++ ys) ≡ commands_from steps_of g xs ++ commands_from steps_of (replay_from g (commands_from steps_of g xs)) ys
 commands-append g [] ys = refl
@@ -223,7 +224,7 @@ module _ (early mid : List Numbered) (l : Numbered) (c : Command) (t : Stamp) (n
   all : whole ≡ before ++ step_of c ∷ behind
   all = commands-append empty_cell early (l ∷ mid) ∙ ap (λ (cs : List model.Command). before ++ cs) (of_line mid)
 
-  -- all is settled behind a command that answers so
+  -- all is settled after a command that answers so
   command_settles : Settled early l mid t
   command_settles =
       let found = converges_lem whole before behind (step_of c) t ns (sym all) answers in
@@ -270,7 +271,8 @@ asked_only : (b : Bool) (a : Answer) (bs : List StringBinding)
 asked_only true a bs is = cc
 asked_only false a bs is = cc
 
--- an import that is answered with bindings in a cell that commands lead to lists those that the search reaches
+-- an import that is answered with bindings in a cell that commands lead to lists those that the
+-- search reaches
 pub import_finds : (commands : List model.Command) (i : Importing) (bs : List StringBinding)
     → reply_to (replay commands) (import_line i) ≡ Some (answer.Bindings bs)
     → IsImport (cell_reader (replay commands) (Some i.house.0) i.high) i.wanted i.name bs

@@ -29,7 +29,8 @@ use Rattle.script_replay.specs.Answering.{IsReply}
 count_cons : {A : Type 0} (p : A → Bool) (x : A) (xs : List A) → count_by p (x ∷ xs) ≡ cond (p x) 1 0 + count_by p xs
 count_cons p x xs = sum_by-cons (λ y. cond (p y) 1 0) x xs
 
--- of all commands these are left: the cell stands for the model's behind the others, and the counts are those of the others
+-- of all commands these are left: the cell stands for the model's after the others, and the counts
+-- are those of the others
 pub record IsLoading (loader : Loader) (left all : List Command) : Type 0 where
   pub cell : Cell
   pub stands : Stands loader.replayer.cell cell

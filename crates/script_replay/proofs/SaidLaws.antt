@@ -76,7 +76,7 @@ module _ (c : Cell) where
       by_kind (Some kind.Link) is = absurd (cc)
       by_kind (Some kind.Child) is = absurd (cc)
 
-  -- the same behind a fault
+  -- the same after a fault
   pub unless_up : (fault : Option ScriptRefusal) (asks : Asks) → AsksUp asks → AsksUp (unless fault asks)
   unless_up None asks up ch is = up ch is
   unless_up (Some f) asks up ch is = absurd (cc)

@@ -1,4 +1,5 @@
--- What an input demands of a form that answers line by line by a dialogue: of a script its transcript.
+-- What an input demands of a form that answers line by line by a dialogue: of a script its
+-- transcript.
 use Rattle.std.proofs.Common.{◌≡◌, ◌⊎◌, inl, inr, ℕ, ◌+◌, Bool, true, false, List, [], ◌∷◌, ◌++◌, length, refl, sym, ◌∙◌, ap, subst, arith, append_assoc, append-nil}
 use Rattle.std.proofs.Common.{if◌then◌else◌}
 use Rattle.std.specs.Prelude.{Option, None, Some, Ok, Err, Result, ◌==◌}
@@ -27,11 +28,13 @@ use Rattle.script_replay.proofs.HeadlineLaws.{converges, finds}
 abbrev pub told_with : (text end : List ℕ) → Demand
 told_with text end = record { body = text; end = end; verdict = Sound }
 
--- what a script demands of a form whose state is of one of the dialogue: its transcript, and what is said at the end of its input
+-- what a script demands of a form whose state is of one of the dialogue: its transcript, and what
+-- is said at the end of its input
 abbrev pub due : {S T L : Type 0} → LineRule T → Dialogue S L → (S → T) → S → List (NumberedOf L) → Demand
 due rule d state_of s said = told_with (transcript_by d s said) (rule.end_text (state_of (state_after_lines d s said)))
 
--- a form that answers line by line, or finds no room in a journal; its state stands for a state of the program
+-- a form that answers line by line, or finds no room in a journal; its state stands for a state of
+-- the program
 module _ {S T L : Type 0} (rule : LineRule T) (d : Dialogue S L) (state_of : S → T)
     (responds : (number : ℕ) (s : S) (line : List ℕ)
     → (rule.response number (state_of s) line ≡ in_state state_of (reply_of d number s (d.says (words_of line)))) ⊎ (rule.response number (state_of s) line ≡ Fills)) where
@@ -45,7 +48,8 @@ module _ {S T L : Type 0} (rule : LineRule T) (d : Dialogue S L) (state_of : S �
   abbrev Follows : ℕ → List ℕ → Type 0
   Follows number bs = (s : S) → (scanned rule number (state_of s) [] bs).verdict ≡ Sound → Script number s bs (scanned rule number (state_of s) [] bs)
 
-  -- an input of which this much of the next line has come, and in which nothing is faulty and no journal lacks room, is a script
+  -- an input of which this much of the next line has come, and in which nothing is faulty and no
+  -- journal lacks room, is a script
   pub demand_script : (number : ℕ) (s : S) (line octets : List ℕ) → AreClean number 1 line
       → (scanned rule number (state_of s) line octets).verdict ≡ Sound → Script number s (line ++ octets) (scanned rule number (state_of s) line octets)
   unfolding scanned
@@ -126,7 +130,8 @@ module _ {S T L : Type 0} (rule : LineRule T) (d : Dialogue S L) (state_of : S �
 
   -- where nothing is said at the end of the input
   module _ (silent : (s : S) → rule.end_text (state_of s) ≡ []) where
-    -- what was written, of a whole input in which nothing is faulty, is the transcript of the script that was read
+    -- what was written, of a whole input in which nothing is faulty, is the transcript of the
+    -- script that was read
     pub is_filling_replay : (s : S) (run : Run) → Wrote (by_lines rule (state_of s)) run IsWhole → IsReplayBy d s run
     is_filling_replay s run wrote =
         let script = input_script s wrote.read (subst (λ (e : Demand). e.verdict ≡ Sound) (sym wrote.demands) wrote.due.0) in
@@ -186,7 +191,8 @@ module _ {S T L : Type 0} (rule : LineRule T) (d : Dialogue S L) (state_of : S �
         → (lines : List (List ℕ)) × (said : List (NumberedOf L)) × (octets ≡ text_of lines) × IsScriptOf d.says 1 lines said
     demanded_script s octets sound = faultless_script s octets sound
 
-    -- what was written, of a whole input in which nothing is faulty, is the transcript of the script that was read
+    -- what was written, of a whole input in which nothing is faulty, is the transcript of the
+    -- script that was read
     pub is_replay_by : (s : S) (run : Run) → Wrote (by_lines rule (state_of s)) run IsWhole → IsReplayBy d s run
     is_replay_by = is_filling_replay rule d state_of (λ number s line. inl (responds number s line)) silent
 
@@ -211,7 +217,8 @@ module _ {S L : Type 0} (d : Dialogue S L) where
   demanded_dialogue =
       demanded_script (dialogue_rule d) d (λ s. s) (λ number s line. same_state (reply_of d number s (d.says (words_of line)))) (λ s. refl)
 
-  -- what was written, of a whole input in which nothing is faulty, is the transcript of the script that was read
+  -- what was written, of a whole input in which nothing is faulty, is the transcript of the script
+  -- that was read
   pub is_dialogue_replay : (s : S) (run : Run) → Wrote (by_lines (dialogue_rule d) s) run IsWhole → IsReplayBy d s run
   is_dialogue_replay =
       is_replay_by (dialogue_rule d) d (λ s. s) (λ number s line. same_state (reply_of d number s (d.says (words_of line)))) (λ s. refl)

@@ -1,4 +1,5 @@
--- Updates that a command of the name service asks for: what becomes of them, and that they are refused for want of stamps alone.
+-- Updates that a command of the name service asks for: what becomes of them, and that they are
+-- refused for want of stamps alone.
 use Rattle.std.proofs.Common.{◌≡◌, ◌⊎◌, ℕ, true, List, refl, ap}
 use Rattle.std.specs.Prelude.{Option, Some, None, Result, Ok, Err, is_none}
 use Rattle.std.specs.Option.{option_map}
@@ -57,7 +58,8 @@ module _ (g : model.Cell) (reached : IsReached g) (histories : HistoriesHold g)
     (alone : (h d : ℕ) (r : model.Replica) (us : List Change) → IsReached g → (g.house h).up ≡ true → model.IsHeld g h d r
     → master_of r.members ≡ h → AreAccepted r.history us
     → ((accept_in_turn g h d us).refused ≡ None) ⊎ ((accept_in_turn g h d us).refused ≡ Some why.StampsSpent)) where
-  -- a master that shows an entry so refuses updates which such a history accepts for want of stamps alone
+  -- a master that shows an entry so refuses updates which such a history accepts for want of stamps
+  -- alone
   master_lacks : (h d : ℕ) (n : List ℕ) (k : Option Kind) (us : List Change) → ShowsAsMaster g h d n k
       → ((past : List Mark) → IsHistory past → option_map (λ e. e.kind) (shown_of_name past n) ≡ k → AreAccepted past us)
       → ((accept_in_turn g h d us).refused ≡ None) ⊎ ((accept_in_turn g h d us).refused ≡ Some why.StampsSpent)
@@ -101,7 +103,7 @@ module _ (g : model.Cell) (reached : IsReached g) (histories : HistoriesHold g)
       by_kind kind.Link = tt
       by_kind kind.Child = tt
 
-  -- behind a fault
+  -- after a fault
   pub unless_lacks : (fault : Option ScriptRefusal) (asks : Asks) → LacksStampsAlone g asks → LacksStampsAlone g (unless fault asks)
   unless_lacks None asks lacks = lacks
   unless_lacks (Some why) asks lacks = tt

@@ -1,4 +1,4 @@
--- How `run` replies to a line (own).
+-- How `run` replies to a line.
 use Rattle.std.specs.Prelude.{◌≡◌, ℕ, List, Some}
 use Rattle.cell_model.specs.Cells as model
 use Rattle.cell_model.specs.Steps.{replay_from}
@@ -12,15 +12,15 @@ use Rattle.reply_buffer.specs.LineEnds.{Ends}
 use Rattle.script_replay.specs.declared.replayer.Replayer.{Replayer}
 use Rattle.script_replay.specs.Replies.{Said, said_of}
 
--- an answer and a cell are those of what is done to the model's (own)
+-- an answer and a cell are those of what is done to the model's
 pub record IsDone (a : Answer) (c : Cell) (g : model.Cell) (said : Said) : Type 0 where
   pub answer : said.answer ≡ Some a
   pub stands : Stands c (replay_from g said.steps)
 
--- a reply and a cell are those of the model behind a line (own)
+-- a reply and a cell are those of the model after a line
 abbrev pub IsReply : Answer → Cell → model.Cell → ScriptLine → Type 0
 IsReply a c g l = IsDone a c g (said_of g l)
 
--- the cell goes on as the model's behind the line (own)
+-- the cell goes on as the model's after the line
 abbrev pub Replays : LineEnd → ResponseOf model.Cell → (waited waits : List ℕ) → Replayer → Type 0
 Replays end r waited waits replayer = Ends end r waited waits (Stands replayer.cell)

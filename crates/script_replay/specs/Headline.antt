@@ -1,5 +1,5 @@
--- What a run tells of convergence: the replicas of a directory agree from each line on that answers that a skulk is complete (own, after C705,
--- skulks and the meaning of AllUpTo).
+-- What a run tells of convergence: the replicas of a directory agree from each line on that answers
+-- that a skulk is complete (own, after C705, skulks and the meaning of AllUpTo).
 use Rattle.std.specs.Prelude.{◌≡◌, ℕ, ◌≤◌, Bool, List, [], ◌∷◌, ◌++◌, Option, Some, None}
 use Rattle.cds_stamps.specs.declared.numbers.HouseNo.{HouseNo}
 use Rattle.cds_stamps.specs.declared.stamp.Stamp.{Stamp}
@@ -28,7 +28,7 @@ commands_from steps g (l ∷ ls) = steps g l.says ++ commands_from steps (replay
 abbrev pub commands_of : List Numbered → List Command
 commands_of = commands_from steps_of empty_cell
 
--- the cell behind lines (own)
+-- the cell after lines (own)
 abbrev pub cell_after_script : List Numbered → Cell
 cell_after_script said = replay (commands_of said)
 
@@ -41,9 +41,10 @@ abbrev pub line_place : Cell → ScriptLine → Option (ℕ × ℕ)
 line_place g (line.Cell c) = place_of g (step_of c)
 line_place g (line.Question q) = None
 
--- The line l, behind the early ones, completes the skulk t at the house and the directory that it acts at, where t becomes the AllUpTo. Each house that
--- holds this directory behind the lines mid that follow, in the epoch of that skulk or a later one, agrees up to t with the updates that the master
--- then had (own)
+-- The line l, after the early ones, completes the skulk t at the house and the directory that it
+-- acts at, where t becomes the AllUpTo. Each house that holds this directory after the lines mid
+-- that follow, in the epoch of that skulk or a later one, agrees up to t with the updates that the
+-- master then had (own)
 pub record Settled (early : List Numbered) (l : Numbered) (mid : List Numbered) (t : Stamp) : Type 0 where
   pub house : ℕ
   pub dir : ℕ
@@ -54,8 +55,8 @@ pub record Settled (early : List Numbered) (l : Numbered) (mid : List Numbered) 
   pub agree : (x : ℕ) (r : Replica) → IsHeld (cell_after_script (early ++ l ∷ mid)) x dir r → replica.epoch ≤ r.epoch
       → Agrees dir t (accepted_in (early ++ l ∷ [])) (accepted_in (early ++ l ∷ mid)) replica.history x r
 
--- of the lines of a script: wherever one answers that the skulk t is complete, all is settled at that moment, and behind each of the lines
--- that follow it (own)
+-- of the lines of a script: wherever one answers that the skulk t is complete, all is settled at
+-- that moment, and after each of the lines that follow it (own)
 abbrev pub RunConverges : List Numbered → Type 0
 RunConverges said =
     (early mid late : List Numbered) (l : Numbered) (t : Stamp) (ns : List ℕ) → said ≡ early ++ l ∷ (mid ++ late)
@@ -74,8 +75,9 @@ pub record Importing : Type 0 where
 abbrev pub import_line : Importing → ScriptLine
 import_line i = line.Question (question.Import i.house i.high i.name i.wanted.interface i.wanted.object i.wanted.tcp i.wanted.udp)
 
--- of the lines of a script: wherever one imports and is answered with bindings, these are those of exactly the entries that the search
--- reaches, each once and in its order, by what the cell of that moment tells (own, after C706, importing bindings)
+-- of the lines of a script: wherever one imports and is answered with bindings, these are those of
+-- exactly the entries that the search reaches, each once and in its order, by what the cell of that
+-- moment tells (own, after C706, importing bindings)
 abbrev pub Finds : List Numbered → Type 0
 Finds said =
     (early late : List Numbered) (l : Numbered) (i : Importing) (bindings : List StringBinding) → said ≡ early ++ l ∷ late

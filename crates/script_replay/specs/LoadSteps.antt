@@ -1,4 +1,4 @@
--- How a cell is loaded, a command more, and what is counted at the end (own).
+-- How a cell is loaded, a command more, and what is counted at the end.
 use Rattle.std.specs.Prelude.{◌≡◌, ◌+◌, cond}
 use Rattle.std.specs.Option.{option_map_or}
 use Rattle.directory.specs.Shown.{live_count}
@@ -11,14 +11,14 @@ use Rattle.script_replay.specs.declared.counts.Counts.{Counts}
 use Rattle.script_replay.specs.declared.loader.Loader.{Loader}
 use Rattle.script_replay.specs.Loading.{completes, first_table, is_accepted, values_shown}
 
--- a command was stepped and counted: the cell stands for the model's behind it (own)
+-- a command was stepped and counted: the cell stands for the model's after it
 pub record Takes (old new : Loader) (g : model.Cell) (c : Command) : Type 0 where
   pub commands : new.commands ≡ old.commands + 1
   pub accepted : new.accepted ≡ old.accepted + cond (is_accepted (c, (outcome g (step_of c)).answer)) 1 0
   pub complete : new.complete ≡ old.complete + cond (completes (c, (outcome g (step_of c)).answer)) 1 0
   pub stands : Stands new.replayer.cell (outcome g (step_of c)).cell
 
--- the counts, and what shows at the first house of the model's cell (own)
+-- the counts, and what shows at the first house of the model's cell
 pub record Tells (counts : Counts) (loader : Loader) (g : model.Cell) : Type 0 where
   pub commands : counts.commands ≡ loader.commands
   pub accepted : counts.accepted ≡ loader.accepted

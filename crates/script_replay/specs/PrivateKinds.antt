@@ -1,4 +1,4 @@
--- Words of private contracts: what is counted of a command and its answer (own).
+-- Words of private contracts: what is counted of a command and its answer.
 use Rattle.std.specs.Prelude.{Bool, true, false}
 use Rattle.script_answers.specs.declared.answer.Answer.{Answer}
 use Rattle.script_answers.specs.declared.answer.Answer.TheVariants as answer

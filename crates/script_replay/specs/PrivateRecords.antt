@@ -1,4 +1,4 @@
--- Words of private contracts: what a house has of a directory, told whole (own).
+-- Words of private contracts: what a house has of a directory, told whole.
 use Rattle.std.specs.Prelude.{Option, Some, None}
 use Rattle.script_answers.specs.declared.answer.Answer.{Answer}
 use Rattle.script_answers.specs.declared.answer.Answer.TheVariants as answer

@@ -1,4 +1,4 @@
--- Words of private contracts: what is said to a question (own).
+-- Words of private contracts: what is said to a question.
 use Rattle.std.specs.Prelude.{◌≡◌, Result, Ok, Err}
 use Rattle.std.specs.declared.alloc.AllocError.{AllocError}
 use Rattle.cds_stamps.specs.declared.alloc_or.AllocOr.{AllocOr}

@@ -49,7 +49,8 @@ abbrev pub values_read : Reader → (attr : List ℕ) → Result Found Refusal �
 values_read reader attr (Ok found) = answer.Values (reader.values found attr)
 values_read reader attr (Err r) = answer.Refused (refusal_of_walk r)
 
--- where the entry that is found leads, if it is a link: the name that its value reads as (own, after C705, soft links)
+-- where the entry that is found leads, if it is a link: the name that its value reads as (own,
+-- after C705, soft links)
 abbrev pub first_target : List (List ℕ) → Answer
 first_target [] = answer.Refused why.NotLink
 first_target (v ∷ vs) = answer.Target (components_of v)
@@ -77,7 +78,8 @@ refusal_of_octets (fault.NotAbove place) = why.NotAbove place
 refusal_of_octets (fault.BadHeld place) = why.BadLength place
 refusal_of_octets (fault.Trailing place) = why.BadLength place
 
--- the message that octets begin with, by its tag and the number of its octets, or the first fault (own)
+-- the message that octets begin with, by its tag and the number of its octets, or the first fault
+-- (own)
 abbrev pub message_told : Result (recorded.Message × ℕ) RecordFault → Answer
 message_told (Ok r) = answer.Decoded (tag_of r.0.body) r.1
 message_told (Err f) = answer.Refused (refusal_of_octets f)
@@ -92,8 +94,8 @@ wanted_by interface object tcp udp = record { interface = interface; object = ob
 
 -- ---- what is held, and its octets
 
--- what a house has of a directory, told whole: its epoch, its AllUpTo, its members, and its table without the deletions up to AllUpTo
--- (own)
+-- what a house has of a directory, told whole: its epoch, its AllUpTo, its members, and its table
+-- without the deletions up to AllUpTo (own)
 abbrev pub slot_told : Slot → Answer
 slot_told Absent = answer.Refused why.NoReplica
 slot_told (Gone e) = answer.Refused why.NoReplica
@@ -114,8 +116,8 @@ octets_told (Some octets) = answer.Octets octets
 
 -- ---- what a line does and is answered
 
--- the commands of the model that a line makes, and the reply to it; to a command that has no answer in the script there is none,
--- and no cell of a run comes to that (own)
+-- the commands of the model that a line makes, and the reply to it; to a command that has no answer
+-- in the script there is none, and no cell of a run comes to that (own)
 pub record Said : Type 0 where
   pub steps : List Command
   pub answer : Option Answer
@@ -124,18 +126,20 @@ pub record Said : Type 0 where
 abbrev pub says : Answer → Said
 says a = record { steps = []; answer = Some a }
 
--- why an update is refused behind so many that were accepted, which posted these messages: these are told where stamps are wanting (own)
+-- why an update is refused after so many that were accepted, which posted these messages: these are
+-- told where stamps are wanting (own)
 abbrev pub refusal_behind : UpdateRefusal → (count : ℕ) → (posted : List ℕ) → ScriptRefusal
 refusal_behind update.StampsSpent count posted = why.StampsSpent (Some count) posted
 refusal_behind r count posted = update_refusal_of r
 
--- the answer to updates at a house: that all were accepted, or so many before one that is refused (own)
+-- the answer to updates at a house: that all were accepted, or so many before one that is refused
+-- (own)
 abbrev pub updates_told : Accepting → Option UpdateRefusal → Answer
 updates_told w None = answer.Updates w.count w.posted
 updates_told w (Some r) = answer.Refused (refusal_behind r w.count w.posted)
 
--- what a command of the name service asks for is done: each update that is accepted is a command (own, after C706, name service
--- entries)
+-- what a command of the name service asks for is done: each update that is accepted is a command
+-- (own, after C706, name service entries)
 abbrev pub does : Cell → Asks → Said
 does g (Err r) = says (answer.Refused r)
 does g (Ok c) =
@@ -147,13 +151,14 @@ abbrev pub LacksStampsAlone : Cell → Asks → Type 0
 LacksStampsAlone g (Err r) = Unit {0}
 LacksStampsAlone g (Ok c) = let w : Accepting = accept_in_turn g c.house c.dir c.list in (w.refused ≡ None) ⊎ (w.refused ≡ Some update.StampsSpent)
 
--- the reader by which a command of the name service finds its entry: no house is preferred, and the master's replica alone is
--- trusted (own, after C705, confidence of lookups)
+-- the reader by which a command of the name service finds its entry: no house is preferred, and the
+-- master's replica alone is trusted (own, after C705, confidence of lookups)
 abbrev pub trusted_reader : Cell → Reader
 trusted_reader g = cell_reader g None true
 
--- what a question does and is answered. Most only ask: they name the house that is preferred, and the confidence. `read` follows
--- links to the last, `readlink` looks at the last itself (own, after C705, lookups of clerks, and C706, name service operations)
+-- what a question does and is answered. Most only ask: they name the house that is preferred, and
+-- the confidence. `read` follows links to the last, `readlink` looks at the last itself (own, after
+-- C705, lookups of clerks, and C706, name service operations)
 abbrev pub question_said : Cell → Question → Said
 question_said g (question.Read h high name attr) =
     says (asked_of g h.0 (values_read (cell_reader g (Some h.0) high) attr (walk_end (cell_reader g (Some h.0) high) true name)))
@@ -181,7 +186,7 @@ said_of g (line.Question q) = question_said g q
 abbrev pub steps_of : Cell → ScriptLine → List Command
 steps_of g l = (said_of g l).steps
 
--- the cell behind a line (own)
+-- the cell after a line (own)
 abbrev pub cell_after : Cell → ScriptLine → Cell
 cell_after g l = replay_from g (steps_of g l)
 

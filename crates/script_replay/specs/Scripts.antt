@@ -1,4 +1,4 @@
--- Scripts and their transcripts (own).
+-- Scripts and their transcripts.
 use Rattle.std.specs.Prelude.{◌≡◌, ℕ, ◌+◌, List, [], ◌∷◌, ◌++◌, Option, Some, None, Ok, Err, Result}
 use Rattle.std.specs.Io.KnownBytes.{Consumes, Appends}
 use Rattle.cds_base.specs.LineFaults.{IsLine}
@@ -12,29 +12,31 @@ use Rattle.line_forms.specs.Runs.{Run}
 use Rattle.script_replay.specs.Dialogues.{Dialogue, NumberedOf, transcript_by}
 use Rattle.script_replay.specs.Replies.{Numbered, run_dialogue}
 
--- what line number says stands in front of what the lines behind it say, if it says anything (own)
+-- what line number says is in front of what the lines after it say, if it says anything
 abbrev pub Says : {L : Type 0} → ℕ → Result (Option L) ParseFault → List (NumberedOf L) → (List (NumberedOf L) → Type 0) → Type 0
 Says number (Ok None) said Behind = Behind said
 Says {L} number (Ok (Some l)) said Behind =
     (rest : List (NumberedOf L)) × (said ≡ record { number = number; says = l } ∷ rest) × Behind rest
 Says number (Err fault) said Behind = ⊥
 
--- the lines are in order, and this is what they say, from line number on; says tells what the words of a line say (own)
+-- the lines are in order, and this is what they say, from line number on; says tells what the words
+-- of a line say
 abbrev pub IsScriptOf : {L : Type 0} → (says : List (List ℕ) → Result (Option L) ParseFault) → ℕ → (lines : List (List ℕ))
     → List (NumberedOf L) → Type 0
 IsScriptOf says number [] said = said ≡ []
 IsScriptOf says number (l ∷ ls) said = IsLine number l × Says number (says (words_of l)) said (IsScriptOf says (number + 1) ls)
 
--- the same of a script of commands and questions (own)
+-- the same of a script of commands and questions
 abbrev pub IsScript : ℕ → (lines : List (List ℕ)) → List Numbered → Type 0
 IsScript = IsScriptOf said_in
 
--- the state of a form after lines (own)
+-- the state of a form after lines
 abbrev pub state_after_lines : {S L : Type 0} → Dialogue S L → S → List (NumberedOf L) → S
 state_after_lines d s [] = s
 state_after_lines d s (l ∷ ls) = state_after_lines d (d.after l.number s l.says) ls
 
--- a script was read, and its transcript by a form that answers line by line was written, from a state on (own)
+-- a script was read, and its transcript by a form that answers line by line was written, from a
+-- state on
 pub record IsReplayBy {S L : Type 0} (d : Dialogue S L) (s : S) (run : Run) : Type 0 where
   pub lines : List (List ℕ)
   pub said : List (NumberedOf L)
@@ -42,8 +44,8 @@ pub record IsReplayBy {S L : Type 0} (d : Dialogue S L) (s : S) (run : Run) : Ty
   pub taken : Consumes run.left run.left' (text_of lines)
   pub written : Appends run.held run.held' (transcript_by d s said)
 
--- the same by the model, from a cell without houses on; and each skulk that the transcript tells complete settles its directory
--- (own, after C705, skulks)
+-- the same by the model, from a cell without houses on; and each skulk that the transcript tells
+-- complete settles its directory (own, after C705, skulks)
 pub record IsReplay (run : Run) : Type 0 where
   pub replay : IsReplayBy run_dialogue empty_cell run
   pub settled : RunConverges replay.said

@@ -4,8 +4,8 @@ ghost use Rattle.script_replay.specs.Loading.{summary_text};
 
 use std::alloc::{AllocError, Global};
 
-/// How many commands there were, changes that were accepted, and skulks that became complete by a delivery; and how many entries and
-/// values show at the first house at the end.
+/// How many commands there were, changes that were accepted, and skulks that became complete by a
+/// delivery; and how many entries and values show at the first house at the end.
 #[derive(Clone, Copy, Debug, PartialEq, Eq)]
 pub struct Counts {
     pub(crate) commands: u32,
@@ -15,7 +15,7 @@ pub struct Counts {
     pub(crate) values: u64,
 }
 
-// A number behind its word.
+// A number after its word.
 fn push_count(alloc: Global, text: &mut Vec<u8>, word: &[u8], count: u64) -> Result<(), AllocError>
     ensures { OnOk result (text.new.items ≡ text.old.items ++ (word.now ++ decimal count)) }
 {

@@ -1,4 +1,5 @@
-//! What a line of a script comes to: what a cell answers to it, and what is counted of a line of `load`.
+//! What a line of a script comes to: what a cell answers to it, and what is counted of a line of
+//! `load`.
 #![tactic(auto)]
 
 mod counts;

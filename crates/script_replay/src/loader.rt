@@ -8,7 +8,8 @@ use crate::shown::{first_table, shown_counts};
 use cell_script::ScriptLine;
 use std::alloc::{AllocError, Global};
 
-/// A cell, how many commands it took, how many changes it accepted, and how many skulks became complete by a delivery.
+/// A cell, how many commands it took, how many changes it accepted, and how many skulks became
+/// complete by a delivery.
 #[derive(Drop)]
 pub struct Loader {
     replayer: Replayer,

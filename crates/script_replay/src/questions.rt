@@ -88,7 +88,8 @@ pub fn reply_to_question(
     }
 }
 
-// A reader of masters alone, which prefers no house: commands of the name service read by it before they change an entry.
+// A reader of masters alone, which prefers no house: commands of the name service read by it before
+// they change an entry.
 fn reader_of_masters(cell: &Cell) -> CellReader<'_>
     ensures { program_reader result.cell.now
         (option_map (λ house. house.0) result.prefer) result.high

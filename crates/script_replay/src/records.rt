@@ -69,7 +69,8 @@ pub(crate) fn message_octets(alloc: Global, cell: &Cell, serial: u64) -> Result<
     }
 }
 
-/// The octets of the image of a house: of one that is up as it would keep it now, of one that is down as it kept it.
+/// The octets of the image of a house: of one that is up as it would keep it now, of one that is
+/// down as it kept it.
 pub(crate) fn house_octets(alloc: Global, cell: &Cell, house: HouseNo) -> Result<Answer, AllocError>
     ensures { (g : model.Cell) → Stands cell.now g
         → IfOk result
@@ -88,7 +89,7 @@ fn copied(alloc: Global, octets: &[u8]) -> Result<Answer, AllocError>
     Ok(Answer::Octets(Octets::of(octets.to_vec(alloc)?)))
 }
 
-/// Which message stands at the front of octets.
+/// Which message is at the front of octets.
 pub(crate) fn decoded(alloc: Global, octets: &[u8]) -> Result<Answer, AllocError>
     ensures { IfOk result (λ a. a ≡ message_told (decode_by message octets.now)) }
 {

@@ -13,8 +13,8 @@ use reply_buffer::{LineEnd, Waiting, reply_to_fault};
 use script_answers::Answer;
 use std::alloc::{AllocError, Global};
 
-/// A cell, how many steps and lists of updates it took, and how many updates stood in these lists: so many that there is room for
-/// each further line of a script.
+/// A cell, how many steps and lists of updates it took, and how many updates stood in these lists:
+/// so many that there is room for each further line of a script.
 #[derive(Drop)]
 pub struct Replayer {
     cell: Cell,
@@ -61,7 +61,7 @@ impl Replayer {
         &self.cell
     }
 
-    /// Replays a line: its reply waits behind the others.
+    /// Replays a line: its reply waits after the others.
     pub fn replay_line(
         &mut self,
         alloc: Global,
@@ -104,7 +104,7 @@ impl Replayer {
         }
     }
 
-    // The reply to a line waits behind the others.
+    // The reply to a line waits after the others.
     fn answer(
         &mut self,
         alloc: Global,
@@ -150,7 +150,7 @@ impl Replayer {
         self.cell.step(alloc, command)
     }
 
-    // The answer to a question, behind the updates that it asks for.
+    // The answer to a question, after the updates that it asks for.
     fn answer_question(&mut self, alloc: Global, question: &Question) -> Result<Answer, AllocError>
         requires few { self.old.steps < MOST_LINES }
         ensures reply { (g : model.Cell) → Stands self.old.cell g
@@ -163,7 +163,8 @@ impl Replayer {
         }
     }
 
-    /// Updates at a house that is up, unless memory ran out before. A list of more than MOST_UPDATES counts as that.
+    /// Updates at a house that is up, unless memory ran out before. A list of more than
+    /// MOST_UPDATES counts as that.
     pub fn accept(&mut self, alloc: Global, updates: &Updates) -> Result<Answer, AllocError>
         requires few { self.old.steps < MOST_LINES }
         requires up { is_up_state

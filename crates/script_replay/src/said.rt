@@ -12,7 +12,8 @@ use ns_commands::Updates;
 use script_answers::{Answer, ScriptRefusal, Serials};
 use std::alloc::{AllocError, Global};
 
-/// What is said to a question: the answer, or which updates it asks for, to which the answer is then given.
+/// What is said to a question: the answer, or which updates it asks for, to which the answer is
+/// then given.
 #[derive(Drop)]
 pub enum Reply {
     Answer(Answer),
@@ -49,7 +50,7 @@ pub(crate) fn answer_to_updates(alloc: Global, done: AcceptedAll) -> Answer
     }
 }
 
-// Why an update is refused behind so many that were accepted, which posted these messages.
+// Why an update is refused after so many that were accepted, which posted these messages.
 fn refusal_behind(
     alloc: Global,
     refusal: UpdateRefusal,

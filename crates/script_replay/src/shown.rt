@@ -46,7 +46,7 @@ fn present_values(values: &ValueMap) -> u64
     values.iter().filter(|(_, mark)| mark.present).count() as u64
 }
 
-// The sum of two counts. More than 64 bits count as want of memory: no memory holds so many values.
+// The sum of two counts. More than 64 bits count as out of memory: no memory holds so many values.
 fn sum_of(count: u64, more: u64) -> Result<u64, AllocError>
     ensures { IfOk result (λ n. n ≡ count + more) }
 {

@@ -21,7 +21,7 @@ first_of_put v (w ∷ ws) = by_case (octets_cmp v w)
     by_case Equal = refl
     by_case Greater = refl
 
--- one more value behind others: an object, or another one
+-- one more value after others: an object, or another one
 least_push : (held : List (List ℕ)) (v : List ℕ)
     → least_object (held ++ v ∷ []) ≡ cond (eqb (length v) 16) (Some (lesser v (least_object held))) (least_object held)
 least_push held v =

@@ -37,7 +37,7 @@ no_fault floors tower behind octets fault is split other =
 whole_no_fault : (floors : List Floor) (octets : List ℕ) (fault : TowerFault) → IsTower floors octets → IsFault octets fault → ⊥
 whole_no_fault floors octets fault is other = no_fault floors octets [] octets fault is (sym (append-nil octets)) other
 
--- octets behind the tower make it no whole tower
+-- octets after the tower make it no whole tower
 no_rest : (floors others : List Floor) (octets tower behind : List ℕ) → IsTower floors octets → IsTower others tower → octets ≡ tower ++ behind
     → 0 < length behind → ⊥
 no_rest floors others octets tower behind whole front split some =

@@ -16,7 +16,8 @@ use Rattle.tower_codec.specs.Serving.{serves}
 use Rattle.server_entries.specs.declared.client.Wanted.{Wanted}
 use Rattle.server_entries.specs.ServerTowers.{rpc_tower_of}
 
--- The transfer syntax NDR, 8a885d04-1ceb-11c9-9fe8-08002b104860 version 2.0 (C706, transfer syntaxes).
+-- The transfer syntax NDR, 8a885d04-1ceb-11c9-9fe8-08002b104860 version 2.0 (C706, transfer
+-- syntaxes).
 abbrev pub ndr_syntax : Interface
 ndr_syntax = record {
   uuid = 0x8a ∷ 0x88 ∷ 0x5d ∷ 0x04 ∷ 0x1c ∷ 0xeb ∷ 0x11 ∷ 0xc9 ∷ 0x9f ∷ 0xe8 ∷ 0x08 ∷ 0x00 ∷ 0x2b ∷ 0x10 ∷ 0x48 ∷ 0x60 ∷ [];
@@ -41,45 +42,48 @@ is_compatible wanted tower = serves tower.interface wanted.interface && is_ndr t
 abbrev pub binding_to : List ℕ → RpcTower → StringBinding
 binding_to object tower = record { object = object; protseq = tower.protseq; address = tower.address; port = tower.port }
 
--- The binding that there is for the client in a tower, if it is that of an RPC server (own).
+-- The binding that there is for the client in a tower, if it is that of an RPC server.
 abbrev pub compatible_binding : Wanted → List ℕ → Option RpcTower → Option StringBinding
 compatible_binding wanted object None = None
 compatible_binding wanted object (Some tower) = if is_compatible wanted tower then Some (binding_to object tower) else None
 
--- The same in a value of `CDS_Towers` (own).
+-- The same in a value of `CDS_Towers`.
 abbrev pub binding_in : Wanted → List ℕ → List ℕ → Option StringBinding
 binding_in wanted object octets = compatible_binding wanted object (rpc_tower_of octets)
 
--- The values of `RPC_ObjectUUIDs` that are objects: those of 16 octets (own).
+-- The values of `RPC_ObjectUUIDs` that are objects: those of 16 octets.
 abbrev pub objects_in : List (List ℕ) → List (List ℕ)
 objects_in held = filter (λ v. length v == 16) held
 
--- The least object of an entry (own).
+-- The least object of an entry.
 abbrev pub least_object : List (List ℕ) → Option (List ℕ)
 least_object held = slice_get (in_ascending_order (objects_in held)) 0
 
--- The lesser of octets and of those that there may be beside them (own).
+-- The lesser of octets and of those that there may be beside them.
 abbrev pub lesser : List ℕ → Option (List ℕ) → List ℕ
 lesser v None = v
 lesser v (Some w) = by_order (octets_cmp v w) v w w
 
--- The object that bindings carry. Where the nil object is wanted it is the entry's least, or nil where there is none.
--- Another is the wanted one, where the entry has it, and else there is no binding (own, after C706, importing bindings).
+-- The object that bindings carry. Where the nil object is wanted it is the entry's least, or nil
+-- where there is none. Another is the wanted one, where the entry has it, and else there is no
+-- binding (own, after C706, importing bindings).
 abbrev pub object_to_carry : List ℕ → List (List ℕ) → Option (List ℕ)
 object_to_carry wanted held =
     if is_nil_bytes wanted then Some (unwrap_or (least_object held) zero_bytes)
     else (if list_any (λ v. bytes_eq v wanted) held then Some wanted else None)
 
--- The bindings of an entry with these values, in the order of the towers (own, after C706, importing bindings).
+-- The bindings of an entry with these values, in the order of the towers (own, after C706,
+-- importing bindings).
 abbrev pub bindings_of : Wanted → (towers held : List (List ℕ)) → List StringBinding
 bindings_of wanted towers held = option_map_or (λ object. filter_map (binding_in wanted object) towers) (object_to_carry wanted.object held) []
 
--- The same in ascending order of the octets of the towers, each once (own, after C706, importing bindings).
+-- The same in ascending order of the octets of the towers, each once (own, after C706, importing
+-- bindings).
 abbrev pub entry_bindings : Wanted → (towers held : List (List ℕ)) → List StringBinding
 entry_bindings wanted towers held = bindings_of wanted (in_ascending_order towers) held
 
--- The binding is one to a compatible server whose tower the entry has, and carries the object that it is to (own, after
--- C706, importing bindings).
+-- The binding is one to a compatible server whose tower the entry has, and carries the object that
+-- it is to (own, after C706, importing bindings).
 pub record IsBindingOf (wanted : Wanted) (towers held : List (List ℕ)) (binding : StringBinding) : Type 0 where
   pub octets : List ℕ
   pub tower : RpcTower

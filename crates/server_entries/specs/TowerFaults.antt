@@ -6,8 +6,9 @@ use Rattle.tower_codec.specs.Rpc.{IsRpcTower}
 use Rattle.server_entries.specs.declared.tower.ServerFault.{ServerFault}
 use Rattle.server_entries.specs.declared.tower.ServerFault.TheVariants.{BadTower, Trailing, NotRpcTower}
 
--- The fault of octets: they begin no tower; octets stand behind the tower, the first of them at this place, counted from
--- 1; they are a tower, and that of no RPC server (own, after C706, protocol towers).
+-- The fault of octets: they begin no tower; octets stand after the tower, the first of them at this
+-- place, counted from 1; they are a tower, and that of no RPC server (own, after C706, protocol
+-- towers).
 abbrev pub IsServerFault : List ℕ → ServerFault → Type 0
 IsServerFault octets (BadTower fault) = IsFault octets fault
 IsServerFault octets (Trailing place) =

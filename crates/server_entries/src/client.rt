@@ -47,7 +47,7 @@ fn is_ndr(syntax: &Interface) -> bool
     syntax.uuid == ndr().uuid && syntax.major == 2
 }
 
-// Puts a binding behind the others, if there is one.
+// Puts a binding after the others, if there is one.
 fn push_some(
     list: &mut Vec<StringBinding>,
     binding: Option<StringBinding>,
@@ -95,7 +95,8 @@ impl Wanted {
         }
     }
 
-    // The bindings that there are for the client in these values, in their order, which carry the object.
+    // The bindings that there are for the client in these values, in their order, which carry the
+    // object.
     fn bindings_in(
         &self,
         alloc: Global,
@@ -174,8 +175,8 @@ fn carried_object(wanted: Uuid, held: &[&Value]) -> Option<Uuid>
     None
 }
 
-/// The bindings that an entry with these values of `CDS_Towers` and `RPC_ObjectUUIDs` has for a client, in ascending
-/// order of the octets of the towers, each tower once.
+/// The bindings that an entry with these values of `CDS_Towers` and `RPC_ObjectUUIDs` has for a
+/// client, in ascending order of the octets of the towers, each tower once.
 pub fn bindings(
     alloc: Global,
     towers: &[Value],
@@ -201,8 +202,8 @@ fn all_of(alloc: Global, values: &[Value]) -> Result<Vec<&Value>, AllocError>
     Ok(all)
 }
 
-/// The bindings of an entry with these values, in the order of the towers: where they ascend, as those that show of an entry
-/// do, the order of `bindings`.
+/// The bindings of an entry with these values, in the order of the towers: where they ascend, as
+/// those that show of an entry do, the order of `bindings`.
 pub fn bindings_in_order(
     alloc: Global,
     towers: &[&Value],

@@ -141,8 +141,9 @@ pub fn check_export(bindings: &[StringBinding], objects: &[Uuid]) -> Result<(), 
     Ok(())
 }
 
-/// The updates that export a server: the entry is made where it is absent, and gets the towers of the interface at the
-/// bindings and then the objects, each in the order given. No memory is asked for where there is a fault.
+/// The updates that export a server: the entry is made where it is absent, and gets the towers of
+/// the interface at the bindings and then the objects, each in the order given. No memory is asked
+/// for where there is a fault.
 pub fn export(
     alloc: Global,
     name: &SimpleName,
@@ -284,9 +285,10 @@ fn unexported_updates(
     removals(alloc, name, &towers, &objects)
 }
 
-/// The updates that unexport a server from an entry with these values of `CDS_Towers` and `RPC_ObjectUUIDs`: the towers
-/// of the interface, whatever their transfer syntax, and then the values that are one of the objects are removed, each in
-/// ascending order of their octets and once. No memory is asked for where there is a fault.
+/// The updates that unexport a server from an entry with these values of `CDS_Towers` and
+/// `RPC_ObjectUUIDs`: the towers of the interface, whatever their transfer syntax, and then the
+/// values that are one of the objects are removed, each in ascending order of their octets and
+/// once. No memory is asked for where there is a fault.
 pub fn unexport(
     alloc: Global,
     name: &SimpleName,

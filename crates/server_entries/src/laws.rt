@@ -15,7 +15,8 @@ ghost use Rattle.server_entries.specs.ServerTowers.{IsServerTower, rpc_tower_of}
 ghost use Rattle.server_entries.specs.Clients.{wants, object_to_carry, entry_bindings, IsBindingOf};
 ghost use Rattle.server_entries.specs.Exports.{exported_tower, export_changes, tower_goes, unexport_changes};
 
-/// The RPC server that is read of octets is the one whose tower they are, and each such tower is read.
+/// The RPC server that is read of octets is the one whose tower they are, and each such tower is
+/// read.
 pub fn server_towers_are_read()
     ensures { (octets : List ℕ) (tower : RpcTower) → AllByRecursion (λ n. n < 256) octets
         → rpc_tower_of octets ≡ Some tower ↔ IsServerTower octets tower }
@@ -28,7 +29,8 @@ pub fn bindings_are_compatible()
         ↔ IsBindingOf wanted towers held binding }
 {}
 
-/// A server that was exported is found: an entry that has its tower has its binding for each client that it serves.
+/// A server that was exported is found: an entry that has its tower has its binding for each client
+/// that it serves.
 pub fn exported_servers_are_found()
     ensures { (wanted : Wanted) (interface : Interface) (binding : StringBinding) (object : List ℕ)
         (towers held : List (List ℕ)) → IsInterface interface → FitsBinding binding
@@ -45,8 +47,8 @@ pub fn exported_servers_can_go()
         → tower_goes (Some interface) (rpc_octets (exported_tower interface binding)) ≡ true }
 {}
 
-/// The updates of servers are accepted one after the other: those that export one, whether the entry shows or is absent,
-/// and those that unexport one from an entry that shows.
+/// The updates of servers are accepted one after the other: those that export one, whether the
+/// entry shows or is absent, and those that unexport one from an entry that shows.
 pub fn server_updates_are_accepted()
     ensures exports { (h : List Mark) (n : List ℕ) (interface : Interface)
         (bindings : List StringBinding)

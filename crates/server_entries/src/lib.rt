@@ -1,5 +1,5 @@
-//! Entries of servers: their towers and objects, how a server is exported and unexported, and which bindings an entry
-//! has for a client.
+//! Entries of servers: their towers and objects, how a server is exported and unexported, and which
+//! bindings an entry has for a client.
 #![tactic(auto)]
 
 mod client;

@@ -15,7 +15,7 @@ use tower_codec::{RpcTower, TowerFault, TowerView};
 pub enum ServerFault {
     #[error("no tower: {0}")]
     BadTower(TowerFault),
-    /// The place is that of the first octet behind the tower, counted from 1.
+    /// The place is that of the first octet after the tower, counted from 1.
     #[error("octets follow the tower, from place {0} on")]
     Trailing(usize),
     #[error("no tower of an RPC server over TCP or UDP")]

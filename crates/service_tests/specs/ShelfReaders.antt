@@ -1,4 +1,4 @@
--- Words of tests alone: a reader of an object and of two links to it, one behind the other. Own.
+-- Words of tests alone: a reader of an object and of two links to it, one after the other. Own.
 use Rattle.std.specs.Prelude.{ℕ, true, List, [], ◌∷◌, codes}
 use Rattle.resolver.specs.declared.seen.Seen.{Seen}
 use Rattle.resolver.specs.declared.seen.Seen.TheVariants.{Link, Object}

@@ -1,5 +1,5 @@
-// A clerk over an object `e` and two links in memory, `l` to `m` and `m` to `e`: what it keeps where answers change, and where memory is
-// wanting.
+// A clerk over an object `e` and two links in memory, `l` to `m` and `m` to `e`: what it keeps
+// where answers change, and where memory is wanting.
 ghost use Rattle.std.specs.Prelude.{◌≡◌, ◌∷◌, [], true, IfOk};
 ghost use Rattle.resolver.specs.ListedReaderProofs.{listed_shows_only};
 ghost use Rattle.resolver.specs.ListedReaders.{objects_in};
@@ -17,8 +17,8 @@ use std::test::Fail;
 // The house that has the root directory and the links.
 const HOUSE: HouseNo = HouseNo(1);
 
-// The house that shows the object, where the links lead, the value of each attribute, and how many calls are answered before memory is
-// wanting.
+// The house that shows the object, where the links lead, the value of each attribute, and how many
+// calls are answered before memory is wanting.
 #[derive(Drop)]
 struct Shelf {
     house: HouseNo,
@@ -76,7 +76,8 @@ impl EntryReader for Shelf {
 }
 
 impl Shelf {
-    // The object at a house, whose number is the value of each attribute; so many calls are answered.
+    // The object at a house, whose number is the value of each attribute; so many calls are
+    // answered.
     fn new(alloc: Global, house: u8, calls: u32) -> Result<Shelf, Fail> {
         Ok(Shelf {
             house: HouseNo(house),
@@ -155,7 +156,8 @@ fn value(
 fn answers_stay_as_they_were(rt: HostRuntime) -> Result<(), Fail> {
     let alloc = rt.alloc();
     let mut clerk = Clerk::new(alloc, 4, HOUSE)?;
-    // The house of the object, the confidence, and the answer: the first one is kept, and at high confidence it counts for nothing.
+    // The house of the object, the confidence, and the answer: the first one is kept, and at high
+    // confidence it counts for nothing.
     for (house, high, want) in [(1, false, 1), (2, false, 1), (2, true, 2), (2, false, 1)] {
         let reader = Shelf::new(alloc, house, 3)?;
         assert_eq!(rt; seen(alloc, &mut clerk, &reader, high, b"e")?, Some(want));

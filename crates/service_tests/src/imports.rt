@@ -21,8 +21,9 @@ use tower_codec::read_uuid;
 // The house that has the root directory.
 const HOUSE: HouseNo = HouseNo(1);
 
-// A reader of two objects of the root directory, `a` and `b`. Each has this tower and this member of a group. Memory may be
-// wanting for what `b` has. It counts how often it is asked where the root directory is.
+// A reader of two objects of the root directory, `a` and `b`. Each has this tower and this member
+// of a group. Memory may be wanting for what `b` has. It counts how often it is asked where the
+// root directory is.
 #[derive(Drop)]
 struct Pair {
     tower: Value,
@@ -112,7 +113,8 @@ fn pair_of(alloc: Global, wanting: bool) -> Result<Pair, Fail> {
     })
 }
 
-// How many bindings an import of `a` gives, up to its end or to want of memory, and whether it is spent then.
+// How many bindings an import of `a` gives, up to its end or to where memory runs out, and whether
+// it is spent then.
 fn given(alloc: Global, wanting: bool) -> Result<(usize, bool), Fail> {
     let reader = pair_of(alloc, wanting)?;
     let wanted = wanted(&reader.tower)?;
@@ -147,8 +149,8 @@ fn a_lookup_gives_batches(rt: HostRuntime) -> Result<(), Fail> {
     Ok(())
 }
 
-// What a look-up of `a` gives in batches of so many bindings, where there is no memory for what `b` has: the numbers of the bindings of
-// two batches, or none where memory ran out.
+// What a look-up of `a` gives in batches of so many bindings, where there is no memory for what `b`
+// has: the numbers of the bindings of two batches, or none where memory ran out.
 fn batches_before_b(alloc: Global, most: usize) -> Result<[Option<usize>; 2], Fail>
     requires { 1 ≤ most }
 {

@@ -5,7 +5,8 @@ use server_entries::tower_of_value;
 use std::alloc::Global;
 use std::test::Fail;
 
-// A server of the interface e1af8308-5d1f-11c9-91a4-08002b14a0fa 3.0 at TCP port 135 of an address with this last part.
+// A server of the interface e1af8308-5d1f-11c9-91a4-08002b14a0fa 3.0 at TCP port 135 of an address
+// with this last part.
 fn tower_at(alloc: Global, last: u8) -> Result<Value, Fail> {
     let mut octets = b"\x05\0\
         \x13\0\x0d\x08\x83\xaf\xe1\x1f\x5d\xc9\x11\x91\xa4\x08\0\x2b\x14\xa0\xfa\x03\0\x02\0\0\0\

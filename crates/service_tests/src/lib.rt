@@ -1,5 +1,5 @@
-//! Tests of the name service and of lines of scripts, of what neither a clause nor a case says: how far an import searches, and calls
-//! that take memory and that the program does not make.
+//! Tests of the name service and of lines of scripts, of what neither a clause nor a case says: how
+//! far an import searches, and calls that take memory and that the program does not make.
 #![tactic(auto)]
 
 #[cfg(test)]

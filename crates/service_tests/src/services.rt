@@ -14,7 +14,7 @@ fn values(alloc: Global, list: &[&[u8]]) -> Result<Vec<Value>, Fail> {
     Ok(values)
 }
 
-// Names, each behind a space.
+// Names, each after a space.
 fn spelled(alloc: Global, names: &[FullName]) -> Result<Vec<u8>, Fail> {
     let mut text = Vec::new(alloc);
     for name in names {
@@ -49,8 +49,8 @@ fn a_value_spells_a_member(rt: HostRuntime) -> Result<(), Fail> {
     Ok(())
 }
 
-// Elements for version 1.2 of an interface at priority 3, for any interface, for 1.3 and for 1.1 at 0, a value that is none, and one
-// more for any interface and for 1.2.
+// Elements for version 1.2 of an interface at priority 3, for any interface, for 1.3 and for 1.1 at
+// 0, a value that is none, and one more for any interface and for 1.2.
 #[rattlefmt::skip]
 static PROFILE: [&[u8]; 7] = [
     b"\x03AAAAAAAAAAAAAAAA\x00\x01\x00\x02\x00\x05/.:/bnote",

@@ -54,7 +54,7 @@ module _ (own t : Stamp) (answered now : MemberMask) (from members : ℕ) (old :
         refl,
       )))
 
-  -- an answer of the first round behind which a member is missing
+  -- an answer of the first round after which a member is missing
   pub one_gathered : (me : ℕ) → old ≡ Gathering own answered → each_place members (has_place now) ≡ false
       → TakesGathered t from members me old (Gathering t now) Nothing
   one_gathered me was missing =
@@ -77,7 +77,7 @@ module _ (own t : Stamp) (answered now : MemberMask) (from members : ℕ) (old :
       (at_true (is_stamp t own) _ _ (is_own own t (same_stamps own t same))
       (at_true (each_place members (also answered from)) _ _ (counted true full) (refl, ap Complete (same_stamps own t same))))
 
-  -- an answer of the second round behind which a member is missing
+  -- an answer of the second round after which a member is missing
   pub one_spread : old ≡ Spreading own answered → each_place members (has_place now) ≡ false → TakesSpread t from members old (Spreading t now) Nothing
   one_spread was missing =
       subst (λ o. TakesSpread t from members o (Spreading t now) Nothing) (sym was)

@@ -1,4 +1,5 @@
--- The two rounds of a skulk at its master: what each call answers and leaves (own, after C705, skulks).
+-- The two rounds of a skulk at its master: what each call answers and leaves (own, after C705,
+-- skulks).
 use Rattle.std.specs.Prelude.{◌≡◌, ℕ, ◌≤◌, Bool, true, false, ◌||◌, ◌==◌, MatchBool, Option, Some, None}
 use Rattle.cds_stamps.specs.declared.stamp.Stamp.{Stamp}
 use Rattle.cds_stamps.specs.Stamps.{is_stamp}
@@ -27,13 +28,15 @@ running_stamp Idle = None
 running_stamp (Gathering t answered) = Some t
 running_stamp (Spreading t answered) = Some t
 
--- the first round of t runs, and the test says which members have answered in it (own, after C705, skulks)
+-- the first round of t runs, and the test says which members have answered in it (own, after C705,
+-- skulks)
 pub record IsGathering (t : Stamp) (test : ℕ → Bool) (s : Skulk) : Type 0 where
   pub mask : MemberMask
   pub round : s ≡ Gathering t mask
   pub places : (p : ℕ) → has_place mask p ≡ test p
 
--- the second round of t runs, and the test says which members have answered in it (own, after C705, skulks)
+-- the second round of t runs, and the test says which members have answered in it (own, after C705,
+-- skulks)
 pub record IsSpreading (t : Stamp) (test : ℕ → Bool) (s : Skulk) : Type 0 where
   pub mask : MemberMask
   pub round : s ≡ Spreading t mask
@@ -41,7 +44,8 @@ pub record IsSpreading (t : Stamp) (test : ℕ → Bool) (s : Skulk) : Type 0 wh
 
 -- ---- calls
 
--- a skulk begins: at the only member it is complete; else its first round runs, and the master alone has answered (own, after C705, skulks)
+-- a skulk begins: at the only member it is complete; else its first round runs, and the master
+-- alone has answered (own, after C705, skulks)
 abbrev pub Begins : Stamp → (members me : ℕ) → (new : Skulk) → Next → Type 0
 Begins t members me new next =
     MatchBool (members == 1) ((new ≡ Idle) × (next ≡ Complete t)) (IsGathering t (only me) new × (next ≡ Nothing))
@@ -54,7 +58,8 @@ IsStale old new next = (new ≡ old) × (next ≡ Stale (running_stamp old))
 abbrev pub Waits : (old new : Skulk) → Next → Type 0
 Waits old new next = (new ≡ old) × (next ≡ Nothing)
 
--- an answer of the first round: the last one missing begins the second, in which the master alone has answered (own, after C705, skulks)
+-- an answer of the first round: the last one missing begins the second, in which the master alone
+-- has answered (own, after C705, skulks)
 abbrev pub Gathers : Stamp → MemberMask → (from members me : ℕ) → (new : Skulk) → Next → Type 0
 Gathers t answered from members me new next =
     MatchBool (each_place members (also answered from))
@@ -86,7 +91,8 @@ TakesSpread t from members (Spreading u answered) new next =
 
 -- ---- what every phase keeps
 
--- a round of so many members: no others have answered, the master has, and a member is missing (own)
+-- a round of so many members: no others have answered, the master has, and a member is missing
+-- (own)
 pub record IsRound (members me : ℕ) (answered : MemberMask) : Type 0 where
   pub no_others : (p : ℕ) → members ≤ p → has_place answered p ≡ false
   pub master : has_place answered me ≡ true

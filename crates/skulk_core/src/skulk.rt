@@ -5,8 +5,9 @@ ghost use Rattle.skulk_core.specs.MasterRounds.{Begins, TakesGathered, TakesSpre
 
 use cds_stamps::{MemberMask, Stamp};
 
-/// What a master does about its skulk of a directory: nothing, or the first or second round of the stamp t, with the
-/// members that have answered in that round. The master itself has, from the start of each.
+/// What a master does about its skulk of a directory: nothing, or the first or second round of the
+/// stamp t, with the members that have answered in that round. The master itself has, from the
+/// start of each.
 #[derive(Clone, Copy, Debug, PartialEq, Eq)]
 pub enum Skulk {
     Idle,
@@ -28,8 +29,8 @@ pub enum Next {
 }
 
 impl Skulk {
-    /// A skulk begins, in the place of one that runs: its first round, or, at a master that is the only member,
-    /// nothing, since it is complete.
+    /// A skulk begins, in the place of one that runs: its first round, or, at a master that is the
+    /// only member, nothing, since it is complete.
     pub fn begin(&mut self, t: Stamp, members: usize, me: usize) -> Next
         requires few { members ≤ most_members }
         requires me { me < members }

@@ -42,7 +42,7 @@ mark_cut mark (c ∷ front) back none =
 no_mark : (mark : ℕ) (text : List ℕ) → cut_at_mark mark text ≡ None → HasMark mark text → ⊥
 no_mark mark text none has = mark_cut mark has.0 has.1 (ap (cut_at_mark mark) (sym has.2) ∙ none)
 
--- no mark stands before the first
+-- no mark is before the first
 first_mark : (mark : ℕ) (text : List ℕ) (p : List ℕ × List ℕ) → cut_at_mark mark text ≡ Some p → HasMark mark p.0 → ⊥
 unfolding cut_at_mark
 first_mark mark [] p e has = absurd cc
@@ -157,7 +157,7 @@ address_fails text e fails =
           ]
     ]
 
--- what stands in front of where an endpoint may begin
+-- what is in front of where an endpoint may begin
 parts_again : (front rest : List ℕ) → lacks 91 front ≡ true → MayBeEndpoint rest → endpoint_parts (front ++ rest) ≡ (front, rest)
 unfolding endpoint_parts
 parts_again front rest lack (inl none) =

@@ -88,7 +88,7 @@ unfolding protseq_named
 named_again Tcp = refl
 named_again Udp = refl
 
--- A protocol sequence that is read stands in front with its mark.
+-- A protocol sequence that is read is in front with its mark.
 pub protseq_found : (text : List ℕ) (y : Protseq × List ℕ) → protseq_at text ≡ Ok y → text ≡ protseq_name y.0 ++ 58 ∷ y.1
 unfolding protseq_at
 protseq_found text y h =
@@ -197,7 +197,7 @@ guard_some : {A : Type 0} (b : Bool) (o : Option A) (y : A) → cond b o None �
 guard_some true o y e = (refl, e)
 guard_some false o y e = absurd cc
 
--- The endpoint's part behind the rest of the text.
+-- The endpoint's part after the rest of the text.
 record EndpointStands (text : List ℕ) (parts : List ℕ × List ℕ) (port : ℕ) : Type 0 where
   is : IsEndpointPart parts.1 port
   small : port < 2 ^ 16

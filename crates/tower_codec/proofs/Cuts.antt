@@ -9,7 +9,7 @@ use Rattle.tower_codec.specs.BindingReading.{cut_at_mark}
 abbrev Parts : Type 0
 Parts = Option (List ℕ × List ℕ)
 
--- A cut behind a front that has no mark.
+-- A cut after a front that has no mark.
 abbrev pub behind : List ℕ → Option (List ℕ × List ℕ) → Option (List ℕ × List ℕ)
 behind front parts = option_map (λ p. (front ++ p.0, p.1)) parts
 
@@ -61,14 +61,14 @@ lacks-append mark (c ∷ a) b g h =
     let parts = and_parts (not (eqb c mark)) (lacks mark a) g in
     and_from (not (eqb c mark)) (lacks mark (a ++ b)) parts.0 (lacks-append mark a b parts.1 h)
 
--- A text lacks a mark that stands at none of its places.
+-- A text lacks a mark that is at none of its places.
 pub lacks_from : (mark : ℕ) (text : List ℕ) → ((k : ℕ) → k < length text → get_or text k 0 ≡ mark → ⊥) → lacks mark text ≡ true
 lacks_from mark [] other = refl
 lacks_from mark (c ∷ text) other =
     and_from (not (eqb c mark)) (lacks mark text) (not_from_false (eqb c mark) (ne_eqb c mark (other 0 (omega arith))))
     (lacks_from mark text (λ k within. other (suc k) (omega arith)))
 
--- A text is cut at a mark behind a front that lacks it.
+-- A text is cut at a mark after a front that lacks it.
 pub cut_again : (mark : ℕ) (front back : List ℕ) → lacks mark front ≡ true → cut_at_mark mark (front ++ mark ∷ back) ≡ Some (front, back)
 unfolding cut_at_mark
 cut_again mark [] back h = rw (eq-eqb mark mark refl) refl

@@ -45,7 +45,7 @@ short_length = (refl, (1 ∷ [], inl ([], lit< tt, refl), lit< tt))
 short_part : IsFault (1 ∷ 0 ∷ 2 ∷ 0 ∷ 11 ∷ []) (ShortPart 6)
 short_part = (refl, (2, 11 ∷ [], (2 ∷ 0 ∷ 11 ∷ [], (lit< tt, lit< tt, refl, refl), inl (lit< tt, ([], lit< tt, refl))), lit< tt))
 
--- A left length 0 stands at places 3 and 4.
+-- A left length 0 is at places 3 and 4.
 empty_left : IsFault (1 ∷ 0 ∷ 0 ∷ 0 ∷ []) (EmptyLeft 3)
 empty_left = ([], ([], lit< tt, refl), refl)
 
@@ -86,7 +86,7 @@ bare_printed : binding_text (record { object = zero_bytes; protseq = Tcp; addres
 unfolding digits
 bare_printed = refl
 
--- The endpoint stands in brackets.
+-- The endpoint is in brackets.
 port_printed : binding_text (record { object = zero_bytes; protseq = Udp; address = 10 ∷ 0 ∷ 0 ∷ 1 ∷ []; port = 1026 }) ≡ codes "ncadg_ip_udp:10.0.0.1[1026]"
 unfolding digits
 port_printed = refl

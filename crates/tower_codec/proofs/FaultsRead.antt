@@ -125,7 +125,7 @@ abbrev right_steps : ℕ → List ℕ × List ℕ → Result (Floor × List ℕ)
 right_steps past left =
     length_at past left.1 >>= λ m. part_at past m.0 m.1 >>= λ right. Ok (record { left = left.0; right = right.0 }, right.1)
 
--- The fault of a right length or a right part, behind a left part of the first floor.
+-- The fault of a right length or a right part, after a left part of the first floor.
 right_fault : (past count : ℕ) (x left field : List ℕ) (fault : TowerFault) → IsBytes field → 0 < count → 0 < length left → IsPart x left field
     → right_steps past (left, field) ≡ Err fault → IsFloorsFault past count x fault
 right_fault past count x left field fault bytes some full h e =
@@ -140,7 +140,7 @@ right_fault past count x left field fault bytes some full h e =
           ])
     ]
 
--- The fault of a left part of the first floor, or of what is behind it.
+-- The fault of a left part of the first floor, or of what is after it.
 left_fault : (past count : ℕ) (x : List ℕ) (len : ℕ) (rest : List ℕ) (fault : TowerFault) → IsBytes rest → 0 < count → length x ≤ past → IsNumber x len rest
     → (cond (eqb len 0) (Err (EmptyLeft (past - length x))) (part_at past len rest) >>= right_steps past) ≡ Err fault → IsFloorsFault past count x fault
 left_fault past count x len rest fault bytes some within h e =
@@ -172,7 +172,7 @@ first_fault past count x fault bytes some within e =
           left_fault past count x a.0.0 a.0.1 fault number.1 some within number.0 a.2)
     ]
 
--- The fault behind a whole floor.
+-- The fault after a whole floor.
 due_later : (count : ℕ) (x : List ℕ) (floor : Floor) (y rest : List ℕ) → IsFloor x floor y → IsFloorDue count y rest → IsFloorDue (suc count) x rest
 due_later count x floor y rest h due = (floor ∷ due.0, omega (arith, due.1), (y, h, due.2))
 

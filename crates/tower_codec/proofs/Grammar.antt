@@ -9,15 +9,15 @@ use Rattle.tower_codec.specs.Tower.{Floor, IsNumber, IsPart, IsFloor, AreFloors}
 abbrev pub IsBytes : List ℕ → Type 0
 IsBytes octets = (i : ℕ) → get_or octets i 0 < 256
 
--- Octets behind a front are octets.
+-- Octets after a front are octets.
 pub IsBytes-rest : (front rest : List ℕ) → IsBytes (front ++ rest) → IsBytes rest
 IsBytes-rest front rest bytes i = rw get_or-append-add at (bytes (length front + i))
 
--- Octets behind the first are octets.
+-- Octets after the first are octets.
 pub IsBytes-tail : (b : ℕ) (rest : List ℕ) → IsBytes (b ∷ rest) → IsBytes rest
 IsBytes-tail b rest bytes i = bytes (suc i)
 
--- ---- More octets behind change nothing.
+-- ---- More octets after change nothing.
 
 number_before : (x : List ℕ) (n : ℕ) (rest more : List ℕ) → IsNumber x n rest → IsNumber (x ++ more) n (rest ++ more)
 number_before [] n rest more h = absurd h
@@ -38,7 +38,7 @@ floors_before x [] rest more h = ap (λ (y : List ℕ). y ++ more) h
 floors_before x (floor ∷ floors) rest more h =
     (h.0 ++ more, floor_before x floor h.0 more h.1, floors_before h.0 floors rest more h.2)
 
--- ---- What stands in front.
+-- ---- What is in front.
 
 -- x is a front and the rest, and the front alone is what P says.
 abbrev pub Fronts : List ℕ → List ℕ → (List ℕ → List ℕ → Type 0) → Type 0

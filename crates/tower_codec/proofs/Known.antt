@@ -51,7 +51,7 @@ floor_ahead count i x within known =
     let rest = (known_floor_is x (known_floor x) parts.0 parts.1).1 in
     (rw rest parts.1, subst (λ (y : List ℕ). AreFloors y (known_floors m (after_known_floor x)) []) (sym rest) parts.2)
 
--- One floor on, the other floors are known behind it.
+-- One floor on, the other floors are known after it.
 pub walk_on : (count i : ℕ) (x : List ℕ) (all : List Floor) → i < count → IsAhead count i x all → IsAhead count (i + 1) (after_known_floor x) all
 unfolding known_floors
 walk_on count i x all within ahead =
@@ -68,7 +68,7 @@ slice_get-drop zero all = refl
 slice_get-drop (suc i) [] = refl
 slice_get-drop (suc i) (floor ∷ all) = slice_get-drop i all
 
--- The floor behind those passed is the next of all.
+-- The floor after those passed is the next of all.
 pub found_ahead : (count i : ℕ) (x : List ℕ) (all : List Floor) → i < count → known_floors (count - i) x ≡ drop i all → Some (known_floor x) ≡ slice_get all i
 unfolding known_floors
 found_ahead count i x all within floors =
@@ -82,13 +82,13 @@ unfolding known_floors
 none_ahead zero x none = refl
 none_ahead (suc count) x none = absurd (omega arith)
 
--- the first of some floors, and those behind it
+-- the first of some floors, and those after it
 pub record StandsFirst (count : ℕ) (x : List ℕ) : Type 0 where
   pub stands : IsFloor x (known_floor x) (after_known_floor x)
   pub behind : AreFloors (after_known_floor x) (known_floors (count - 1) (after_known_floor x)) []
   pub floors : known_floors count x ≡ known_floor x ∷ known_floors (count - 1) (after_known_floor x)
 
--- The first floor is known, and so are those behind it.
+-- The first floor is known, and so are those after it.
 pub first_ahead : (count : ℕ) (x : List ℕ) → count ≢ 0 → AreFloors x (known_floors count x) [] → StandsFirst count x
 unfolding known_floors
 first_ahead count x some known =

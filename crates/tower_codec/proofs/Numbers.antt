@@ -97,7 +97,7 @@ spelled most n text fits e first some =
     let are = digits_are most n text e in
     (sym (decimal-digits_value own text are.0 some first (omega (arith, are.1, are.2))) ∙ ap decimal are.1, are.2)
 
--- A number that is read stands there in decimal.
+-- A number that is read is there in decimal.
 pub number_found : (most n : ℕ) (text : List ℕ) → most < 2 ^ 64 → number_of most text ≡ Some n → (text ≡ decimal n) × (n ≤ most)
 unfolding number_of
 number_found most n [] fits e = absurd cc

@@ -93,7 +93,7 @@ floors_push x floors floor h fits =
     (floor_again floor [] fits) in
     push_behind (x ++ floor_octets floor) floors (floor_octets floor) floor (floors_before x floors [] (floor_octets floor) h) one
 
--- A writer's octets with one more floor behind them and counted are the tower of one more floor.
+-- A writer's octets with one more floor after them and counted are the tower of one more floor.
 pub tower_push : (floors : List Floor) (x : List ℕ) (floor : Floor) → IsTower floors x → length floors + 1 < 2 ^ 16 → FloorFits floor
     → IsTower (floors ++ floor ∷ []) (number_octets (length floors + 1) ++ drop 2 (x ++ floor_octets floor))
 tower_push floors [] floor h room fits = absurd h.1

@@ -11,7 +11,7 @@ use Rattle.tower_codec.proofs.StepLaws.{ok_is, bind_ok, guard_ok}
 use Rattle.tower_codec.proofs.Grammar.{IsBytes, IsBytes-rest, IsBytes-tail, floors_before, floors_front}
 use Rattle.tower_codec.proofs.Known.{known_floors_are}
 
--- ---- What was read stands there.
+-- ---- What was read is there.
 
 -- Two octets and the number that they spell, in front of the rest.
 record Spells (x : List ℕ) (n : ℕ) (rest : List ℕ) : Type 0 where
@@ -27,7 +27,7 @@ length_spells past (low ∷ high ∷ x) y e =
     let same = ok_is (low + 256 * high, x) y e in
     record { low = low; high = high; octets = ap (λ (p : ℕ × List ℕ). low ∷ high ∷ p.1) same; value = ap (λ (p : ℕ × List ℕ). p.0) (sym same) }
 
--- A part that is read stands in front.
+-- A part that is read is in front.
 pub part_stands : (past len : ℕ) (x : List ℕ) (y : List ℕ × List ℕ) → part_at past len x ≡ Ok y → (x ≡ y.0 ++ y.1) × (length y.0 ≡ len)
 part_stands past len x y e =
     let g = guard_ok (ltb (length x) len) (ShortPart past) (Ok (take len x, drop len x)) y e in
@@ -95,7 +95,7 @@ is_number x n rest bytes s =
 pub length_read : (past : ℕ) (x : List ℕ) (y : ℕ × List ℕ) → IsBytes x → length_at past x ≡ Ok y → IsNumber x y.0 y.1 × IsBytes y.1
 length_read past x y bytes e = is_number x y.0 y.1 bytes (length_spells past x y e)
 
--- A floor that is read stands in front.
+-- A floor that is read is in front.
 pub floor_read : (past : ℕ) (x : List ℕ) (floor : Floor) (rest : List ℕ) → IsBytes x → floor_at past x ≡ Ok (floor, rest) → IsFloor x floor rest × IsBytes rest
 floor_read past x floor rest bytes e =
     let s = floor_stands past x (floor, rest) e in
@@ -121,7 +121,7 @@ after_floors_shorter past (suc count) x rest e =
     let a = bind_ok (floor_at past x) (λ first. after_floors past count first.1) rest e in
     omega (arith, floor_at_shorter past x a.0.0 a.0.1 a.1, after_floors_shorter past count a.0.1 rest a.2)
 
--- ---- What stands there is read.
+-- ---- What is there is read.
 
 -- The octets of a length are read as it.
 pub length_again : (past : ℕ) (x : List ℕ) (n : ℕ) (rest : List ℕ) → IsNumber x n rest → length_at past x ≡ Ok (n, rest)
@@ -157,7 +157,7 @@ floors_again past x (floor ∷ floors) rest h = rw (floor_again past x floor h.0
 
 -- ---- A tower at the front, by its number of floors and their octets.
 
--- What stands in front of the rest, by the lengths, and by its own.
+-- What is in front of the rest, by the lengths, and by its own.
 front_by_rest : (x front rest : List ℕ) → x ≡ front ++ rest → take (length x - length rest) x ≡ front
 front_by_rest x front rest e =
     let len : length x - length rest ≡ length front = omega (arith, ap length e, length-append front rest) in

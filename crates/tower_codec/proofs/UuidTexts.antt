@@ -22,7 +22,7 @@ pub uuid_read : {E : Type 0} (r : Result (List ℕ) E) (text : List ℕ) → len
 uuid_read (Ok x) text len ok bytes = bytes ∙ at_36 text len
 uuid_read (Err e) text len ok bytes = none_of (parsed_hyphenated text) (λ x e. true≢false (sym (ok.1 (x, at_36 text len ∙ e))))
 
--- ---- What stands in a hyphenated form.
+-- ---- What is in a hyphenated form.
 
 guard_some : {A : Type 0} (b : Bool) (o : Option A) (y : A) → cond b o None ≡ Some y → (b ≡ true) × (o ≡ Some y)
 guard_some true o y e = (refl, e)

@@ -7,7 +7,7 @@ use Rattle.tower_codec.specs.TowerReading.{known_floors}
 use Rattle.tower_codec.proofs.Known.{known_floors_are, length-known_floors}
 use Rattle.tower_codec.proofs.SpellingLaws.{tower_push}
 
--- The floors of a tower are found behind their number.
+-- The floors of a tower are found after their number.
 pub tower_known : (floors : List Floor) (x : List ℕ) → IsTower floors x → known_floors (length floors) (drop 2 x) ≡ floors
 tower_known floors [] h = absurd h.1
 tower_known floors (a ∷ []) h = absurd h.1
@@ -18,7 +18,7 @@ pub record IsPushed (count : ℕ) (before after : List ℕ) (floor : Floor) : Ty
   pub view : known_floors (count + 1) (drop 2 after) ≡ known_floors count (drop 2 before) ++ floor ∷ []
   pub tower : IsTower (known_floors (count + 1) (drop 2 after)) after
 
--- What is written behind the floors so far is one floor more.
+-- What is written after the floors so far is one floor more.
 pub writer_push : (count : ℕ) (before after : List ℕ) (floor : Floor) → IsTower (known_floors count (drop 2 before)) before → count + 1 < 2 ^ 16
     → FloorFits floor
     → after ≡ number_octets (count + 1) ++ drop 2 (before ++ floor_octets floor) → IsPushed count before after floor

@@ -1,4 +1,5 @@
--- String bindings: object@protseq:address[endpoint] (C706, string bindings; the profile of addresses and endpoints is own).
+-- String bindings: object@protseq:address[endpoint] (C706, string bindings; the profile of
+-- addresses and endpoints is own).
 use Rattle.std.specs.Prelude.{◌≡◌, ◌⊎◌, ℕ, ◌<◌, ◌^◌, List, [], ◌∷◌, ◌++◌, length, slice_index, All, Some, ◌==◌, if◌then◌else◌, codes}
 use Rattle.std.specs.Fmt.{decimal}
 use Rattle.uuid.specs.Parts.{zero_bytes, is_nil_bytes}
@@ -20,7 +21,8 @@ address_text address =
 
 -- ---- The form. The marks are `@` (64), `:` (58), `[` (91) and `]` (93).
 
--- The object part: a UUID in its hyphenated form, in either case, and `@`; or nothing for the nil object.
+-- The object part: a UUID in its hyphenated form, in either case, and `@`; or nothing for the nil
+-- object.
 abbrev pub IsObjectPart : List ℕ → List ℕ → Type 0
 IsObjectPart part object =
     ((part ≡ []) × (object ≡ zero_bytes))

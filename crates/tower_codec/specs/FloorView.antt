@@ -1,4 +1,4 @@
--- What a contract sees of a `FloorView` (own).
+-- What a contract sees of a `FloorView`.
 use Rattle.tower_codec.specs.declared.view.FloorView.{FloorView}
 use Rattle.tower_codec.specs.Tower.{Floor}
 

@@ -1,4 +1,4 @@
--- Steps of a reading that may fail (own).
+-- Steps of a reading that may fail.
 use Rattle.std.specs.Prelude.{◌≡◌, Result, Ok, Err}
 
 infixl 10 ◌>>=◌

@@ -1,4 +1,5 @@
--- Reading an RPC tower floor by floor, as the private readers do (own, after C706, protocol towers).
+-- Reading an RPC tower floor by floor, as the private readers do (own, after C706, protocol
+-- towers).
 use Rattle.std.specs.Prelude.{ℕ, ◌+◌, ◌*◌, List, [], ◌∷◌, length, take, drop, slice_index, slice_get, Bool, Option, Some, None, option_and_then, ◌==◌}
 use Rattle.std.specs.Prelude.{◌&&◌, if◌then◌else◌}
 use Rattle.uuid.specs.Parts.{swap_fields}
@@ -14,7 +15,8 @@ infixl 10 ◌>>=◌
 abbrev pub ◌>>=◌ : {A B : Type 0} → Option A → (A → Option B) → Option B
 o >>= f = option_and_then f o
 
--- Whether the parts of a floor have the lengths of an interface's, and the left one its first octet.
+-- Whether the parts of a floor have the lengths of an interface's, and the left one its first
+-- octet.
 abbrev pub is_interface : List ℕ → List ℕ → Bool
 is_interface left right = (length left == 19) && (slice_index left 0 == 13) && (length right == 2)
 

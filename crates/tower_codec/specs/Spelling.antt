@@ -19,7 +19,8 @@ floor_octets floor = part_octets floor.left ++ part_octets floor.right
 abbrev pub tower_octets : List Floor → List ℕ
 tower_octets floors = number_octets (length floors) ++ flat_map floor_octets floors
 
--- A floor has a spelling: its left part isn't empty, and no part is longer than two octets can say (C706, protocol towers).
+-- A floor has a spelling: its left part isn't empty, and no part is longer than two octets can say
+-- (C706, protocol towers).
 pub record FloorFits (floor : Floor) : Type 0 where
   pub some : 0 < length floor.left
   pub left : length floor.left < 2 ^ 16

@@ -1,11 +1,12 @@
--- Reading a tower field by field, as the private readers do, and the floors that a view shows (own, after C706, protocol towers).
+-- Reading a tower field by field, as the private readers do, and the floors that a view shows (own,
+-- after C706, protocol towers).
 use Rattle.std.specs.Prelude.{ℕ, zero, suc, ◌+◌, ◌-◌, ◌*◌, List, [], ◌∷◌, length, take, drop, slice_index, Result, Ok, Err, nat_lt, ◌==◌, if◌then◌else◌}
 use Rattle.tower_codec.specs.declared.fault.TowerFault.{TowerFault}
 use Rattle.tower_codec.specs.declared.fault.TowerFault.TheVariants.{ShortCount, ShortLength, ShortPart, EmptyLeft}
 use Rattle.tower_codec.specs.ReadingSteps.{◌>>=◌}
 use Rattle.tower_codec.specs.Tower.{Floor}
 
--- A length and what follows it. `past` is the place behind the last octet.
+-- A length and what follows it. `past` is the place after the last octet.
 abbrev pub length_at : ℕ → List ℕ → Result (ℕ × List ℕ) TowerFault
 length_at past [] = Err (ShortLength past)
 length_at past (low ∷ []) = Err (ShortLength past)

@@ -35,7 +35,7 @@ pub fn read_uuid(octets: &[u8]) -> Option<Uuid>
     Uuid::try_parse_ascii(octets).ok()
 }
 
-/// What stands before the first mark, and what behind it.
+/// What is before the first mark, and what after it.
 pub fn split_at_mark(text: &[u8], mark: u8) -> Option<(&[u8], &[u8])>
     ensures cut { option_map (λ p. (p.0.now, p.1.now)) result ≡ cut_at_mark mark text.now }
     ensures within { IfSome result (λ p. length p.0.now ≤ length text.now) }
@@ -122,7 +122,7 @@ fn split_protseq(text: &[u8]) -> Result<(Protseq, &[u8]), BindingFault>
     }
 }
 
-// What stands before the `[`, and what from there on.
+// What is before the `[`, and what from there on.
 #[tactic(auto, unfolding(crate::specs::BindingReading::endpoint_parts))]
 fn split_endpoint(text: &[u8]) -> (&[u8], &[u8])
     ensures address { result.0.now ≡ (endpoint_parts text.now).0 }
@@ -162,7 +162,7 @@ fn address_in(text: &[u8]) -> Result<[u8; 4], BindingFault>
     }
 }
 
-// The port of what stands from the `[` on.
+// The port of what is from the `[` on.
 #[tactic(auto, unfolding(crate::specs::BindingReading::port_of))]
 fn port_in(endpoint: &[u8]) -> Result<u16, BindingFault>
     ensures { Gives (λ r. r) result (port_of endpoint.now) }

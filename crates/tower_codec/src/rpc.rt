@@ -129,8 +129,8 @@ impl Interface {
     ghost use Rattle.tower_codec.specs.Serving.{serves};
     ghost use Rattle.tower_codec.specs.Spelling.{floor_octets};
 
-    /// Whether this interface, where it is offered, serves one that is wanted: it has the same UUID and
-    /// major version, and the same minor version or a later one.
+    /// Whether this interface, where it is offered, serves one that is wanted: it has the same UUID
+    /// and major version, and the same minor version or a later one.
     pub fn serves(&self, wanted: &Interface) -> bool
         ensures { result ≡ serves self.now wanted.now }
     {
@@ -151,7 +151,8 @@ impl Interface {
     }
 }
 
-/// The text that scripts have for an interface: its UUID in lower case, `:`, its major version, `.` and its minor version.
+/// The text that scripts have for an interface: its UUID in lower case, `:`, its major version, `.`
+/// and its minor version.
 impl fmt::Display for Interface {
     ghost use Rattle.tower_codec.specs.InterfaceTexts.{interface_text};
 
@@ -182,7 +183,8 @@ impl Protseq {
         }
     }
 
-    // The octets of the floors of the RPC protocol and of a port, and those before the host's address.
+    // The octets of the floors of the RPC protocol and of a port, and those before the host's
+    // address.
     fn floors(self, port: u16) -> [u8; 19]
         ensures { result ≡ floor_octets
             (record { left = rpc_protocol self ∷ []; right = 0 ∷ 0 ∷ [] })

@@ -182,7 +182,7 @@ impl<'a> TowerView<'a> {
         }
     }
 
-    /// The first floor, and the tower of those behind it.
+    /// The first floor, and the tower of those after it.
     pub fn split_first(&self) -> Option<(FloorView<'a>, TowerView<'a>)>
         ensures { MatchOption result (self.now ≡ []) (λ r. self.now ≡ floor_of r.0 ∷ r.1) }
     {

@@ -25,7 +25,7 @@ impl Model for TowerWriter {
     ghost invariant = { λ w. IsTower (known_floors w.count (drop 2 w.octets.items)) w.octets.items };
 }
 
-/// Puts a part behind the octets. After want of memory the octets may have grown.
+/// Puts a part after the octets. After it ran out of memory the octets may have grown.
 fn append_part(octets: &mut Vec<u8>, part: &[u8]) -> Result<(), AllocError>
     requires { length part.now < 2 ^ 16 }
     ensures ok { OnOk result (octets.new.items ≡ octets.old.items ++ part_octets part.now) }
@@ -36,7 +36,8 @@ fn append_part(octets: &mut Vec<u8>, part: &[u8]) -> Result<(), AllocError>
     octets.extend_from_slice(part)
 }
 
-/// Puts the parts of a floor behind the octets. After want of memory the octets may have grown.
+/// Puts the parts of a floor after the octets. After it ran out of memory the octets may have
+/// grown.
 fn append_parts(octets: &mut Vec<u8>, left: &[u8], right: &[u8]) -> Result<(), AllocError>
     requires left { length left.now < 2 ^ 16 }
     requires right { length right.now < 2 ^ 16 }
@@ -49,7 +50,7 @@ fn append_parts(octets: &mut Vec<u8>, left: &[u8], right: &[u8]) -> Result<(), A
     append_part(octets, right)
 }
 
-/// Puts a floor behind the octets. After want of memory the octets are as before.
+/// Puts a floor after the octets. After it ran out of memory the octets are as before.
 fn append_floor(octets: &mut Vec<u8>, left: &[u8], right: &[u8]) -> Result<(), AllocError>
     requires left { length left.now < 2 ^ 16 }
     requires right { length right.now < 2 ^ 16 }
@@ -84,8 +85,8 @@ impl TowerWriter {
         Ok(TowerWriter { count: 0, octets })
     }
 
-    /// Puts a floor behind the others: at most 65,535 floors, of which the left part has 1 to 65,535 octets, and the right part at most
-    /// as many. Without memory all stays as it was.
+    /// Puts a floor after the others: at most 65,535 floors, of which the left part has 1 to 65,535
+    /// octets, and the right part at most as many. Without memory all stays as it was.
     pub fn push(&mut self, left: &[u8], right: &[u8]) -> Result<(), AllocError>
         requires room { length self.old < 65535 }
         requires some { 0 < length left.now }

@@ -1,4 +1,5 @@
-//! Two clearinghouses in one process: the calls of an engineer who takes the crates as a core, in their order.
+//! Two clearinghouses in one process: the calls of an engineer who takes the crates as a core, in
+//! their order.
 #![tactic(auto)]
 
 mod pair;

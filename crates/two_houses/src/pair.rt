@@ -19,7 +19,8 @@ const SECOND: Member = Member {
     kind: MemberKind::Secondary,
 };
 
-// The time on the clock of the houses. A stamp is later than the floor of its house, and not before the clock.
+// The time on the clock of the houses. A stamp is later than the floor of its house, and not before
+// the clock.
 const CLOCK: u64 = 100;
 
 // More letters than a skulk of two houses takes.
@@ -67,7 +68,8 @@ impl Pair {
         self.send(rt, alloc, letters)
     }
 
-    /// House 1 takes an update, and the other house its marks. Where the call fails nothing is sent.
+    /// House 1 takes an update, and the other house its marks. Where the call fails nothing is
+    /// sent.
     pub fn update(&mut self, rt: &impl Print, alloc: Global, update: &Update) -> Result<()> {
         match self.first.accept(alloc, CLOCK, DirId::ROOT, update) {
             Ok(
@@ -111,7 +113,8 @@ impl Pair {
         })
     }
 
-    /// House 1 starts again on a disk that fails in the next put, and loses a part of what was not synced.
+    /// House 1 starts again on a disk that fails in the next put, and loses a part of what was not
+    /// synced.
     pub fn with_failing_disk(self, alloc: Global) -> Result<Pair> {
         let Pair { first, second } = self;
         let mut disk = first.into_disk();

@@ -1,4 +1,5 @@
-// A clearinghouse with its store: each call that changes the house puts its image before anything is sent.
+// A clearinghouse with its store: each call that changes the house puts its image before anything
+// is sent.
 ghost use Rattle.std.specs.Prelude.{◌≡◌, ◌++◌, ◌∷◌, [], Some, Ok, OnOk, IfOk};
 ghost use Rattle.std.specs.Option.{option_map};
 ghost use Rattle.cds_records.specs.RecordOctets.{image_octets};
@@ -15,8 +16,8 @@ use directory::{Update, UpdateRefusal};
 use house_journal::Disk;
 use std::alloc::Global;
 
-/// A clearinghouse and the store of its images. After an error of a call the house may be spent, or ahead of its disk: nothing of it is
-/// sent, and it is started again from its disk.
+/// A clearinghouse and the store of its images. After an error of a call the house may be spent, or
+/// ahead of its disk: nothing of it is sent, and it is started again from its disk.
 #[derive(Drop)]
 pub struct Server<D: Disk> {
     house: Clearinghouse,
@@ -129,7 +130,8 @@ impl<D: Disk + Drop> Server<D> {
         })
     }
 
-    // Puts the image of the house, and then encodes what is to be sent: letters say what the house holds now.
+    // Puts the image of the house, and then encodes what is to be sent: letters say what the house
+    // holds now.
     fn kept(
         &mut self,
         alloc: Global,

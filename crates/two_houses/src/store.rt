@@ -8,8 +8,9 @@ use house_journal::{Disk, Journal, MOST_OCTETS};
 use std::alloc::Global;
 use std::marker::Model;
 
-/// A disk and the journal that is open on it, as the list of its images. A journal is put to the disk that it was opened on and to no
-/// other: the two are one value, whose `invariant` says what `Journal::put` requires.
+/// A disk and the journal that is open on it, as the list of its images. A journal is put to the
+/// disk that it was opened on and to no other: the two are one value, whose `invariant` says what
+/// `Journal::put` requires.
 #[derive(Drop)]
 pub struct Store<D: Disk> {
     disk: D,
@@ -29,7 +30,8 @@ impl<D: Disk> Model for Store<D> {
 }
 
 impl<D: Disk + Drop> Store<D> {
-    /// Opens the journal of a disk, and answers its last image. A disk that is too large is refused: `Journal::open` requires that.
+    /// Opens the journal of a disk, and answers its last image. A disk that is too large is
+    /// refused: `Journal::open` requires that.
     pub fn open(alloc: Global, mut disk: D) -> Result<(Store<D>, Option<Vec<u8>>)>
         ensures { IfOk result (λ r. option_map (λ v. v.items) r.1 ≡ last_image (D.reads disk)) }
     {

@@ -20,8 +20,8 @@ impl EntryMap {
         }
     }
 
-    /// Drops a deletion, if it has it: the entry, the clear, or the mark of the value, and an attribute of which nothing is left.
-    /// How many records that were.
+    /// Drops a deletion, if it has it: the entry, the clear, or the mark of the value, and an
+    /// attribute of which nothing is left. How many records that were.
     pub(crate) fn drop_deletion(&mut self, deletion: &Deletion) -> u64
         ensures dropped { self.new ≡ (if has_deletion self.old deletion.now then without self.old deletion.now else self.old) }
         ensures count { result ≡ min (held_in self.old - held_in self.new) most_held }
@@ -32,7 +32,8 @@ impl EntryMap {
         }
     }
 
-    /// Drops a deletion as drop_deletion does. A death is one that it has, and is not looked for beforehand.
+    /// Drops a deletion as drop_deletion does. A death is one that it has, and is not looked for
+    /// beforehand.
     pub(crate) fn drop_known(&mut self, deletion: &Deletion) -> u64
         requires { deletion.now.what ≡ what.Death → has_deletion self.old deletion.now ≡ true }
         ensures dropped { self.new ≡ (if has_deletion self.old deletion.now then without self.old deletion.now else self.old) }
@@ -46,7 +47,8 @@ impl EntryMap {
         }
     }
 
-    /// Drops a clear or the mark of a value of an entry, if it lost that at this stamp. How many records that were.
+    /// Drops a clear or the mark of a value of an entry, if it lost that at this stamp. How many
+    /// records that were.
     fn drop_lost(&mut self, name: &SimpleName, stamp: Stamp, what: &What) -> u64
         requires { is_of_attr what.now ≡ true }
         ensures dropped { let w = what.now in

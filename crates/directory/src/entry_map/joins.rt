@@ -15,8 +15,9 @@ use cds_stamps::{Lattice, SimpleName};
 use std::alloc::{AllocError, Global};
 
 impl EntryMap {
-    /// Joins what an update adds in, in place, with at most one insertion at each level of the entry: of one mark the cost
-    /// grows with the logarithm of the number of entries, attributes and values.
+    /// Joins what an update adds in, in place, with at most one insertion at each level of the
+    /// entry: of one mark the cost grows with the logarithm of the number of entries, attributes
+    /// and values.
     pub(crate) fn join_entry(
         &mut self,
         alloc: Global,
@@ -90,8 +91,8 @@ impl EntryMap {
         Ok(())
     }
 
-    /// Joins one entry in, and logs the change, if it is one: one look-up of a name that is there, and two of a new one. Room in
-    /// the log comes first.
+    /// Joins one entry in, and logs the change, if it is one: one look-up of a name that is there,
+    /// and two of a new one. Room in the log comes first.
     pub(crate) fn raise_logged(
         &mut self,
         alloc: Global,

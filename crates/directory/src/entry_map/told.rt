@@ -13,8 +13,9 @@ use cds_stamps::{SimpleName, Stamp};
 use std::alloc::{AllocError, Global};
 
 impl EntryMap {
-    /// Adds the marks of an update with this stamp in place, and gives its fragment; or refuses it. The name of a deletion or of a
-    /// change of an attribute is looked up once, and that of a new entry twice.
+    /// Adds the marks of an update with this stamp in place, and gives its fragment; or refuses it.
+    /// The name of a deletion or of a change of an attribute is looked up once, and that of a new
+    /// entry twice.
     pub(crate) fn accept_told(
         &mut self,
         alloc: Global,
@@ -34,7 +35,8 @@ impl EntryMap {
         }
     }
 
-    /// The same for an update that makes an entry. A name that has none, live or not, gets a copy of its fragment.
+    /// The same for an update that makes an entry. A name that has none, live or not, gets a copy
+    /// of its fragment.
     fn create_told(
         &mut self,
         alloc: Global,
@@ -71,7 +73,8 @@ impl EntryMap {
         Ok(Ok(fragment))
     }
 
-    /// Adds the marks of an update of it to the entry of a name, and gives its fragment; or refuses it.
+    /// Adds the marks of an update of it to the entry of a name, and gives its fragment; or refuses
+    /// it.
     fn tell_own(
         &mut self,
         alloc: Global,

@@ -13,8 +13,8 @@ use cds_stamps::{SimpleName, Stamp};
 use std::alloc::{AllocError, Global};
 
 impl EntryMap {
-    /// Adds the marks of an accepted update with this stamp, in place: what joining its fragment in would do. Of a change of an
-    /// attribute nothing is copied but what is new to the table.
+    /// Adds the marks of an accepted update with this stamp, in place: what joining its fragment in
+    /// would do. Of a change of an attribute nothing is copied but what is new to the table.
     pub(crate) fn apply(
         &mut self,
         alloc: Global,
@@ -36,8 +36,8 @@ impl EntryMap {
         self.take_in(alloc, fragment)
     }
 
-    /// Adds the marks of an update with this stamp in place, or refuses it: as check and apply do, but that the name of a deletion
-    /// or of a change of an attribute is looked up once.
+    /// Adds the marks of an update with this stamp in place, or refuses it: as check and apply do,
+    /// but that the name of a deletion or of a change of an attribute is looked up once.
     pub(crate) fn accept(
         &mut self,
         alloc: Global,
@@ -57,8 +57,8 @@ impl EntryMap {
         }
     }
 
-    /// The same for an update that makes an entry. A name that has none, live or not, is looked up twice, the second time to
-    /// insert it.
+    /// The same for an update that makes an entry. A name that has none, live or not, is looked up
+    /// twice, the second time to insert it.
     fn accept_new(
         &mut self,
         alloc: Global,

@@ -7,8 +7,9 @@ use Rattle.line_forms.proofs.LinesLeft.{LinesSo}
 use Rattle.line_forms.proofs.Turns.{IsBetween}
 use Rattle.line_forms.proofs.serving.answer_lines.Given as goal
 
--- the run stands between two lines, whatever state it began in, and the form at the state behind those lines; no fault was met, and no line
--- that is to come was counted; and what held of the form at first holds now
+-- the run is between two lines, whatever state it began in, and the form at the state after those
+-- lines; no fault was met, and no line that is to come was counted; and what held of the form at
+-- first holds now
 pub record IsGoingOn {S : Type 0} (Between So Starts : S → Type 0) (lines : Lines) (count : ℕ) (First Now : Type 0) : Type 0 where
   pub between : (state : S) → Starts state → Between state
   pub so : (state : S) → Starts state → So state

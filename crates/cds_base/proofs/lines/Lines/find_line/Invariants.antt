@@ -4,7 +4,8 @@ use Rattle.cds_base.specs.Lines.{octets_ahead, lines_so_far, fault_of_lines}
 use Rattle.cds_base.specs.SourceReading.{GrowsByReading}
 use Rattle.cds_base.proofs.lines.Lines.find_line.Given as goal
 
--- the octets held grew by what was read, and where they showed an answer from the start nothing was read
+-- the octets held grew by what was read, and where they showed an answer from the start nothing was
+-- read
 abbrev pub invariant-reads : goal.invariant-reads
 invariant-reads g l = record {
   reads : GrowsByReading (g.S.Source.left l.fn.source) (g.S.Source.left l.source) (octets_ahead l.fn.self) (octets_ahead l.self);
