@@ -220,7 +220,7 @@ copied_delta : (d : Delta) (c : model.Copy) → StandsDelta d c → IsDelta d
 copied_delta d c is = subst IsDelta (sym is) (delta_of-valid c.history c.all_up_to)
 
 -- so what a message carries that stands for one of the model is valid
-body_valid : (b : Body) (n : model.Body) → StandsBody b n → IsValidBody b
+pub body_valid : (b : Body) (n : model.Body) → StandsBody b n → IsValidBody b
 body_valid (body.Update f) (model.Update marks) h = subst (λ o. IfSome o IsValidEntry) h.entry (entry_of-valid marks f.name)
 body_valid (body.Gathered t d) (model.Gathered u c) h = copied_delta d c h.1
 body_valid (body.Spread t d) (model.Spread u c) h = copied_delta d c h.1

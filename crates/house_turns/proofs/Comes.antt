@@ -51,10 +51,13 @@ use Rattle.clearinghouse.specs.LawfulHouses.{IsLawful}
 use Rattle.clearinghouse.specs.ModelHouses.{StandsHouse}
 use Rattle.house_lines.specs.declared.line.EpochList.{EpochList}
 use Rattle.house_lines.specs.declared.line.HouseLine.{HouseLine}
+use Rattle.cell_runs.specs.Entries.{Post}
+use Rattle.cell_runs.specs.OrderSteps.{ArePosts, IsLetterOf, then_found}
+use Rattle.cell_runs.specs.LineAnswers.{refused, update_refusal_of}
 use Rattle.house_turns.specs.declared.said.Said.{Said}
-use Rattle.house_turns.specs.HouseReplies.{ComesTo, IsOutcome, Outcome, Post, Posts, StandPosts, Tells}
-use Rattle.house_turns.specs.LineAnswers.{early_refusal, epoch_refusal, founding_refusal, is_given, maybe_refused, octets_refusal, refused, take_refusal, update_refusal_of}
-use Rattle.house_turns.specs.LineSteps.{Carries, IsLetterOf, first_members, listed_houses, step_at, then_found}
+use Rattle.house_turns.specs.HouseReplies.{ComesTo, IsOutcome, Outcome, Posts, Tells}
+use Rattle.house_turns.specs.LineAnswers.{early_refusal, epoch_refusal, founding_refusal, is_given, maybe_refused, octets_refusal, take_refusal}
+use Rattle.house_turns.specs.LineSteps.{CarriesAt, first_members, listed_houses, step_at}
 use Rattle.house_turns.specs.PrivateTurns.{Comes, ComesUnless, Does, MakesChild, Says, TakesMessage, epoch_of, posts_of_letters, posts_said, taken_line, taken_outcome}
 use Rattle.house_turns.proofs.Letters.{letters_posts, maybe_letters, posts_said-append, said_stand}
 use Rattle.house_turns.proofs.Outcomes.{Fits, Reads, accept_fits, child_posts, child_tells, posts_outcome, refused_reads, taken_reads, tells_outcome, untaken_reads}
@@ -106,7 +109,7 @@ module _ (r : Result Said AllocError) (number : ℕ) (c c' : Clearinghouse) (clo
 module _ (Answers : command.Answer → Type 0) (said : List ℕ) (c c' : Clearinghouse) (posted : List Posted) (clock : ℕ) (l : HouseLine)
     (house : c'.house ≡ c.house) (node : c'.node ≡ c.node) (lawful : IsLawful c → IsLawful c')
     (fits : (now : model.House) (m : model.Message) → Fits (step_at c.house.0 now l m))
-    (step : (now : model.House) (m : model.Message) → StandsHouse c now → now.clock ≡ clock → Carries c.house.0 now l m
+    (step : (now : model.House) (m : model.Message) → StandsHouse c now → now.clock ≡ clock → CarriesAt c.house.0 now l m
     → IsStep Answers (step_at c.house.0 now l m) c c' posted) where
   -- a call that is no turn
   pub comes_tells : Reads Answers false said → ComesTo c clock l (Tells (said ∷ [])) c'
@@ -249,7 +252,7 @@ root_comes c c' clock ls ms posted posts house node lawful is are turns = record
   step = λ now m stands ticks carries.
       let t : Turn = found_directory c.house.0 now root_dir (first_members c.house.0 ls) in
       let done = subst (λ (ms : List Member). IsTurn (found_directory c.house.0 now root_dir ms) c' posted) is (turns now stands) in
-      (subst (λ (ps : List Post). StandPosts ps t.posts) (sym are) (said_stand posted t.posts done.each), λ ns. refl, done.stands);
+      (subst (λ (ps : List Post). ArePosts ps t.posts) (sym are) (said_stand posted t.posts done.each), λ ns. refl, done.stands);
   house = house;
   node = node;
   lawful = lawful;
@@ -351,7 +354,7 @@ take_comes (Ok s) number c c' clock octets message used decodes takes = record {
   comes = record { step = step; house = takes.house; node = takes.node; lawful = takes.lawful };
 }
   where
-    step : (now : model.House) (m : model.Message) → StandsHouse c now → now.clock ≡ clock → Carries c.house.0 now (line.Take octets) m
+    step : (now : model.House) (m : model.Message) → StandsHouse c now → now.clock ≡ clock → CarriesAt c.house.0 now (line.Take octets) m
         → IsOutcome (take now m) takes.outcome c c'
     step now m stands ticks carries =
         let letter : IsLetterOf c.house.0 octets m = carries.0 in

@@ -11,7 +11,9 @@ use Rattle.house_directory.specs.declared.posted.Posted.{Posted}
 use Rattle.house_directory.specs.HouseMessages.{StandEach, numbers_of, posts_to}
 use Rattle.clearinghouse.specs.declared.letters.Letters.{Letters}
 use Rattle.clearinghouse.specs.HouseLetters.{AreLetters}
-use Rattle.house_turns.specs.HouseReplies.{Post, StandPosts, posts_lines, posts_text}
+use Rattle.cell_runs.specs.Entries.{Post}
+use Rattle.cell_runs.specs.OrderSteps.{ArePosts}
+use Rattle.house_turns.specs.HouseReplies.{posts_lines, posts_text}
 use Rattle.house_turns.specs.PrivateTurns.{letters_kept, letters_text, posts_of_letters, posts_said}
 use Rattle.house_turns.specs.Texts.{piece_lines, pieces_of, post_line}
 use Rattle.script_answers.specs.Texts.{line_text, lines_text}
@@ -36,7 +38,7 @@ maybe_letters None ps none = sym (ap posts_said none)
 maybe_letters (Some ls) ps are = letters_posts ls ps are
 
 -- posted messages as octets stand for what they stand for
-pub said_stand : (ps : List Posted) (ms : List model.Message) → StandEach ps ms → StandPosts (posts_said ps) ms
+pub said_stand : (ps : List Posted) (ms : List model.Message) → StandEach ps ms → ArePosts (posts_said ps) ms
 said_stand [] [] each = tt
 said_stand (p ∷ ps) (m ∷ ms) each = (record { carried = p.message; stands = each.0; octets = refl }, said_stand ps ms each.1)
 said_stand [] (m ∷ ms) each = elim each [ ]

@@ -28,9 +28,10 @@ use Rattle.script_answers.specs.declared.answer.ScriptRefusal.TheVariants as ref
 use Rattle.clearinghouse.specs.declared.house.Clearinghouse.{Clearinghouse}
 use Rattle.clearinghouse.specs.HouseSteps.{IsStep, IsTurn}
 use Rattle.clearinghouse.specs.ModelHouses.{StandsHouse}
-use Rattle.house_turns.specs.LineSteps.{then_found, with_number}
-use Rattle.house_turns.specs.HouseReplies.{IsOutcome, Post, Posts, StandPosts, Tells}
-use Rattle.house_turns.specs.LineAnswers.{answer_said, refused, update_refusal_of}
+use Rattle.cell_runs.specs.OrderSteps.{ArePosts, then_found, with_number}
+use Rattle.cell_runs.specs.Entries.{Post}
+use Rattle.cell_runs.specs.LineAnswers.{answer_said, refused, update_refusal_of}
+use Rattle.house_turns.specs.HouseReplies.{IsOutcome, Posts, Tells}
 use Rattle.house_turns.specs.PrivateTurns.{epoch_refusal_of, posts_said, taken_line}
 use Rattle.house_turns.proofs.Letters.{posts_said-append, said_stand}
 
@@ -78,7 +79,7 @@ module _ (Answers : command.Answer → Type 0) (said : List ℕ) (c c' : Clearin
       let on : of_turn a ≡ true = reads.kind a step.0 in
       absurd (cc)
   posts_outcome (Turns t) posts fits reads are step = (
-    subst (λ (ps : List Post). StandPosts ps t.posts) (sym are) (said_stand posted t.posts step.1.each),
+    subst (λ (ps : List Post). ArePosts ps t.posts) (sym are) (said_stand posted t.posts step.1.each),
     λ ns. reads.is (t.answer ns) (step.0 ns),
     step.1.stands,
   )
@@ -401,7 +402,7 @@ module _ (x d : ℕ) (ms : List Member) (c : Clearinghouse) where
       let founded = founds t.house step.1.stands in
       let more : List model.Message = (turns.found_directory x t.house d ms).posts in
       let each : StandEach (ps ++ qs) (t.posts ++ more) = each_append ps qs t.posts more step.1.each founded.each in (
-        subst (λ (ls : List Post). StandPosts ls (t.posts ++ more)) (sym (are ∙ sym (posts_said-append ps qs)))
+        subst (λ (ls : List Post). ArePosts ls (t.posts ++ more)) (sym (are ∙ sym (posts_said-append ps qs)))
             (said_stand (ps ++ qs) (t.posts ++ more) each),
         λ ns. made (t.answer ns) (step.0 ns),
         founded.stands,

@@ -9,6 +9,8 @@ use Rattle.script_answers.specs.Texts.{answer_line}
 use Rattle.script_answers.specs.declared.answer.Answer.TheVariants as answer
 use Rattle.house_lines.specs.declared.line.HouseLine.{HouseLine}
 use Rattle.house_lines.specs.declared.line.HouseLine.TheVariants as line
+use Rattle.cell_runs.specs.Entries.{Post}
+use Rattle.cell_runs.specs.LineAnswers.{refused}
 use Rattle.house_turns.specs.declared.house.House.{House}
 use Rattle.house_turns.specs.declared.house.TheConstants.{MOST_MESSAGE}
 use Rattle.house_turns.specs.declared.said.Said.{Said}
@@ -20,10 +22,10 @@ use Rattle.cell_model.specs.Turns.{HouseStep, Stays}
 use Rattle.script_answers.specs.Texts.{lines_text}
 use Rattle.script_answers.specs.declared.answer.ScriptRefusal.TheVariants as why
 use Rattle.house_turns.specs.declared.said.Said.TheVariants.{Told, Turned}
-use Rattle.house_turns.specs.HouseReplies.{ComesTo, IsOutcome, IsReply, IsTurnReply, Outcome, Post, Posts, RepliesAnew, RepliesAt, RepliesBy, RepliesMore, RepliesMoreIf, RepliesTake, RepliesTakeIf, RepliesTo}
+use Rattle.house_turns.specs.HouseReplies.{ComesTo, IsOutcome, IsReply, IsTurnReply, Outcome, Posts, RepliesAnew, RepliesAt, RepliesBy, RepliesMore, RepliesMoreIf, RepliesTake, RepliesTakeIf, RepliesTo}
 use Rattle.house_turns.specs.HouseReplies.{StepReply, Tells, TellsLines, UnlessAsked, UnlessRefused, joined, take_line, telling, turn_text}
-use Rattle.house_turns.specs.LineAnswers.{early_refusal, question_said, refused}
-use Rattle.house_turns.specs.LineSteps.{Carries, step_at}
+use Rattle.house_turns.specs.LineAnswers.{early_refusal, question_said}
+use Rattle.house_turns.specs.LineSteps.{CarriesAt, step_at}
 use Rattle.house_turns.specs.Openings.{body_at}
 use Rattle.house_turns.specs.PrivateTurns.{AsksHome, Comes, ComesUnless, Does, DoesAnew, DoesAt, DoesBy, DoesOrTells, ReplyOf, Says, TurnReply, posts_in}
 

@@ -5,15 +5,13 @@ use Rattle.std.specs.FinMap.{empty}
 use Rattle.std.specs.List.{flat_map}
 use Rattle.cell_model.specs.Cells as model
 use Rattle.cell_model.specs.Turns.{HouseStep, Stays, Turns}
-use Rattle.cds_records.specs.RecordOctets.{image_octets, message_octets}
-use Rattle.cds_messages.specs.declared.message.Message.{Message}
+use Rattle.cds_records.specs.RecordOctets.{image_octets}
 use Rattle.cds_stamps.specs.declared.numbers.HouseNo.{HouseNo}
 use Rattle.cell_script.specs.Words.{words_of}
 use Rattle.cell_script.specs.declared.fault.ParseFault.{ParseFault}
 use Rattle.script_answers.specs.Texts.{answer_line, lines_text, parse_fault_text}
 use Rattle.script_answers.specs.declared.answer.Answer.TheVariants as answer
 use Rattle.script_answers.specs.declared.answer.ScriptRefusal.TheVariants as why
-use Rattle.house_directory.specs.HouseMessages.{StandsMessage}
 use Rattle.clearinghouse.specs.HouseImages.{image_of}
 use Rattle.clearinghouse.specs.LawfulHouses.{IsLawful}
 use Rattle.clearinghouse.specs.ModelHouses.{StandsHouse}
@@ -23,18 +21,16 @@ use Rattle.house_lines.specs.LineRows.{said_in}
 use Rattle.house_lines.specs.declared.line.HouseLine.{HouseLine}
 use Rattle.house_lines.specs.declared.line.HouseLine.TheVariants as asks
 use Rattle.house_serving.specs.Turns.{Said}
+use Rattle.cell_runs.specs.Entries.{Post}
+use Rattle.cell_runs.specs.LineAnswers.{answer_said, refused}
+use Rattle.cell_runs.specs.OrderSteps.{ArePosts}
 use Rattle.house_turns.specs.declared.house.House.{House}
 use Rattle.house_turns.specs.declared.house.TheConstants.{MOST_MESSAGE}
-use Rattle.house_turns.specs.LineSteps.{Carries, step_at}
-use Rattle.house_turns.specs.LineAnswers.{answer_said, early_refusal, question_said, refused}
+use Rattle.house_turns.specs.LineSteps.{CarriesAt, step_at}
+use Rattle.house_turns.specs.LineAnswers.{early_refusal, question_said}
 use Rattle.house_turns.specs.Texts.{octets_line, piece_lines, pieces_of, post_line}
 
 -- ---- messages that are posted, and texts
-
--- a message as octets, and the house that it goes to (own)
-pub record Post : Type 0 where
-  pub to : ℕ
-  pub octets : List ℕ
 
 -- the lines that tell messages, in pieces of 2,000 octets (own)
 abbrev pub posts_lines : List Post → List (List ℕ)
@@ -69,30 +65,18 @@ pub data Outcome : Type 0 where
   Tells : (lines : List (List ℕ)) → Outcome
   Posts : (posts : List Post) → (answer : List ℕ) → Outcome
 
--- a post stands for a message of the model: its octets are those of one that does (own)
-pub record StandsPost (p : Post) (m : model.Message) : Type 0 where
-  pub carried : Message
-  pub stands : StandsMessage p.to carried m
-  pub octets : p.octets ≡ message_octets carried
-
--- so do posts, one by one (own)
-abbrev pub StandPosts : List Post → List model.Message → Type 0
-StandPosts [] [] = Unit {0}
-StandPosts (p ∷ ps) (m ∷ ms) = StandsPost p m × StandPosts ps ms
-StandPosts _ _ = ⊥
-
 -- a line comes to what the step of the model is: its answer, and nothing changes; or the messages
 -- and the answer of the turn, and then the clearinghouse stands for the house after it (own)
 abbrev pub IsOutcome : HouseStep → Outcome → (c c' : Clearinghouse) → Type 0
 IsOutcome (Stays answer) (Tells lines) c c' = (lines ≡ answer_said answer ∷ []) × (c' ≡ c)
 IsOutcome (Turns turn) (Posts posts answer) c c' =
-    StandPosts posts turn.posts × ((ns : List ℕ) → answer ≡ answer_said (turn.answer ns)) × StandsHouse c' turn.house
+    ArePosts posts turn.posts × ((ns : List ℕ) → answer ≡ answer_said (turn.answer ns)) × StandsHouse c' turn.house
 IsOutcome _ _ c c' = ⊥
 
 -- what a line comes to at a clearinghouse, and how that is after it. Whichever house of the model
 -- it stands for, and whichever message a `take` stands for, it is that house's step (own)
 pub record ComesTo (c : Clearinghouse) (clock : ℕ) (said : HouseLine) (outcome : Outcome) (c' : Clearinghouse) : Type 0 where
-  pub step : (now : model.House) (m : model.Message) → StandsHouse c now → now.clock ≡ clock → Carries c.house.0 now said m
+  pub step : (now : model.House) (m : model.Message) → StandsHouse c now → now.clock ≡ clock → CarriesAt c.house.0 now said m
       → IsOutcome (step_at c.house.0 now said m) outcome c c'
   pub house : c'.house ≡ c.house
   pub node : c'.node ≡ c.node

@@ -1,5 +1,5 @@
--- What a house answers to a line by what it holds: refusals that come before all others, questions,
--- and the answers of the model.
+-- What a house answers to a line by what it holds: refusals that come before all others, and
+-- questions.
 use Rattle.std.specs.Prelude.{ℕ, ◌+◌, Bool, true, false, not, ◌&&◌, ◌==◌, nat_le, nat_lt, if◌then◌else◌, List, [], ◌∷◌, ◌++◌, length, map, Option, Some, None, Result, Ok, Err, codes, decimal, is_some, is_none}
 use Rattle.std.specs.FinMap.{get}
 use Rattle.std.specs.List.{list_all}
@@ -7,19 +7,15 @@ use Rattle.cds_stamps.specs.Members.{members_fault, members_of, master_of, is_li
 use Rattle.cds_stamps.specs.Numbers.{root_dir}
 use Rattle.cds_stamps.specs.declared.numbers.DirId.{DirId}
 use Rattle.directory.specs.Shown.{Shown, shown_in}
-use Rattle.directory.specs.declared.update.UpdateRefusal.{UpdateRefusal}
-use Rattle.directory.specs.declared.update.UpdateRefusal.TheVariants as update
 use Rattle.record_fields.specs.Decoding.{decode_by}
 use Rattle.record_fields.specs.declared.fault.RecordFault.{RecordFault}
 use Rattle.record_fields.specs.declared.fault.RecordFault.TheVariants as fault
 use Rattle.cds_records.specs.RecordOctets.{image_octets}
 use Rattle.cds_records.specs.Records as records
 use Rattle.cds_messages.specs.declared.message.Message.{Message}
-use Rattle.cell_model.specs.Commands as model
 use Rattle.cell_model.specs.Steps.{is_bad_list}
 use Rattle.cell_script.specs.declared.lists.Listed.{Listed}
-use Rattle.script_answers.specs.Texts.{answer_line, dump_lines}
-use Rattle.script_answers.specs.declared.answer.Answer.TheVariants as answer
+use Rattle.script_answers.specs.Texts.{dump_lines}
 use Rattle.script_answers.specs.declared.answer.ScriptRefusal.{ScriptRefusal}
 use Rattle.script_answers.specs.declared.answer.ScriptRefusal.TheVariants as why
 use Rattle.house_directory.specs.HouseMessages.{numbers_of}
@@ -30,45 +26,9 @@ use Rattle.clearinghouse.specs.declared.house.Clearinghouse.{Clearinghouse}
 use Rattle.house_lines.specs.declared.line.EpochList.{EpochList}
 use Rattle.house_lines.specs.declared.line.HouseLine.{HouseLine}
 use Rattle.house_lines.specs.declared.line.HouseLine.TheVariants as line
+use Rattle.cell_runs.specs.LineAnswers.{refused}
 use Rattle.house_turns.specs.LineSteps.{listed_houses}
 use Rattle.house_turns.specs.Texts.{end_line, octets_line, octets_lines}
-
--- a refusal
-abbrev pub refused : ScriptRefusal → List ℕ
-refused r = answer_line (answer.Refused r)
-
--- ---- answers of the model
-
--- why an update is refused
-abbrev pub update_refusal_of : UpdateRefusal → ScriptRefusal
-update_refusal_of update.NoReplica = why.NoReplica
-update_refusal_of update.NotMaster = why.NotMaster
-update_refusal_of update.NoSuchEntry = why.NoSuchEntry
-update_refusal_of update.EntryExists = why.EntryExists
-update_refusal_of update.WrongKind = why.WrongKind
-update_refusal_of update.StampsSpent = why.StampsSpent None []
-
--- why the model refuses: a house by itself refuses an update, a skulk or an epoch alone
-abbrev pub refusal_of : model.Refusal → ScriptRefusal
-refusal_of (model.Update r) = update_refusal_of r
-refusal_of (model.NotJoined held since) = why.NotJoined (record { 0 = held }) (record { 0 = since })
-refusal_of other = why.NoHouse
-
--- an answer of the model, as a house says it: messages have no serials there
-abbrev pub answer_said : model.Answer → List ℕ
-answer_said model.Done = answer_line answer.Done
-answer_said (model.Posted ns) = answer_line answer.Done
-answer_said (model.Made d s ns) = answer_line (answer.Made (record { 0 = d }) s [])
-answer_said (model.Stamped s ns) = answer_line (answer.Stamped s [])
-answer_said (model.NewEpoch e ns) = answer_line (answer.Epoch (record { 0 = e }) [])
-answer_said (model.Taken ns) = answer_line (answer.Taken [])
-answer_said (model.Late k e) = answer_line (answer.Late (record { 0 = k }) (record { 0 = e }))
-answer_said (model.Early k e) = answer_line (answer.Early (record { 0 = k }) (record { 0 = e }))
-answer_said (model.Stale t r) = answer_line (answer.Stale t r)
-answer_said model.NoReplica = answer_line answer.NoReplica
-answer_said model.Foreign = codes "ok foreign"
-answer_said (model.Complete t ns) = answer_line (answer.Complete t [])
-answer_said (model.Refused r) = refused (refusal_of r)
 
 -- ---- refusals that come before those of the model
 

@@ -1,73 +1,62 @@
--- What a line tells a house of the model to do (own, after C705, updates, skulks and new epochs).
-use Rattle.std.specs.Prelude.{◌≡◌, ℕ, List, [], ◌∷◌, ◌++◌}
+-- What a line tells a house to do, and what a house of the model then does (own, after C705, updates,
+-- skulks and new epochs).
+use Rattle.std.specs.Prelude.{ℕ, List, [], Option, Some, None}
 use Rattle.cds_stamps.specs.Members.{Member, members_of}
-use Rattle.cds_stamps.specs.Numbers.{root_dir}
-use Rattle.directory.specs.Updates.{MakeChild, Repoint, change_of}
-use Rattle.record_fields.specs.Decoding.{IsWhole}
-use Rattle.cds_records.specs.RecordOctets.{message_octets}
-use Rattle.cds_records.specs.Records as records
-use Rattle.cds_messages.specs.Validity.{IsValidMessage}
-use Rattle.cds_messages.specs.declared.message.Message.{Message}
+use Rattle.directory.specs.Updates.{Repoint, change_of}
 use Rattle.cell_model.specs.Cells as model
-use Rattle.cell_model.specs.Commands.{Answer, Done, Made, Stamped}
+use Rattle.cell_model.specs.Commands.{Done}
 use Rattle.cell_model.specs.Steps.{member_list_of, sorted_houses}
-use Rattle.cell_model.specs.Taking.{CanTake}
-use Rattle.cell_model.specs.Turns.{HouseStep, Stays, Turns, Turn, found_directory, accept, skulk, new_epoch, take}
+use Rattle.cell_model.specs.Turns.{HouseStep, Stays}
 use Rattle.cell_script.specs.Listings.{houses_in, secondaries_in}
 use Rattle.cell_script.specs.declared.lists.Listed.{Listed}
-use Rattle.house_directory.specs.HouseMessages.{StandsMessage, numbers_of}
+use Rattle.house_directory.specs.HouseMessages.{numbers_of}
 use Rattle.house_lines.specs.declared.line.HouseLine.{HouseLine}
 use Rattle.house_lines.specs.declared.line.HouseLine.TheVariants as line
+use Rattle.cell_runs.specs.Entries.{Order, Root, Mkdir, Accept, Skulk, Epoch, Take}
+use Rattle.cell_runs.specs.OrderSteps.{Carries, order_step}
 
 -- the numbers of listed houses (own)
 abbrev pub listed_houses : List Listed → List ℕ
 listed_houses ls = numbers_of (houses_in ls)
 
+-- and of those that are secondary (own)
+abbrev pub listed_secondaries : List Listed → List ℕ
+listed_secondaries ls = numbers_of (secondaries_in ls)
+
 -- the members of a new directory: this house is the master, and the others are what the line says
 -- (own)
 abbrev pub first_members : (x : ℕ) → List Listed → List Member
-first_members x ls = member_list_of [] 1 x (listed_houses ls) (numbers_of (secondaries_in ls))
+first_members x ls = member_list_of [] 1 x (listed_houses ls) (listed_secondaries ls)
 
--- the answer to an update that makes a child: its stamp, and the number of its directory (own)
-abbrev pub with_number : (d : ℕ) → Answer → Answer
-with_number d (Stamped s ns) = Made d s ns
-with_number d other = other
+-- what a line tells a house to do; of lines that tell it nothing, none (own)
+abbrev pub order_of : HouseLine → Option Order
+order_of (line.Root ls) = Some (Root (listed_houses ls) (listed_secondaries ls))
+order_of (line.Mkdir d n made ls) =
+    Some (Mkdir d.0 n made.0 (listed_houses ls) (listed_secondaries ls))
+order_of (line.Repoint d n h rs) =
+    Some (Accept d.0 (Repoint n h.0 (sorted_houses (numbers_of rs))))
+order_of (line.Update d u) = Some (Accept d.0 (change_of u))
+order_of (line.Skulk d) = Some (Skulk d.0)
+order_of (line.Epoch d k list) =
+    Some (Epoch d.0 k.0 (members_of list.members) (numbers_of list.leaving))
+order_of (line.Take octets) = Some (Take octets)
+order_of other = None
 
--- a turn, and a new directory in the same turn: its Joins are posted after the others (own, after
--- C705, creating a directory)
-abbrev pub then_found : (x d : ℕ) → List Member → HouseStep → HouseStep
-then_found x d ms (Stays answer) = Stays answer
-then_found x d ms (Turns t) =
-    let founded : Turn = found_directory x t.house d ms in
-    Turns (record { house = founded.house; posts = t.posts ++ founded.posts; answer = λ ns. with_number d (t.answer ns); accepted = t.accepted })
+-- the step of the house x, if it is told to do something; of a message that is taken, m is that
+-- message (own)
+abbrev pub step_of : (x : ℕ) → model.House → Option Order → model.Message → HouseStep
+step_of x now None m = Stays Done
+step_of x now (Some o) m = order_step x now o m
 
--- the child that `mkdir` makes (own)
-abbrev pub mkdir_step : (x : ℕ) → model.House → (d : ℕ) → (n : List ℕ) → (made : ℕ) → List Listed → HouseStep
-mkdir_step x now d n made ls =
-    then_found x made (first_members x ls)
-    (accept x now d (MakeChild n (record { dir = made; master = x; others = sorted_houses (listed_houses ls) })))
-
--- what a line tells the house x to do; of `take`, m is the message. Of lines that tell it nothing
--- none is asked (own)
+-- the same of a line (own)
 abbrev pub step_at : (x : ℕ) → model.House → HouseLine → model.Message → HouseStep
-step_at x now (line.Root ls) m = Turns (found_directory x now root_dir (first_members x ls))
-step_at x now (line.Mkdir d n made ls) m = mkdir_step x now d.0 n made.0 ls
-step_at x now (line.Repoint d n h rs) m = accept x now d.0 (Repoint n h.0 (sorted_houses (numbers_of rs)))
-step_at x now (line.Update d u) m = accept x now d.0 (change_of u)
-step_at x now (line.Skulk d) m = skulk x now d.0
-step_at x now (line.Epoch d k list) m = new_epoch x now d.0 k.0 (members_of list.members) (numbers_of list.leaving)
-step_at x now (line.Take octets) m = take now m
-step_at x now other m = Stays Done
+step_at x now says m = step_of x now (order_of says) m
 
--- octets are the whole of a valid message to a house, which stands for this one of the model (own)
-pub record IsLetterOf (to : ℕ) (octets : List ℕ) (m : model.Message) : Type 0 where
-  pub carried : Message
-  pub stands : StandsMessage to carried m
-  pub valid : IsValidMessage carried
-  pub octets_are : octets ≡ message_octets carried
-  pub whole : IsWhole records.message carried octets
+-- what it is told may have taken m (own)
+abbrev pub CarriesIn : (x : ℕ) → model.House → Option Order → model.Message → Type 0
+CarriesIn x now None m = Unit {0}
+CarriesIn x now (Some o) m = Carries x now o m
 
--- a `take` may have taken m: its octets stand for m, and the house can take m (own)
-abbrev pub Carries : (x : ℕ) → model.House → HouseLine → model.Message → Type 0
-Carries x now (line.Take octets) m = IsLetterOf x octets m × CanTake now m
-Carries x now other m = Unit {0}
+-- the same of a line: the octets of a `take` are those of m, and the house can take m (own)
+abbrev pub CarriesAt : (x : ℕ) → model.House → HouseLine → model.Message → Type 0
+CarriesAt x now says m = CarriesIn x now (order_of says) m

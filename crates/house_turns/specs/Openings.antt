@@ -8,8 +8,9 @@ use Rattle.cds_records.specs.RecordOctets.{image_octets}
 use Rattle.clearinghouse.specs.HouseImages.{image_of, start_of_octets}
 use Rattle.clearinghouse.specs.declared.house.Clearinghouse.{Clearinghouse}
 use Rattle.house_entries.specs.Bodies.{body_of}
+use Rattle.cell_runs.specs.Entries.{Post}
 use Rattle.house_turns.specs.declared.house.House.{House}
-use Rattle.house_turns.specs.HouseReplies.{Post, turn_lines, turn_text}
+use Rattle.house_turns.specs.HouseReplies.{turn_lines, turn_text}
 
 -- the house of a folder that has none
 abbrev pub new_house : House

@@ -7,6 +7,9 @@ use Rattle.script_answers.specs.declared.answer.ScriptRefusal.TheVariants as why
 use Rattle.std.specs.List.{flat_map}
 use Rattle.cds_stamps.specs.declared.numbers.EpochNo.{EpochNo}
 use Rattle.cds_stamps.specs.declared.numbers.HouseNo.{HouseNo}
+use Rattle.cell_runs.specs.OrderSteps.{then_found}
+use Rattle.cell_runs.specs.Entries.{Post}
+use Rattle.cell_runs.specs.LineAnswers.{refused}
 use Rattle.house_turns.specs.Texts.{piece_lines, pieces_of, post_line}
 use Rattle.cds_records.specs.RecordOctets.{message_octets}
 use Rattle.house_directory.specs.declared.epochs.EpochRefusal.{EpochRefusal}
@@ -36,11 +39,10 @@ use Rattle.house_directory.specs.HouseMessages.{StandsMessage}
 use Rattle.clearinghouse.specs.HouseImages.{start_of_octets}
 use Rattle.clearinghouse.specs.LawfulHouses.{IsLawful}
 use Rattle.clearinghouse.specs.ModelHouses.{StandsHouse}
-use Rattle.house_turns.specs.LineSteps.{then_found}
 use Rattle.house_turns.specs.declared.house.House.{House}
-use Rattle.house_turns.specs.HouseReplies.{ComesTo, IsOutcome, Outcome, Post, Posts, Tells, new_clearinghouse, turn_lines, turn_text}
+use Rattle.house_turns.specs.HouseReplies.{ComesTo, IsOutcome, Outcome, Posts, Tells, new_clearinghouse, turn_lines, turn_text}
 use Rattle.house_turns.specs.Openings.{body_at}
-use Rattle.house_turns.specs.LineAnswers.{early_refusal, question_said, refused}
+use Rattle.house_turns.specs.LineAnswers.{early_refusal, question_said}
 
 -- a message to each of its receivers, if there is one
 abbrev pub posts_of_letters : Option Letters → List Post

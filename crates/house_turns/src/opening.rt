@@ -1,7 +1,8 @@
 // How a house goes on from the last record of its folder, and what it says first.
 ghost use Rattle.std.specs.Prelude.{◌≡◌, ℕ, List, [], ◌∷◌, ◌++◌, codes, IfOk, IfSome, OnOk, OnSome};
 ghost use Rattle.script_answers.specs.Texts.{line_text, lines_text};
-ghost use Rattle.house_turns.specs.HouseReplies.{Post, turn_text};
+ghost use Rattle.cell_runs.specs.Entries.{Post};
+ghost use Rattle.house_turns.specs.HouseReplies.{turn_text};
 ghost use Rattle.house_turns.specs.Openings as openings;
 ghost use Rattle.house_turns.specs.Openings.{GoesOn, HasNoEnd, after_start, body_at, first_lines, new_house, said_again, segment_text, start_text};
 ghost use Rattle.house_turns.specs.PrivateTurns.{StartsFrom};

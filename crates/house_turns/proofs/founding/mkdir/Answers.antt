@@ -9,7 +9,7 @@ use Rattle.clearinghouse.specs.declared.house.Clearinghouse.{Clearinghouse}
 use Rattle.house_directory.specs.HouseMessages.{numbers_of}
 use Rattle.house_lines.specs.declared.line.HouseLine.{HouseLine}
 use Rattle.house_lines.specs.declared.line.HouseLine.TheVariants as line
-use Rattle.house_turns.specs.LineAnswers.{refused}
+use Rattle.cell_runs.specs.LineAnswers.{refused}
 use Rattle.house_turns.specs.LineSteps.{listed_houses}
 use Rattle.house_turns.proofs.Comes.{asked_model, child_comes, founding_bad, founding_fine, founding_held, none_where, refused_early}
 use Rattle.house_turns.proofs.founding.mkdir.Goals as goal

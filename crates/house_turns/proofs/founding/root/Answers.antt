@@ -4,6 +4,7 @@ use Rattle.cds_stamps.specs.Members.{master_of, members_of}
 use Rattle.cell_model.proofs.Terms.{master_new}
 use Rattle.cell_script.specs.Listings.{secondaries_in}
 use Rattle.house_directory.specs.HouseMessages.{numbers_of}
+use Rattle.cell_runs.specs.LineAnswers.{refused}
 use Rattle.house_turns.specs.LineSteps.{listed_houses}
 use Rattle.cds_stamps.specs.Numbers.{root_dir}
 use Rattle.cds_stamps.specs.declared.numbers.DirId.{DirId}
@@ -15,7 +16,6 @@ use Rattle.clearinghouse.specs.HouseLetters.{posts_at}
 use Rattle.house_lines.specs.declared.line.HouseLine.{HouseLine}
 use Rattle.house_lines.specs.declared.line.HouseLine.TheVariants as line
 use Rattle.house_turns.specs.HouseReplies.{Posts}
-use Rattle.house_turns.specs.LineAnswers.{refused}
 use Rattle.house_turns.specs.PrivateTurns.{posts_in}
 use Rattle.house_turns.proofs.Letters.{maybe_letters}
 use Rattle.house_turns.proofs.Comes.{asked_model, founding_bad, founding_fine, founding_held, none_where, refused_early, root_comes, said_comes}

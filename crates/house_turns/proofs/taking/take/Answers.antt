@@ -5,7 +5,8 @@ use Rattle.cds_records.specs.Records.{message}
 use Rattle.record_fields.specs.Decoding.{Decodes, decode_by}
 use Rattle.record_fields.proofs.OneDecoding.{answers_decoding}
 use Rattle.house_lines.specs.declared.line.HouseLine.TheVariants as line
-use Rattle.house_turns.specs.LineAnswers.{octets_refusal, refused}
+use Rattle.cell_runs.specs.LineAnswers.{refused}
+use Rattle.house_turns.specs.LineAnswers.{octets_refusal}
 use Rattle.house_turns.proofs.Comes.{asked_model, refused_early, take_comes, take_fault, take_fine, take_trailing}
 use Rattle.house_turns.proofs.taking.take.Goals as goal
 

@@ -10,7 +10,8 @@ use Rattle.clearinghouse.specs.declared.house.Clearinghouse.{Clearinghouse}
 use Rattle.clearinghouse.specs.HouseLetters.{epoch_posts_at}
 use Rattle.house_lines.specs.declared.line.HouseLine.{HouseLine}
 use Rattle.house_lines.specs.declared.line.HouseLine.TheVariants as line
-use Rattle.house_turns.specs.LineAnswers.{maybe_refused, refused}
+use Rattle.cell_runs.specs.LineAnswers.{refused}
+use Rattle.house_turns.specs.LineAnswers.{maybe_refused}
 use Rattle.house_turns.proofs.Comes.{asked_model, comes_posts, comes_tells, epoch_absent, epoch_fine, epoch_later, epoch_listed, epoch_low, refused_early, said_comes}
 use Rattle.house_turns.proofs.Outcomes.{entered_reads, epoch_fits, unentered_reads}
 use Rattle.house_turns.proofs.turns.epoch.Goals as goal

@@ -1,6 +1,6 @@
 use Rattle.std.proofs.Common.{refl}
 use Rattle.house_lines.specs.declared.line.HouseLine.TheVariants as line
-use Rattle.house_turns.specs.LineAnswers.{refused}
+use Rattle.cell_runs.specs.LineAnswers.{refused}
 use Rattle.script_answers.specs.declared.answer.ScriptRefusal.TheVariants as why
 use Rattle.house_turns.proofs.Comes.{asked_model, refused_early, repoint_bad, repoint_comes, repoint_fine}
 use Rattle.house_turns.proofs.turns.repoint.Goals as goal

@@ -7,8 +7,8 @@ use Rattle.clearinghouse.specs.declared.house.Clearinghouse.{Clearinghouse}
 use Rattle.clearinghouse.specs.HouseLetters.{posts_at}
 use Rattle.house_lines.specs.declared.line.HouseLine.{HouseLine}
 use Rattle.house_lines.specs.declared.line.HouseLine.TheVariants as line
+use Rattle.cell_runs.specs.LineAnswers.{refused, update_refusal_of}
 use Rattle.house_turns.specs.HouseReplies.{Posts, Tells}
-use Rattle.house_turns.specs.LineAnswers.{refused, update_refusal_of}
 use Rattle.house_turns.specs.PrivateTurns.{posts_in, posts_said}
 use Rattle.house_turns.proofs.Comes.{comes_posts, comes_tells, said_comes}
 use Rattle.house_turns.proofs.Outcomes.{accept_fits, refused_reads, stamped_reads}
