@@ -88,4 +88,16 @@ impl<D: Disk> Segment<D> {
     {
         self.digest
     }
+
+    /// Gives its disk back.
+    pub fn into_disk(self) -> D
+        ensures { result ≡ disk_of self }
+    {
+        let Segment {
+            disk,
+            journal: _journal,
+            ..
+        } = self;
+        disk
+    }
 }
