@@ -140,7 +140,7 @@ inserted_last old new k x is = ap insert_each is ∙ fold-append (λ m p. insert
 -- ---- the entries of a map are in order
 
 -- the map of the entries of a map, and a look-up among them
-of_entries : {K X : Type 0} {R : K → K → Ordering} → IsTotalOrder R → IsAntisymmetric R → (m : FinMap R X) → from_entries (entries m) ≡ m
+pub of_entries : {K X : Type 0} {R : K → K → Ordering} → IsTotalOrder R → IsAntisymmetric R → (m : FinMap R X) → from_entries (entries m) ≡ m
 of_entries o same m = same_map o same (from_entries (entries m)) m (λ q. get-from_entries o (entries m) q ∙ sym (get-entries m q))
 
 lookup-entries : {K X : Type 0} {R : K → K → Ordering} → IsTotalOrder R → IsAntisymmetric R → (m : FinMap R X) (q : K)

@@ -6,6 +6,6 @@ use Rattle.cds_stamps.specs.Undos.{back_at}
 use Rattle.directory.specs.EntryUndoWords.{undo_entry}
 use Rattle.directory.proofs.later.take_all.Goals as goal
 
-pub returns-in_err-take_each-clause-err : goal.returns-in_err-take_each-clause-err
-returns-in_err-take_each-clause-err c = map.same_map nat_list_cmp_total octets_exact c.take_back.new.self c.args.entries.now (λ q.
+pub returns-in-Err-clause-err : goal.returns-in-Err-clause-err
+returns-in-Err-clause-err c = map.same_map nat_list_cmp_total octets_exact c.take_back.new.self c.args.entries.now (λ q.
     c.take_back.ensures q ∙ c.in-Err.ensures.back q ∙ ap (λ log. back_at octets_cmp undo_entry log q (map.get c.args.entries.now q)) c.new-log.ensures.items)

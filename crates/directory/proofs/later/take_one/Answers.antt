@@ -28,11 +28,11 @@ pub returns-clause-ok : goal.returns-clause-ok
 returns-clause-ok c =
     let new : is_passed c.args.t _ c.args.entry.now ≡ false = ap (λ x. is_passed c.args.t x c.args.entry.now) (sym c.get.ensures)
     ∙ c.is_known.ensures.new c.if-is_known.false in
-    on_ok c.raise_known.result (λ joins own entry.
-    later_raised c.args.t c.args.entries.now c.raise_known.new.entries c.args.name.now c.args.entry.now new
-    (subst (RaisesAt join_entries c.args.entries.now c.raise_known.new.entries c.args.name.now) c.in_ok-later.ensures
-    (joins own (subst IsValidEntry (sym c.in_ok-later.ensures) (after_entry-valid c.args.t c.args.entry.now entry))))) c.raise_known.ensures.ok
+    on_ok c.raise_known-2.result (λ joins own entry.
+    later_raised c.args.t c.args.entries.now c.raise_known-2.new.entries c.args.name.now c.args.entry.now new
+    (subst (RaisesAt join_entries c.args.entries.now c.raise_known-2.new.entries c.args.name.now) c.in_ok-later.ensures
+    (joins own (subst IsValidEntry (sym c.in_ok-later.ensures) (after_entry-valid c.args.t c.args.entry.now entry))))) c.raise_known-2.ensures.ok
 
 pub returns-clause-knows : goal.returns-clause-knows
-returns-clause-knows c = on_ok c.raise_known.result (λ knows known entry.
-    knows known (subst IsValidEntry (sym c.in_ok-later.ensures) (after_entry-valid c.args.t c.args.entry.now entry))) c.raise_known.ensures.knows
+returns-clause-knows c = on_ok c.raise_known-2.result (λ knows known entry.
+    knows known (subst IsValidEntry (sym c.in_ok-later.ensures) (after_entry-valid c.args.t c.args.entry.now entry))) c.raise_known-2.ensures.knows

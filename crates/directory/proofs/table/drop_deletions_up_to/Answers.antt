@@ -6,10 +6,10 @@ use Rattle.directory.specs.declared.deletions.Deletion.{Deletion}
 use Rattle.directory.specs.declared.deletions.Deletions.{Deletions}
 use Rattle.directory.specs.Deletions.{has_deletion, is_deletion, without}
 use Rattle.directory.specs.Entries.{Entries}
-use Rattle.directory.specs.IndexWords.{is_indexed, IsIndexed}
+use Rattle.directory.specs.IndexWords.{IsKnown, is_indexed, IsIndexed}
 use Rattle.directory.specs.Purges.{purged_table}
 use Rattle.directory.proofs.DeletionLaws.{purged_none}
-use Rattle.directory.proofs.IndexLaws.{IsKnown, known_dropped, purged_dropped}
+use Rattle.directory.proofs.IndexLaws.{known_dropped, purged_dropped}
 use Rattle.directory.proofs.table.drop_deletions_up_to.Goals as goal
 
 -- one deletion more is dropped

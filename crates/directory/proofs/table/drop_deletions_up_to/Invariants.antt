@@ -1,8 +1,7 @@
 use Rattle.std.proofs.Common.{◌≡◌}
 use Rattle.std.specs.BTreeSet.{btree_set_len}
-use Rattle.directory.specs.IndexWords.{IsIndexed}
+use Rattle.directory.specs.IndexWords.{IsKnown, IsIndexed}
 use Rattle.directory.specs.Purges.{purged_table}
-use Rattle.directory.proofs.IndexLaws.{IsKnown}
 use Rattle.directory.proofs.table.drop_deletions_up_to.Given as goal
 
 abbrev pub invariant-loop-first : goal.invariant-loop-first
