@@ -220,6 +220,7 @@ adds_nothing cs =
     let same : posted (cs ++ []) ≡ posted cs = ap (λ (l : List Command). posted l) (append_nil cs) in
     let made_same : made (cs ++ []) ≡ made cs = ap (λ (l : List Command). made l) (append_nil cs) in
     record { messages = omega (arith, same); values = omega (arith, made_same) }
+
 by_asks : (cs : List Command) (asks : Asks) → Modest (made cs) asks → Adds cs (does (replay cs) asks).steps
 by_asks cs asks modest = let p = does_counts cs asks modest in record { messages = p.0; values = p.1 }
 

@@ -59,12 +59,7 @@ pub(crate) fn merge_excerpt(
 
 /// Takes of an excerpt what is later than t, and then drops deletions up to t, as `take_table`
 /// does.
-fn take_excerpt(
-    own: &mut Table,
-    alloc: Global,
-    other: &Excerpt,
-    t: Stamp,
-) -> Result<(), AllocError>
+fn take_excerpt(own: &mut Table, alloc: Global, other: &Excerpt, t: Stamp) -> Result<(), AllocError>
     ensures ok { OnOk result (own.new ≡ purged_table t (take_table t own.old other.now)) }
     ensures err { OnErr result (own.new ≡ own.old) }
 {

@@ -29,18 +29,18 @@ pub loop-name-preserved : goal.loop-name-preserved
 loop-name-preserved c =
     -- the entry that comes is valid, and so are those after it
     let comes : IsValidTable c.args.other.now
-        → IsValidEntry c.in-Some.entry.now × AllByRecursion (λ p. IsValidEntry p.1) c.next.new.self =
-        λ theirs. subst (AllByRecursion (λ p. IsValidEntry p.1)) c.in-Some.ensures.steps (c.loop-name.invariant.valid theirs) in
+    → IsValidEntry c.in-Some.entry.now × AllByRecursion (λ p. IsValidEntry p.1) c.next.new.self =
+    λ theirs. subst (AllByRecursion (λ p. IsValidEntry p.1)) c.in-Some.ensures.steps (c.loop-name.invariant.valid theirs) in
     record {
-  valid = λ theirs. (comes theirs).1;
-  takes = λ mine theirs.
-      take_step c.args.t c.args.entries.now c.args.other.now c.loop-name.entries c.take_one.new.entries c.in-Some.name.now c.in-Some.entry.now
-      c.loop-name.name-iterator c.next.new.self c.in-Some.ensures.steps mine c.in_ok-take_one.ensures.ok (comes theirs).0 (c.loop-name.invariant.takes mine theirs);
-  knows = λ theirs known. c.in_ok-take_one.ensures.knows (c.loop-name.invariant.knows theirs known) (comes theirs).0;
-  back = λ q. c.take_one.ensures.back q ∙ c.loop-name.invariant.back q;
-  keeps = λ d known. c.take_one.ensures.keeps d (c.loop-name.invariant.keeps d known);
-  room = c.take_one.ensures.room ∙ c.loop-name.invariant.room;
-}
+      valid = λ theirs. (comes theirs).1;
+      takes = λ mine theirs.
+          take_step c.args.t c.args.entries.now c.args.other.now c.loop-name.entries c.take_one.new.entries c.in-Some.name.now c.in-Some.entry.now
+          c.loop-name.name-iterator c.next.new.self c.in-Some.ensures.steps mine c.in_ok-take_one.ensures.ok (comes theirs).0 (c.loop-name.invariant.takes mine theirs);
+      knows = λ theirs known. c.in_ok-take_one.ensures.knows (c.loop-name.invariant.knows theirs known) (comes theirs).0;
+      back = λ q. c.take_one.ensures.back q ∙ c.loop-name.invariant.back q;
+      keeps = λ d known. c.take_one.ensures.keeps d (c.loop-name.invariant.keeps d known);
+      room = c.take_one.ensures.room ∙ c.loop-name.invariant.room;
+    }
 
 pub returns-clause-ok : goal.returns-clause-ok
 returns-clause-ok c = λ mine theirs.
