@@ -229,14 +229,12 @@ class Calls:
 
 @functools.cache
 def reached():
-    """The functions that `run` of cell_replay and of mend_program, and `main` of either program, can come to. What implements a trait of the standard library is
-    called in ways that no name tells, so of a crate of the program it counts as reached.
+    """The functions that `run` of cell_replay and of mend_program, and `main` of a program, can come to. What implements a trait of the
+    standard library is called in ways that no name tells, so of a crate of the program it counts as reached.
     """
     calls, known = Calls(), set()
     theirs = [it for it in functions() if it.crate not in TESTS]
-    programs = (("cell_replay", "run"), ("cdsreplay", "main"), ("mend_program", "run"), ("cdsmend", "main"))
-    houses = (("house_serving", "serve"), ("house_segments", "last_record"), ("house_entries", "body_octets"), ("house_entries", "read_body"))
-    roots = (*programs, *houses, ("house_lines", "parse_house_line"))
+    roots = (("cell_replay", "run"), ("cdsreplay", "main"), ("mend_program", "run"), ("cdsmend", "main"), ("cdshouse", "main"))
     begin = [it for it in theirs if (it.crate, it.name) in roots]
     begin += [it for it in theirs if it.trait and it.trait not in traits()]
     while begin:

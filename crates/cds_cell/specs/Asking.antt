@@ -25,7 +25,7 @@ pub record Asked : Type 0 where
 abbrev pub answers_with : (high : Bool) → (x : ℕ) → View → Option Asked
 answers_with high x v = if not high || (master_of v.members == x) then Some (record { house = x; view = v }) else None
 
--- the same of a house that shows something of the directory, if it does (own)
+-- likewise of a house that shows something of the directory, if it does (own)
 abbrev pub answer_of_house : Views → (high : Bool) → (d x : ℕ) → Option Asked
 answer_of_house views high d x = option_and_then (answers_with high x) (views d x)
 

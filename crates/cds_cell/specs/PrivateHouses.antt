@@ -30,7 +30,7 @@ abbrev pub posted_by : HouseState → DirId → Option Outgoing → List Posted
 posted_by (state.Up c) dir outgoing = posts_at c dir outgoing
 posted_by (state.Down octets) dir outgoing = []
 
--- the same of a house of the cell (own)
+-- likewise of a house of the cell (own)
 abbrev pub posted_at : CellHouse → DirId → Option Outgoing → List Posted
 posted_at h dir outgoing = posted_by h.state dir outgoing
 

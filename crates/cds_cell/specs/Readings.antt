@@ -28,7 +28,7 @@ root_pointer g = if g.top root_dir == 0 then None else Some (pointer_to root_dir
 abbrev pub link_sight : (house : ℕ) → List ℕ → Sight
 link_sight house v = if is_full_name v then Link house (components_of v) else Absent house
 
--- the same of a child (own)
+-- likewise of a child (own)
 abbrev pub child_sight : (house : ℕ) → Option Pointer → Sight
 child_sight house None = Absent house
 child_sight house (Some p) = Child house p

@@ -56,7 +56,7 @@ objects_held x d None = []
 objects_held x d (Some (dir.Gone e)) = []
 objects_held x d (Some (dir.Held h)) = map (object_found d.0 x) (keys h.replica.table)
 
--- the same of all that a house has, if it is up
+-- all that a house has, if it is up
 abbrev pub objects_at : (x : ℕ) → HouseState → List Found
 objects_at x (state.Up c) = flat_map (λ d. objects_held x d (get c.dirs d)) (keys c.dirs)
 objects_at x (state.Down octets) = []

@@ -257,7 +257,7 @@ impl CellHouse {
         Ok(())
     }
 
-    /// The same house once more.
+    /// This house once more.
     pub fn copy(&self, alloc: Global) -> Result<CellHouse, AllocError>
         ensures { IfOk result (λ h. h ≡ self.now) }
     {
@@ -281,7 +281,7 @@ impl CellHouse {
 }
 
 impl HouseState {
-    /// The same once more.
+    /// A copy of it.
     fn copy(&self, alloc: Global) -> Result<HouseState, AllocError>
         ensures { IfOk result (λ s. s ≡ self.now) }
     {

@@ -224,7 +224,7 @@ fn see_led(
     kind: Kind,
     lead: Option<&Value>,
 ) -> Result<Seen, AllocError>
-    requires { IfSome (option_copied lead.entry) (λ v. is_readable kind v ≡ true) }
+    requires { IfSome (option_copied lead) (λ v. is_readable kind v ≡ true) }
     ensures { IfOk result
         (λ seen. sight_of seen ≡ led_sight kind house.0 (option_copied lead.entry)) }
 {

@@ -118,14 +118,14 @@ pub(crate) fn step_lent(alloc: Global, command: &Command) -> Result<Step, AllocE
     }
 }
 
-// The same list of a replica set once more.
+// A copy of the list of a replica set.
 fn listeds_copy(alloc: Global, others: &Listeds) -> Result<Listeds, AllocError>
     ensures { IfOk result (λ l. l ≡ others.now) }
 {
     Listeds::of(alloc, Vec::from_slice(alloc, others.list())?)
 }
 
-// The same numbers of houses once more.
+// A copy of numbers of houses.
 fn numbers_copy(alloc: Global, others: &HouseNos) -> Result<HouseNos, AllocError>
     ensures { IfOk result (λ l. l ≡ others.now) }
 {

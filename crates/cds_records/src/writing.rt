@@ -81,8 +81,8 @@ fn put_named(out: &mut Vec<u8>, name: &SimpleName, entry: &EntryCell) -> Result<
 /// The entries of a table.
 fn put_entries(out: &mut Vec<u8>, list: Iter<'_, SimpleName, EntryCell>) -> Result<(), AllocError>
     ensures octets { OnOk result (out.new.items
-        ≡ out.old.items ++ items_octets name_octets entry_octets list) }
-    ensures fits { OnOk result (ItemsFit (λ n. simple_name_fault n ≡ None) FitsEntry list) }
+        ≡ out.old.items ++ items_octets name_octets entry_octets list.entry) }
+    ensures fits { OnOk result (ItemsFit (λ n. simple_name_fault n ≡ None) FitsEntry list.entry) }
 {
     for (name, entry) in list {
         put_named(out, name, entry)?;
@@ -99,9 +99,9 @@ fn put_table(
 ) -> Result<(), AllocError>
     ensures octets { OnOk result (out.new.items
         ≡ out.old.items ++ (optional_stamp_octets stamp.now ++ to_be_bytes w64 count
-        ++ items_octets name_octets entry_octets list)) }
+        ++ items_octets name_octets entry_octets list.entry)) }
     ensures stamp { OnOk result (IfSome stamp.now FitsStamp) }
-    ensures each { OnOk result (ItemsFit (λ n. simple_name_fault n ≡ None) FitsEntry list) }
+    ensures each { OnOk result (ItemsFit (λ n. simple_name_fault n ≡ None) FitsEntry list.entry) }
 {
     put_optional_stamp(out, stamp)?;
     put_u64(out, count as u64)?;

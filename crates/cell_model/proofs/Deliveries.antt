@@ -170,7 +170,7 @@ delivered g p m ms s w up e =
     ∙ ap (at_house g m.receiver) e
 
 -- what waits after the first of them was taken and others were posted, in a cell with that bag and
--- the same losses
+-- equal losses
 pub waiting_next : (g h : Cell) (p : ℕ) (m : Message) (ms posts : List Message) → Waiting g p (m ∷ ms) → h.bag ≡ g.bag ++ posts → h.lost ≡ g.lost
     → Waiting h (p + 1) (ms ++ posts)
 waiting_next g h p m ms posts w bag lost = record {

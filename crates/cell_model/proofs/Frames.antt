@@ -108,7 +108,7 @@ module _ (roll : Roll) (g : View) (new : List Accepted) (h floor : ℕ) (slot : 
     gone = λ e z. absurd (cc);
   }
 
-  -- the same epoch
+  -- its epoch stays
   pub grown_owed : (r q : Replica) → slot ≡ Held q → Holds g h r → (g.house h).floor ≤ floor → r.epoch ≡ q.epoch → q.members ≡ r.members
       → IsPart r.history q.history → Turn roll g h floor r q → ((k : Mark) → In k q.history → In k r.history ⊎ Came roll g after new h floor q k)
       → Owed roll g after new h floor slot

@@ -40,7 +40,7 @@ module _ (roll : Roll) (g g' : View) (new : List Accepted) (s : Sound roll g) (s
       inr (subst (λ (z : Replica). IsPart z.history copy.history) same_r k.1))
       (f.posts m at)
 
-  -- the same phase as before
+  -- its phase stays as before
   round_same : (p : Phase) → r.phase ≡ p → r'.phase ≡ p → Round roll g h r p → Round roll g' h r' p
   round_same Idle e e' v = tt
   round_same (Gathering t a) e e' v =

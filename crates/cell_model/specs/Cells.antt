@@ -85,7 +85,7 @@ no_house = record { node = 0; clock = 0; floor = 0; up = false; slots = λ d. Ab
 abbrev pub empty_cell : Cell
 empty_cell = record { made = []; house = λ h. no_house; bag = []; lost = []; top = λ d. 0; present = λ d. []; next_dir = 2 }
 
--- the same function with another value at k (own)
+-- a function with another value at k (own)
 abbrev pub put : {A : Type 0} → (ℕ → A) → ℕ → A → ℕ → A
 put f k v n = if n == k then v else f n
 

@@ -147,7 +147,7 @@ CompletedHolds all =
     (outcome (replay (early ++ c ∷ mid)) e).answer ≡ Complete t ns → place_of (replay (early ++ c ∷ mid)) e ≡ Some (x, d) →
     AfterSpreading (replay all) d r t
 
--- the same of a skulk that completes in the step that begins it (own)
+-- likewise of a skulk that completes in the step that begins it (own)
 abbrev pub CompletedAtOnce : List Command → Type 0
 CompletedAtOnce all =
     (early late : List Command) (h d : ℕ) (r : Replica) (t : Stamp) (ns : List ℕ) →

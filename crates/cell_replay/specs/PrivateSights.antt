@@ -18,7 +18,8 @@ EndsBy number octets stream.TooManyTowers = ⊥
 
 -- the octets show the fault, or it is that the input ends
 abbrev pub TellsFault : ℕ → List ℕ → (ended : Bool) → StreamFault → Type 0
-TellsFault number octets ended fault = ShowsFault number octets fault ⊎ ((ended ≡ true) × EndsBy number octets fault)
+TellsFault number octets ended fault =
+    ShowsFault number octets fault ⊎ ((ended ≡ true) × EndsBy number octets fault)
 
 -- no tower and no fault is in front: there is nothing, or a part of a tower
 abbrev pub IsUnended : ℕ → List ℕ → Type 0
@@ -26,14 +27,18 @@ IsUnended number octets = (octets ≡ []) ⊎ ((fault : TowerFault) × EndsWithi
 
 -- what is seen is there
 abbrev pub Sees : ℕ → List ℕ → (ended : Bool) → Seen → Type 0
-Sees number octets ended (seen.Tower floors n) = (n ≤ length octets) × IsTaken number floors (take n octets)
+Sees number octets ended (seen.Tower floors n) = (n ≤ length octets)
+    × IsTaken number floors (take n octets)
 Sees number octets ended (seen.Fault fault) = TellsFault number octets ended fault
-Sees number octets ended seen.More = (ended ≡ false) × (length octets < TOWER_SIGHT) × IsUnended number octets
+Sees number octets ended seen.More = (ended ≡ false) × (length octets < TOWER_SIGHT)
+    × IsUnended number octets
 Sees number octets ended seen.End = (ended ≡ true) × (octets ≡ [])
 
 -- what is made of octets that begin no tower, by their number
 abbrev pub part_seen : ℕ → TowerFault → (ended : Bool) → Seen
-part_seen len fault ended = if nat_lt LONGEST_TOWER len then seen.Fault stream.TooLong else (if ended then seen.Fault (stream.Tower fault) else seen.More)
+part_seen len fault ended =
+    if nat_lt LONGEST_TOWER len then seen.Fault stream.TooLong else
+    (if ended then seen.Fault (stream.Tower fault) else seen.More)
 
 -- what is made of a fault of the octets
 abbrev pub seen_fault : ℕ → TowerFault → (ended : Bool) → Seen

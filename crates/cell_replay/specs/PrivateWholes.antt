@@ -24,5 +24,6 @@ IsSaid (said.Fault text) r = r ≡ Err text.items
 -- went out
 abbrev pub SaysEnd : Result Said AllocError → (sink sink' : Side) → Status → Type 0
 SaysEnd (Ok (said.Text text)) sink sink' result = Finishes sink sink' text.items ends.Ok result
-SaysEnd (Ok (said.Fault text)) sink sink' result = Finishes sink sink' text.items ends.BadInput result
+SaysEnd (Ok (said.Fault text)) sink sink' result =
+    Finishes sink sink' text.items ends.BadInput result
 SaysEnd (Err e) sink sink' result = (result ≡ ends.OutOfMemory) × (sink' ≡ sink)

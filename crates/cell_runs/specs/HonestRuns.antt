@@ -49,8 +49,10 @@ restarted_house now = started_house (crashed_house now)
 -- were that it took, each turn is the step of the model
 abbrev pub IsHonest : (x : ℕ) → House → List Entry → Type 0
 IsHonest x now [] = Unit {0}
-IsHonest x now (Started image ∷ es) = IsImageOf x (restarted_house now) image × IsHonest x (restarted_house now) es
+IsHonest x now (Started image ∷ es) = IsImageOf x (restarted_house now) image
+    × IsHonest x (restarted_house now) es
 IsHonest x now (Turned e ∷ es) =
     HasGoodList x e.order
     × ((m : Message) → Carries x (at_clock now e.clock) e.order m
-    → (t : Turn) × IsTurnOf x e (order_step x (at_clock now e.clock) e.order m) t × IsHonest x t.house es)
+    → (t : Turn) × IsTurnOf x e (order_step x (at_clock now e.clock) e.order m) t
+    × IsHonest x t.house es)

@@ -29,11 +29,19 @@ abbrev pub then_found : (x d : ℕ) → List Member → HouseStep → HouseStep
 then_found x d ms (Stays answer) = Stays answer
 then_found x d ms (Turns t) =
     let founded : Turn = found_directory x t.house d ms in
-    Turns (record { house = founded.house; posts = t.posts ++ founded.posts; answer = λ ns. with_number d (t.answer ns); accepted = t.accepted })
+    Turns
+    (record {
+      house = founded.house;
+      posts = t.posts ++ founded.posts;
+      answer =
+          λ ns. with_number d (t.answer ns);
+      accepted = t.accepted;
+    })
 
 -- the step of the house x at an order; of a message that is taken, m is that message (own)
 abbrev pub order_step : (x : ℕ) → model.House → Order → model.Message → HouseStep
-order_step x now (Root rs ss) m = Turns (found_directory x now root_dir (member_list_of [] 1 x rs ss))
+order_step x now (Root rs ss) m =
+    Turns (found_directory x now root_dir (member_list_of [] 1 x rs ss))
 order_step x now (Mkdir d n made rs ss) m =
     then_found x made (member_list_of [] 1 x rs ss)
     (accept x now d (MakeChild n (record { dir = made; master = x; others = sorted_houses rs })))

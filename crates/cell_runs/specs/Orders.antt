@@ -26,7 +26,8 @@ pub record Seen : Type 0 where
 
 -- before the first entry
 abbrev pub nothing_seen : List ℕ → Seen
-nothing_seen houses = record { made = houses; posts = []; top = λ d. 0; present = λ d. []; next_dir = 2 }
+nothing_seen houses =
+    record { made = houses; posts = []; top = λ d. 0; present = λ d. []; next_dir = 2 }
 
 -- an epoch of a directory is known
 abbrev pub note_seen : Seen → (d k : ℕ) → List Member → Seen
@@ -35,7 +36,8 @@ note_seen s d k ms = record s { top = put s.top d k; present = put s.present d m
 -- what an order of the house x makes known
 abbrev pub order_seen : Seen → (x : ℕ) → Order → Seen
 order_seen s x (Root rs ss) = note_seen s root_dir 1 (member_list_of [] 1 x rs ss)
-order_seen s x (Mkdir d n made rs ss) = record (note_seen s made 1 (member_list_of [] 1 x rs ss)) { next_dir = made + 1 }
+order_seen s x (Mkdir d n made rs ss) =
+    record (note_seen s made 1 (member_list_of [] 1 x rs ss)) { next_dir = made + 1 }
 order_seen s x (Epoch d k ms left) = note_seen s d k ms
 order_seen s x other = s
 
@@ -91,7 +93,8 @@ entries_of x (e ∷ line) = if e.0 == x then e.1 ∷ entries_of x line else entr
 --
 abbrev pub place_of : (x : ℕ) → (octets : List ℕ) → List Post → ℕ
 place_of x octets [] = zero
-place_of x octets (p ∷ ps) = if (p.to == x) && bytes_eq octets p.octets then zero else suc (place_of x octets ps)
+place_of x octets (p ∷ ps) =
+    if (p.to == x) && bytes_eq octets p.octets then zero else suc (place_of x octets ps)
 
 -- the command that an order of the house x is
 abbrev pub command_of : Seen → (x : ℕ) → Order → Command
@@ -141,13 +144,15 @@ pub record AreRuns (houses : List MadeHouse) (logs : ℕ → List Entry) : Type 
   pub others : (x : ℕ) → has x (numbers_in houses) ≡ false → logs x ≡ []
 
 -- an order of all entries, in which each can follow those before it
-pub record IsOrderOf (houses : List MadeHouse) (logs : ℕ → List Entry) (line : List (ℕ × Entry)) : Type 0 where
+pub record IsOrderOf (houses : List MadeHouse) (logs : ℕ → List Entry) (line : List (ℕ × Entry)) :
+    Type 0 where
   pub merge : (x : ℕ) → entries_of x line ≡ logs x
   pub follows : Follows (nothing_seen (numbers_in houses)) line
 
 -- the commands of such an order
 abbrev pub commands_of : List MadeHouse → List (ℕ × Entry) → List Command
-commands_of houses line = house_commands houses ++ line_commands (nothing_seen (numbers_in houses)) line
+commands_of houses line =
+    house_commands houses ++ line_commands (nothing_seen (numbers_in houses)) line
 
 -- no command is refused
 abbrev pub NoneRefused : List Command → Type 0

@@ -63,7 +63,8 @@ start_seen x g other = None
 -- epochs)
 abbrev pub epoch_order : Cell → (d : ℕ) → (k : ℕ) → (m : ℕ) → (rs ss : List ℕ) → Order
 epoch_order g d k m rs ss =
-    Epoch d k (member_list_of (g.present d) k m rs ss) (left_members (g.present d) (member_list_of (g.present d) k m rs ss))
+    Epoch d k (member_list_of (g.present d) k m rs ss)
+    (left_members (g.present d) (member_list_of (g.present d) k m rs ss))
 
 -- the entry that a command makes, and the house that makes it: none if the command is refused or in
 -- vain. A child whose directory has another master is made by two houses, and no entry tells that
@@ -71,14 +72,18 @@ epoch_order g d k m rs ss =
 abbrev pub seen_at : Cell → Command → Option (ℕ × Entry)
 seen_at g (commands.Root m rs ss) = turn_seen g m (Root rs ss) (outcome g (commands.Root m rs ss))
 seen_at g (commands.Mkdir h d n m rs ss) =
-    if m == h then turn_seen g h (Mkdir d n g.next_dir rs ss) (outcome g (commands.Mkdir h d n m rs ss)) else None
+    if m == h then turn_seen g h (Mkdir d n g.next_dir rs ss)
+    (outcome g (commands.Mkdir h d n m rs ss)) else None
 seen_at g (commands.Repoint h d n m rs) =
-    turn_seen g h (Accept d (updates.Repoint n m (sorted_houses rs))) (outcome g (commands.Repoint h d n m rs))
+    turn_seen g h (Accept d (updates.Repoint n m (sorted_houses rs)))
+    (outcome g (commands.Repoint h d n m rs))
 seen_at g (commands.Accept h d u) = turn_seen g h (Accept d u) (outcome g (commands.Accept h d u))
-seen_at g (commands.Epoch d m rs ss) = turn_seen g m (epoch_order g d (g.top d + 1) m rs ss) (outcome g (commands.Epoch d m rs ss))
+seen_at g (commands.Epoch d m rs ss) =
+    turn_seen g m (epoch_order g d (g.top d + 1) m rs ss) (outcome g (commands.Epoch d m rs ss))
 seen_at g (commands.Skulk h d) = turn_seen g h (Skulk d) (outcome g (commands.Skulk h d))
 seen_at g (commands.Deliver n) = taking_seen g (message_at g n) (outcome g (commands.Deliver n))
-seen_at g (commands.Start h) = start_seen h (outcome g (commands.Start h)).cell (outcome g (commands.Start h)).answer
+seen_at g (commands.Start h) =
+    start_seen h (outcome g (commands.Start h)).cell (outcome g (commands.Start h)).answer
 seen_at g other = None
 
 -- the entries of the house x, with one before them if it is of x

@@ -100,7 +100,7 @@ each_word says read (w ∷ ws) = do
   xs ← each_word says (read + 1) ws
   Ok (x ∷ xs)
 
--- the same of all words that are left, and no words after them
+-- likewise of all words that are left, and no words after them
 abbrev pub all_words : {A : Type 0} → (List ℕ → Option A) → ℕ → List (List ℕ) → Result (List A × Words) ParseFault
 all_words says read ws = do
   xs ← each_word says read ws
@@ -166,7 +166,7 @@ abbrev pub Builds : List Form → Type 0 → Type 0
 Builds [] A = A
 Builds (f ∷ fs) A = Said f → Builds fs A
 
--- the same, with a last step
+-- likewise, with a last step
 abbrev pub followed_by : {A B : Type 0} → (A → B) → (fs : List Form) → Builds fs A → Builds fs B
 followed_by last [] a = last a
 followed_by last (f ∷ fs) build = λ x. followed_by last fs (build x)

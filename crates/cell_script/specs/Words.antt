@@ -68,7 +68,7 @@ house_of w = option_map (λ n. record { 0 = n }) (number_to most_house w)
 abbrev pub listed_as : (secondary : Bool) → List ℕ → Option Listed
 listed_as secondary w = option_map (λ h. record { house = h; secondary = secondary }) (house_of w)
 
--- the same where an `s` before the number says that it is secondary
+-- likewise where an `s` before the number says that it is secondary
 abbrev pub listed_of : List ℕ → Option Listed
 listed_of [] = listed_as false []
 listed_of (c ∷ cs) = if c == 115 then listed_as true cs else listed_as false (c ∷ cs)

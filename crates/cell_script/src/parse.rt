@@ -48,7 +48,7 @@ fn made(alloc: Global, word: &[u8], words: &mut Words<'_>) -> Parsed<ScriptLine>
     updated(alloc, word, words)
 }
 
-// The same of an update of an entry, or of another.
+// An update of an entry, or a command of a later kind.
 #[tactic(auto, unfolding(crate::specs::PrivateRows::by_entry_rows))]
 fn updated(alloc: Global, word: &[u8], words: &mut Words<'_>) -> Parsed<ScriptLine>
     ensures { Says result (by_entry_rows word.now words.old) }
@@ -65,7 +65,7 @@ fn updated(alloc: Global, word: &[u8], words: &mut Words<'_>) -> Parsed<ScriptLi
     changed(alloc, word, words)
 }
 
-// The same of a change of an entry's values, or of another.
+// A change of an entry's values, or a command of a later kind.
 #[tactic(auto, unfolding(crate::specs::PrivateRows::by_value_rows))]
 fn changed(alloc: Global, word: &[u8], words: &mut Words<'_>) -> Parsed<ScriptLine>
     ensures { Says result (by_value_rows word.now words.old) }
@@ -85,7 +85,7 @@ fn changed(alloc: Global, word: &[u8], words: &mut Words<'_>) -> Parsed<ScriptLi
     replicated(alloc, word, words)
 }
 
-// The same of a command about all replicas of a directory, or of another.
+// A command about all replicas of a directory, or one of a later kind.
 #[tactic(auto, unfolding(crate::specs::PrivateRows::by_replica_rows))]
 fn replicated(alloc: Global, word: &[u8], words: &mut Words<'_>) -> Parsed<ScriptLine>
     ensures { Says result (by_replica_rows word.now words.old) }
@@ -99,7 +99,7 @@ fn replicated(alloc: Global, word: &[u8], words: &mut Words<'_>) -> Parsed<Scrip
     befallen(alloc, word, words)
 }
 
-// The same of what befalls a message or a house, or of a question.
+// What befalls a message or a house, or a question.
 #[tactic(auto, unfolding(crate::specs::PrivateRows::befallen))]
 fn befallen(alloc: Global, word: &[u8], words: &mut Words<'_>) -> Parsed<ScriptLine>
     ensures { Says result (befallen word.now words.old) }
@@ -119,7 +119,7 @@ fn befallen(alloc: Global, word: &[u8], words: &mut Words<'_>) -> Parsed<ScriptL
     asked(alloc, word, words)
 }
 
-// The same of a question, or of a command of the name service.
+// A question, or a command of the name service.
 #[tactic(auto, unfolding(crate::specs::PrivateRows::by_question_rows))]
 fn asked(alloc: Global, word: &[u8], words: &mut Words<'_>) -> Parsed<ScriptLine>
     ensures { Says result (by_question_rows word.now words.old) }
@@ -142,7 +142,7 @@ fn asked(alloc: Global, word: &[u8], words: &mut Words<'_>) -> Parsed<ScriptLine
     served(alloc, word, words)
 }
 
-// The same of a command that finds or changes what servers export, of groups and of profiles, or
+// A command that finds or changes what servers export, of groups and of profiles, or
 // the fault of a word of no command.
 #[tactic(auto, unfolding(crate::specs::PrivateRows::by_service_rows))]
 fn served(alloc: Global, word: &[u8], words: &mut Words<'_>) -> Parsed<ScriptLine>

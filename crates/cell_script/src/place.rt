@@ -117,7 +117,7 @@ impl Place {
         }
     }
 
-    // The same place, where the next part was begun, if the last one is over.
+    // The place where the next part was begun, if the last one is over.
     fn begun(self) -> Place
         ensures left { left_at result ≡ left_at self }
         ensures begun { IsBegun result }

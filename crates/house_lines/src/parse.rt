@@ -46,7 +46,7 @@ fn made(alloc: Global, word: &[u8], words: &mut Words<'_>) -> Parsed<HouseLine>
     updated(alloc, word, words)
 }
 
-// The same of an update of an entry, or of another.
+// An update of an entry, or a line of a later kind.
 #[tactic(auto, unfolding(crate::specs::PrivateLineRows::by_entry_rows))]
 fn updated(alloc: Global, word: &[u8], words: &mut Words<'_>) -> Parsed<HouseLine>
     ensures { Says result (by_entry_rows word.now words.old) }
@@ -63,7 +63,7 @@ fn updated(alloc: Global, word: &[u8], words: &mut Words<'_>) -> Parsed<HouseLin
     changed(alloc, word, words)
 }
 
-// The same of a change of an entry's values, or of another.
+// A change of an entry's values, or a line of a later kind.
 #[tactic(auto, unfolding(crate::specs::PrivateLineRows::by_value_rows))]
 fn changed(alloc: Global, word: &[u8], words: &mut Words<'_>) -> Parsed<HouseLine>
     ensures { Says result (by_value_rows word.now words.old) }
@@ -83,7 +83,7 @@ fn changed(alloc: Global, word: &[u8], words: &mut Words<'_>) -> Parsed<HouseLin
     handed(alloc, word, words)
 }
 
-// The same of a skulk, or of octets of a message, or of another.
+// A skulk, or octets of a message, or a line of a later kind.
 #[tactic(auto, unfolding(crate::specs::PrivateLineRows::by_message_rows))]
 fn handed(alloc: Global, word: &[u8], words: &mut Words<'_>) -> Parsed<HouseLine>
     ensures { Says result (by_message_rows word.now words.old) }
@@ -100,7 +100,7 @@ fn handed(alloc: Global, word: &[u8], words: &mut Words<'_>) -> Parsed<HouseLine
     asked(alloc, word, words)
 }
 
-// The same of a question, or the fault of a word of no command.
+// A question, or the fault of a word of no command.
 #[tactic(auto, unfolding(crate::specs::PrivateLineRows::by_question_rows))]
 fn asked(alloc: Global, word: &[u8], words: &mut Words<'_>) -> Parsed<HouseLine>
     ensures { Says result (by_question_rows word.now words.old) }

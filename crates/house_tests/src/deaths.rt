@@ -49,10 +49,14 @@ fn sent(alloc: Global, replica: &Replica) -> Result<Replica, Fail> {
     let octets = encode_spread(alloc, &head, &stamp(1)?, &replica.delta(alloc)?)?;
     let (message, _) = decode(alloc, &octets)?;
     match &message.body {
-        Body::Spread(_, delta) => Ok(Replica {
-            table: delta.table.copy(alloc)?,
-            all_up_to: delta.above,
-        }),
+        Body::Spread(_, delta) => {
+            let mut table = Table::new(alloc);
+            table.join_excerpt(alloc, &delta.table)?;
+            Ok(Replica {
+                table,
+                all_up_to: delta.above,
+            })
+        }
         _ => Err("another message".into()),
     }
 }

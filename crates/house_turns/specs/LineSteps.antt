@@ -1,5 +1,5 @@
--- What a line tells a house to do, and what a house of the model then does (own, after C705, updates,
--- skulks and new epochs).
+-- What a line tells a house to do, and what a house of the model then does (own, after C705,
+-- updates, skulks and new epochs).
 use Rattle.std.specs.Prelude.{ℕ, List, [], Option, Some, None}
 use Rattle.cds_stamps.specs.Members.{Member, members_of}
 use Rattle.directory.specs.Updates.{Repoint, change_of}

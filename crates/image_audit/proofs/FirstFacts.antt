@@ -1,5 +1,5 @@
--- The fact that is told is the first open one of both replicas, and where none is told none is
--- open.
+-- The fact that is reported is the first open one of both replicas, and where none is reported none
+-- is open.
 use Rattle.std.proofs.Common.{◌≡◌, inl, inr, ℕ, Bool, true, false, List, [], ◌∷◌, Option, Some, None, refl, sym, ap, subst, ◌∙◌, ⊎_elim, arith}
 use Rattle.std.specs.Prelude.{if◌then◌else◌}
 use Rattle.std.specs.List.{Contains, find}
@@ -37,7 +37,7 @@ module _ (t : Option Stamp) (own other : Replica) where
   abbrev found : Option Fact
   found = find (is_open other.table) (facts t own.table)
 
-  -- what is told of it is open
+  -- what is reported of it is open
   open_found : (f : Fact) → open_of t own other ≡ Some f → IsOpenFact t own other f
   open_found f is = at (is_up_to_same t other.all_up_to) refl is
     where
@@ -52,7 +52,7 @@ module _ (t : Option Stamp) (own other : Replica) where
   open_least f g is one =
       first_is_least t own.table (is_open other.table) f g (sym (ap (λ b. if b then found else None) one.asked) ∙ is) one.among one.silent
 
-  -- where nothing is told none is open
+  -- where nothing is reported none is open
   open_none : open_of t own other ≡ None → (g : Fact) → IsOpenFact t own other g → ⊥
   open_none is g one =
       not_both (is_open other.table g) one.silent
@@ -95,7 +95,7 @@ module _ (one two : Replica) where
   abbrev t : Option Stamp
   t = smaller one.all_up_to two.all_up_to
 
-  -- what is told is the first, of the first replica
+  -- what is reported is the first, of the first replica
   first_is : (f : Fact) → open_of t one two ≡ Some f → ((g : Fact) → IsOpenFact t two one g → is_lt (fact_cmp g f) ≡ false) → IsFirstOpen one two 1 f
   first_is f is others = record {
     open_there = inl (refl, open_found t one two f is);
@@ -117,7 +117,7 @@ module _ (one two : Replica) where
         (then_not (fact_cmp g f) (nat_cmp 2 2) (open_least t two one f g is theirs.1) refl));
   }
 
-  -- what is told of two: the first open fact, or that there is none
+  -- what is reported of two: the first open fact, or that there is none
   abbrev IsFirst : Option (ℕ × Fact) → Type 0
   IsFirst None = (image : ℕ) (f : Fact) → OpenIn one two image f → ⊥
   IsFirst (Some f) = IsFirstOpen one two f.0 f.1
@@ -142,7 +142,7 @@ module _ (first second : Image) (dir : DirId) (one two : Replica) (mine : replic
   told_is : verdict first second dir ≡ tell_verdict (smaller one.all_up_to two.all_up_to) (first_open one two)
   told_is = ap (λ r. verdict_of r (replica_in second dir)) mine ∙ ap (verdict_of (Some one)) theirs
 
-  -- the fact that is told is the first open one
+  -- the fact that is reported is the first open one
   pub differ_first : (image : ℕ) (f : Fact) → verdict first second dir ≡ Differ image f → IsFirstOpen one two image f
   differ_first image f is = by_told (first_open one two) (sym told_is ∙ is) (both_told one two)
     where
@@ -153,7 +153,7 @@ module _ (first second : Image) (dir : DirId) (one two : Replica) (mine : replic
           let fact : x.1 ≡ f = cc (h) in
           subst (λ i. IsFirstOpen one two i f) same (subst (IsFirstOpen one two x.0) fact first)
 
-  -- and where they are told to agree none is open
+  -- and where they are reported to agree none is open
   pub agree_none : (t : Option Stamp) → verdict first second dir ≡ Agree t → (image : ℕ) (f : Fact) → OpenIn one two image f → ⊥
   agree_none t is = by_told (first_open one two) (sym told_is ∙ is) (both_told one two)
     where

@@ -1,4 +1,4 @@
--- The first fact that is told of a table is the first open one.
+-- The first fact that is reported of a table is the first open one.
 use Rattle.std.proofs.Common.{◌≡◌, ℕ, Bool, true, false, not, List, [], ◌∷◌, Option, Some, None, refl, ap, ◌∙◌}
 use Rattle.std.specs.Prelude.{◌&&◌, ◌||◌, if◌then◌else◌}
 use Rattle.std.specs.List.{find, flat_map}

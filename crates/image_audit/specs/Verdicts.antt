@@ -71,7 +71,7 @@ verdict_of (Some one) (Some two) = tell_verdict (smaller one.all_up_to two.all_u
 abbrev pub verdict : Image → Image → DirId → Verdict
 verdict first second dir = verdict_of (replica_in first dir) (replica_in second dir)
 
--- a fact is told (own)
+-- a fact is reported (own)
 abbrev pub is_differ : Verdict → Bool
 is_differ (NoReplica image) = false
 is_differ (Agree t) = false

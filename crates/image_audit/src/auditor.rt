@@ -46,7 +46,7 @@ fn open_of<'a>(t: Option<Stamp>, own: &'a Replica, other: &Replica) -> Option<Op
     }
 }
 
-// What is told of the first open fact of each replica, if any.
+// What is reported of the first open fact of each replica, if any.
 fn tell(
     alloc: Global,
     t: Option<Stamp>,

@@ -76,7 +76,7 @@ impl OpenFact<'_> {
         }
     }
 
-    // The same of two facts of one name.
+    // Of two facts of one name.
     fn is_before_within(&self, other: &OpenFact<'_>) -> bool
         ensures { octets_cmp (fact_name (fact_of self.now)) (fact_name (fact_of other.now)) ≡ Equal
             → result ≡ is_lt (fact_cmp (fact_of self.now) (fact_of other.now)) }

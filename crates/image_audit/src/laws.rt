@@ -13,7 +13,7 @@ ghost use Rattle.image_audit.specs.Facts.{facts};
 ghost use Rattle.image_audit.specs.Verdicts.{smaller, replica_in, verdict};
 ghost use Rattle.image_audit.specs.LawWords.{HasReplica, HoldsUpTo, OpenIn, IsFirstOpen};
 
-/// Images with replicas of histories that agree up to the smaller AllUpTo are told to agree. So
+/// Images with replicas of histories that agree up to the smaller AllUpTo are reported to agree. So
 /// Differ shows that the histories do not.
 pub fn agreeing_replicas_are_never_told_to_differ()
     ensures { (first second : Image) (dir : DirId) (h g : List Mark) (a b : Option Stamp) →
@@ -22,9 +22,9 @@ pub fn agreeing_replicas_are_never_told_to_differ()
         → verdict first second dir ≡ Agree (smaller a b) }
 {}
 
-/// Where images with replicas of one AllUpTo are told to agree, each has each fact of the other up
-/// to it, or something in its place, and all that is in its place is later than that. Where the two
-/// AllUpTo differ, nothing is said of what the smaller side has alone.
+/// Where images with replicas of one AllUpTo are reported to agree, each has each fact of the other
+/// up to it, or something in its place, and all that is in its place is later than that. Where the
+/// two AllUpTo differ, nothing is said of what the smaller side has alone.
 pub fn replicas_that_agree_hold_each_fact()
     ensures first { (first second : Image) (dir : DirId) (h g : List Mark) (t : Stamp) →
         HasReplica first dir h (Some t) → HasReplica second dir g (Some t)
@@ -38,9 +38,9 @@ pub fn replicas_that_agree_hold_each_fact()
         → HoldsUpTo t (purged_entries h (Some t)) f }
 {}
 
-/// Of two replicas that are told to differ the fact that is told is open, and comes before every
-/// other open one: by name, the birth before the values, these by attribute and value, and of one
-/// place that of the first image. Where they are told to agree none is open.
+/// Of two replicas that are reported to differ the fact that is reported is open, and comes before
+/// every other open one: by name, the birth before the values, these by attribute and value, and of
+/// one place that of the first image. Where they are reported to agree none is open.
 pub fn the_first_open_fact_is_told()
     ensures differ { (first second : Image) (dir : DirId) (one two : Replica) →
         replica_in first dir ≡ Some one → replica_in second dir ≡ Some two →

@@ -46,7 +46,8 @@ PutsAll (Err e) disks lists ps = GivesUp e disks lists ps
 -- a put was stopped, and its journal has the image or not; or this was given up
 abbrev pub StopsPut : Result Bool Unkept → List MemState → Lists → (after : Bool) → Put → Type 0
 StopsPut (Ok answered) disks lists after p =
-    (answered ≡ after) × HoldAll disks (if after then with_put p lists else lists) × (lacks_room lists (p ∷ []) ≡ false)
+    (answered ≡ after) × HoldAll disks (if after then with_put p lists else lists)
+    × (lacks_room lists (p ∷ []) ≡ false)
 StopsPut (Err e) disks lists after p = GivesUp e disks lists (p ∷ [])
 
 -- what a journal gives is the image of its house; and nothing of a house that was not made
@@ -61,7 +62,9 @@ said_puts s said = puts_of (replay_from s.cell said.steps) (acting_houses s.cell
 -- commands are done and answered, and their puts are
 pub record AreDone (a : Answer) (k : Keeper) (s : JournaledCell) (said : Said) : Type 0 where
   pub answer : said.answer ≡ Some a
-  pub stands : StandsKeeper k (record { cell = replay_from s.cell said.steps; lists = with_puts (said_puts s said) s.lists })
+  pub stands : StandsKeeper k
+      (record
+      { cell = replay_from s.cell said.steps; lists = with_puts (said_puts s said) s.lists })
   pub room : lacks_room s.lists (said_puts s said) ≡ false
 
 -- so they are, or they were given up
@@ -70,7 +73,8 @@ Does (Ok a) k s said = AreDone a k s said
 Does (Err e) k s said = GivesUp e k.disks.items s.lists (said_puts s said)
 
 -- a line is answered, and all is as it leaves it
-pub record IsReplied (a : JournalAnswer) (k : Keeper) (s : JournaledCell) (l : JournalLine) : Type 0 where
+pub record IsReplied (a : JournalAnswer) (k : Keeper) (s : JournaledCell) (l : JournalLine) : Type
+    0 where
   pub answer : (journal_said s.cell l).answer ≡ Some a
   pub stands : StandsKeeper k (state_after s l)
   pub room : lacks_room s.lists (puts_in s l) ≡ false
@@ -85,4 +89,5 @@ Replies (Err e) k s l = GivesUp e k.disks.items s.lists (puts_in s l)
 abbrev pub IsToStop : Stopping → Cell → (h : ℕ) → Command → Type 0
 IsToStop (stop.Refused refused) g h c = stop_refused g h c ≡ Some refused
 IsToStop stop.Nothing g h c = (stop_refused g h c ≡ None) × (image_after g h c ≡ None)
-IsToStop (stop.Put image) g h c = (stop_refused g h c ≡ None) × (image_after g h c ≡ Some image.items)
+IsToStop (stop.Put image) g h c = (stop_refused g h c ≡ None)
+    × (image_after g h c ≡ Some image.items)

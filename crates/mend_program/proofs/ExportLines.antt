@@ -1,7 +1,7 @@
 -- How much an export of a line can ask for: each text of a list has its least length, and a line
 -- its greatest.
-use Rattle.std.proofs.Common.{◌≡◌, ◌≢◌, ℕ, ◌+◌, ◌*◌, ◌≤◌, Bool, true, false, ◌&&◌, ◌||◌, not, cond, List, [], ◌∷◌, ◌++◌, length, refl, sym, ◌∙◌, ap, subst}
-use Rattle.std.proofs.Common.{arith, length-append, nat_lt, suc}
+use Rattle.std.proofs.Common.{◌≡◌, ◌≢◌, ℕ, ◌+◌, ◌*◌, ◌≤◌, Bool, true, false, ◌&&◌, not, cond, List, [], ◌∷◌, ◌++◌, length, refl, sym, ◌∙◌, ap, subst}
+use Rattle.std.proofs.Common.{arith, length-append, nat_lt}
 use Rattle.std.specs.Prelude.{filter, Option, None, Some, Ok, Err, Result, codes, nat_eq, ◌==◌, if◌then◌else◌}
 use Rattle.std.specs.List.{AllByRecursion, list_any, slice_split, onto_first, starts_with}
 use Rattle.std.specs.Option.{option_and_then, option_map}
@@ -9,12 +9,12 @@ use Rattle.std.specs.Result.{result_ok}
 use Rattle.std.specs.Str.{bytes_eq}
 use Rattle.std.proofs.lemmas.Bool.Decides.{nat_tests}
 use Rattle.uuid.specs.Parts.{is_nil_bytes}
-use Rattle.uuid.specs.Text.{digits_of, has_hyphens, parsed_hyphenated, parsed_simple}
+use Rattle.uuid.specs.Text.{digits_of, has_hyphens, parsed_simple}
 use Rattle.cds_stamps.specs.declared.numbers.HouseNo.{HouseNo}
 use Rattle.cds_base.specs.declared.scan.TheConstants.{LONGEST_LINE, MOST_LINES}
 use Rattle.cds_base.specs.declared.scan.LineFault.{LineFault}
-use Rattle.cds_base.specs.declared.scan.LineFault.TheVariants.{LineTooLong, NotAscii, TooManyLines}
-use Rattle.cds_base.specs.LineFaults.{AreClean, IsLine, fault_at, is_printable}
+use Rattle.cds_base.specs.declared.scan.LineFault.TheVariants.{LineTooLong, TooManyLines}
+use Rattle.cds_base.specs.LineFaults.{AreClean, IsLine, fault_at}
 use Rattle.tower_codec.specs.declared.binding.StringBinding.{StringBinding}
 use Rattle.tower_codec.specs.declared.fault.BindingFault.{BindingFault}
 use Rattle.tower_codec.specs.declared.rpc.Protseq.{Protseq}

@@ -1,5 +1,5 @@
 -- How many messages a command posts: to each member of a list at most two.
-use Rattle.std.proofs.Common.{◌≡◌, ℕ, ◌+◌, ◌≤◌, Bool, true, false, ◌||◌, eqb, cond, List, [], ◌∷◌, ◌++◌, map, length, refl, sym, ap, ◌∙◌, subst, arith}
+use Rattle.std.proofs.Common.{◌≡◌, ℕ, ◌+◌, ◌≤◌, Bool, true, false, eqb, cond, List, [], ◌∷◌, ◌++◌, length, refl, sym, ap, ◌∙◌, subst, arith}
 use Rattle.std.proofs.Common.{length-append, suc, nat_lt}
 use Rattle.std.proofs.Common.{not}
 use Rattle.std.specs.Prelude.{Option, Some, None, nat_le, ◌&&◌}
@@ -16,7 +16,7 @@ use Rattle.cell_model.specs.Commands as commands
 use Rattle.cell_model.specs.Commands.{Accepted, Command, Refusal, Answer, Stamped, NewEpoch, Complete}
 use Rattle.cell_model.specs.Sets.{has}
 use Rattle.cell_model.specs.Turns.{HouseStep, Stays, Turns, accept, accept_at, accept_in, all_answered, begin, epoch_posts, found_directory, late_join, late_leave}
-use Rattle.cell_model.specs.Turns.{new_epoch, new_epoch_in, skulk, skulk_at, skulk_in, take, take_ack, take_gathered, take_in, take_join, take_leave, take_other, take_own}
+use Rattle.cell_model.specs.Turns.{new_epoch, new_epoch_in, skulk, skulk_at, skulk_in, take, take_ack, take_gathered, take_in, take_other, take_own}
 use Rattle.cell_model.specs.Turns.{stamp_at, to_each, unless_late, unless_refused, update_refusal, copy_of, epoch_replica, first_replica, floor_after}
 use Rattle.cell_model.specs.Turns.{join_replica, later_up_to, merge_copy, refuses, spread, stale, take_and_answer, take_gathered_answer, takes, to_others}
 use Rattle.cell_model.specs.Turns.{turn_without_updates, with_slot}

@@ -1,6 +1,6 @@
 -- How many messages the lines of a script post: so few that serial numbers are left for those that
 -- mend a directory.
-use Rattle.std.proofs.Common.{◌≡◌, ℕ, ◌+◌, ◌*◌, ◌≤◌, Bool, true, false, zero, suc, List, [], ◌∷◌, ◌++◌, map, length, take, refl, sym, ◌∙◌, ap, subst}
+use Rattle.std.proofs.Common.{◌≡◌, ℕ, ◌+◌, ◌*◌, ◌≤◌, Bool, true, false, zero, suc, List, [], ◌∷◌, ◌++◌, map, length, take, refl, sym, ap, subst}
 use Rattle.std.proofs.Common.{append_assoc, arith, length-append}
 use Rattle.std.proofs.lemmas.List.{length-map}
 use Rattle.std.specs.Prelude.{filter, is_none, Option, None, Some, Ok, Err, Result}
@@ -37,8 +37,8 @@ use Rattle.std.specs.Option.{option_map}
 use Rattle.cds_cell.specs.Accepting.{accept_in_turn}
 use Rattle.cds_cell.specs.Scripted.{step_of}
 use Rattle.script_replay.specs.Replies.{Numbered, does, question_said, steps_of, trusted_reader}
-use Rattle.cell_replay.specs.Headline.{commands_from, commands_of}
-use Rattle.cell_replay.specs.Scripts.{IsScript, IsScriptOf, Says}
+use Rattle.script_replay.specs.Headline.{commands_from, commands_of}
+use Rattle.script_replay.specs.Scripts.{IsScript, IsScriptOf, Says}
 use Rattle.mend_program.proofs.ExportLines.{IsShort, line_numbered, line_short}
 use Rattle.mend_program.proofs.Posts.{command_gains, command_posts, update_posts}
 use Rattle.mend_program.proofs.Values.{gain, made_both, made_in, ordered_few, update_gains, values_made}
@@ -92,7 +92,7 @@ taken_few (suc n) [] = (omega arith, omega arith)
 taken_few (suc n) (u ∷ us) = let rest = taken_few n us in let length_rest = rest.0 in let gains_rest = rest.1 in (omega (arith, length_rest), omega (arith, gains_rest))
 
 gains_both : (us vs : List changes.Change) → gains (us ++ vs) ≡ gains us + gains vs
-gains_both [] vs = refl
+gains_both [] vs = omega arith
 gains_both (u ∷ us) vs = let rest = gains_both us vs in omega (arith, rest)
 
 gain_few : (u : changes.Change) → gain u ≤ 1
@@ -112,7 +112,7 @@ gains_few (u ∷ us) = let one = gain_few u in let rest = gains_few us in omega 
 
 removals_gain : (n a : List ℕ) (vs : List (List ℕ)) → gains (map (changes.Remove n a) vs) ≡ 0
 removals_gain n a [] = refl
-removals_gain n a (v ∷ vs) = removals_gain n a vs
+removals_gain n a (v ∷ vs) = let rest = removals_gain n a vs in omega (arith, rest)
 
 -- ---- what commands of the name service ask for
 
@@ -147,17 +147,20 @@ made_short values n absent u =
     let count = length-append (creation n absent) (u ∷ []) in
     let one = created n absent in short_modest values (creation n absent ++ u ∷ []) (omega (arith, count, one))
 
+three_few : (first second third : List changes.Change) → length first ≤ 1 → length (first ++ second ++ third) ≤ 1 + (length second + length third)
+three_few first second third one =
+    let whole = length-append (first ++ second) third in
+    let front = length-append first second in omega (arith, whole, front, one)
+
 export_modest : (values : ℕ) (n : List ℕ) (absent : Bool) (interface : Interface) (bindings : List StringBinding) (objects : List (List ℕ))
     → length bindings + length objects ≤ 402 → IsModest values (export_changes n absent interface bindings objects)
 export_modest values n absent interface bindings objects few =
-    let towers : List changes.Change = map (tower_added n interface) bindings in
-    let added : List changes.Change = map (object_added n) objects in
-    let whole = length-append (creation n absent) (towers ++ added) in
-    let rest = length-append towers added in
-    let one : length (creation n absent) ≤ 1 = created n absent in
-    let first : length towers ≡ length bindings = length-map bindings (tower_added n interface) in
-    let second : length added ≡ length objects = length-map objects (object_added n) in
-    short_modest values (export_changes n absent interface bindings objects) (omega (arith, whole, rest, one, first, second, few))
+    let count : length (export_changes n absent interface bindings objects)
+    ≤ 1 + (length (map (tower_added n interface) bindings) + length (map (object_added n) objects)) =
+    three_few (creation n absent) (map (tower_added n interface) bindings) (map (object_added n) objects) (created n absent) in
+    let first = length-map bindings (tower_added n interface) in
+    let second = length-map objects (object_added n) in
+    short_modest values (export_changes n absent interface bindings objects) (omega (arith, count, first, second, few))
 
 module _ (cs : List Command) where
   removed_few : (at : Found) (a : List ℕ) (p : List ℕ → Bool) → length (in_ascending_order (filter p ((trusted_reader (replay cs)).values at a))) ≤ made cs
@@ -177,6 +180,14 @@ module _ (cs : List Command) where
       let none = removals_gain at.name tower_attribute towers in
       let no_more = removals_gain at.name object_attribute held in
       record { few = omega (arith, whole, one, two, first, second); gained = omega (arith, both, none, no_more) }
+
+  unexport_asked : (at : Found) (interface : Option Interface) (objects : List (List ℕ)) → Modest (made cs) (unless_none at
+      (unexport_changes at.name ((trusted_reader (replay cs)).values at tower_attribute) ((trusted_reader (replay cs)).values at object_attribute) interface objects))
+  unexport_asked at interface objects =
+      let gone : List changes.Change =
+      unexport_changes at.name ((trusted_reader (replay cs)).values at tower_attribute) ((trusted_reader (replay cs)).values at object_attribute) interface objects in
+      modest_unless (made cs) (option_map refusal_of_export (unexport_fault gone)) (Ok (record { house = at.house.0; dir = at.dir.0; list = gone }))
+      (unexport_modest at interface objects)
 
   deletion_modest : (at : Found) (interface : Option Interface) (member : List (List ℕ))
       → IsModest (made cs) (profiles_of.element_deletion at.name interface member ((trusted_reader (replay cs)).values at profiles_of.profile))
@@ -238,7 +249,7 @@ question_adds cs (question.Unexport name interface objects) short =
     (modest_entry (made cs) (object_in (walk_end (trusted_reader (replay cs)) true name))
     (λ entry. unless_none entry (unexport_changes entry.name ((trusted_reader (replay cs)).values entry tower_attribute)
     ((trusted_reader (replay cs)).values entry object_attribute) interface objects))
-    (λ entry. modest_unless (made cs) (option_map refusal_of_export (unexport_fault _)) _ (unexport_modest cs entry interface objects)))
+    (λ entry. unexport_asked cs entry interface objects))
 question_adds cs (question.Groupadd name member) short =
     by_asks cs (add_member (trusted_reader (replay cs)) name member)
     (modest_entry (made cs) (place_to_fill (place_of_walk (trusted_reader (replay cs)) name))

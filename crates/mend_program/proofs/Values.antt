@@ -1,12 +1,11 @@
 -- How many values a reader sees: no more than updates made present so far.
-use Rattle.std.proofs.Common.{◌≡◌, ℕ, ◌+◌, ◌≤◌, ◌⊎◌, inl, inr, Bool, true, false, cond, List, [], ◌∷◌, ◌++◌, length, refl, sym, ap, ◌∙◌, subst, arith, ⊎_elim}
+use Rattle.std.proofs.Common.{◌≡◌, ℕ, ◌+◌, ◌≤◌, inl, inr, Bool, true, false, cond, List, [], ◌∷◌, ◌++◌, length, refl, sym, ap, ◌∙◌, subst, arith, ⊎_elim}
 use Rattle.std.proofs.Common.{length-append, suc}
 use Rattle.std.specs.Prelude.{filter, Option, Some, None, ◌&&◌, is_none}
 use Rattle.std.specs.List.{AllByRecursion, Contains, cons_option}
 use Rattle.std.specs.List.Sorted.{IsStrictlySortedBy}
 use Rattle.std.specs.Option.{option_and_then}
-use Rattle.std.specs.declared.cmp.Ordering.{Ordering}
-use Rattle.std.specs.declared.cmp.Ordering.TheVariants.{Less, Equal, Greater}
+use Rattle.std.specs.declared.cmp.Ordering.TheVariants.{Less, Greater}
 use Rattle.std.specs.Ordering.{ordering_reverse}
 use Rattle.std.specs.Cmp.Lexicographic.{nat_list_cmp_total}
 use Rattle.cds_stamps.specs.declared.stamp.Stamp.{Stamp}
@@ -20,19 +19,18 @@ use Rattle.attr_sets.specs.AttributeCells.{AttrMark, Cleared, Marked, shown_valu
 use Rattle.attr_sets.proofs.ShownLaws.{shown_values-are}
 use Rattle.directory.specs.declared.update.UpdateRefusal.{UpdateRefusal}
 use Rattle.directory.specs.Histories.{Mark, Birth, Death, Attr, Born, attr_history, attr_mark_in, birth_of, death_of}
-use Rattle.directory.specs.Shown.{Shown, leads, marks_of, shown_born, shown_if_live, shown_of_name}
+use Rattle.directory.specs.Shown.{Shown, leads, marks_of, shown_born, shown_of_name}
 use Rattle.directory.specs.Updates as changes
-use Rattle.cell_model.specs.Cells.{Replica, Slot, Absent, Gone, Held, House, Cell}
+use Rattle.cell_model.specs.Cells.{Slot, Absent, Gone, Held, House, Cell}
 use Rattle.cell_model.specs.Commands as commands
 use Rattle.cell_model.specs.Commands.{Accepted, Command, Refusal}
 use Rattle.cell_model.specs.Sets.{In, IsPart}
 use Rattle.cell_model.specs.Turns.{accept, accept_at, accept_in, stamp_at, unless_refused, update_refusal}
-use Rattle.cell_model.specs.Steps.{accepted_updates, at_house, first_refusal, outcome, effect, refusals_of, replay, unless}
+use Rattle.cell_model.specs.Steps.{accepted_updates, first_refusal, outcome, effect, refusals_of, replay, unless}
 use Rattle.cell_model.proofs.AtHouses.{accepted_of, at_house-accepted}
 use Rattle.cell_model.proofs.Lists.{In-append_left, In-append_right, append_nil}
 use Rattle.cell_model.proofs.Runs.{reaching_at}
 use Rattle.resolver.specs.declared.seen.Found.{Found}
-use Rattle.cds_cell.specs.Asking.{View}
 use Rattle.cds_cell.specs.Readings.{slot_view, values_at, values_of}
 use Rattle.script_replay.specs.Replies.{trusted_reader}
 
@@ -42,7 +40,7 @@ abbrev Apart : List (List ℕ) → Type 0
 Apart [] = Unit {0}
 Apart (x ∷ xs) = (In x xs → ⊥) × Apart xs
 
-dropped : (x : List ℕ) (ys : List (List ℕ)) → In x ys → List (List ℕ)
+abbrev dropped : (x : List ℕ) (ys : List (List ℕ)) → In x ys → List (List ℕ)
 dropped x [] i = []
 dropped x (y ∷ ys) (inl e) = ys
 dropped x (y ∷ ys) (inr i) = y ∷ dropped x ys i
@@ -118,7 +116,7 @@ made_in [] = []
 made_in (x ∷ xs) = all_made x.marks ++ made_in xs
 
 pub made_both : (xs ys : List Accepted) → length (made_in (xs ++ ys)) ≡ length (made_in xs) + length (made_in ys)
-made_both [] ys = refl
+made_both [] ys = omega arith
 made_both (x ∷ xs) ys =
     let rest = made_both xs ys in
     let one = length-append (all_made x.marks) (made_in (xs ++ ys)) in

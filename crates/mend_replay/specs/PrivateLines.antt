@@ -19,7 +19,9 @@ member_word secondary x = if secondary then 115 ∷ decimal x else decimal x
 -- the words of members but the master, each after a space
 abbrev pub listed_words : (m : ℕ) → List Member → List ℕ
 listed_words m [] = []
-listed_words m (y ∷ ys) = if y.house == m then listed_words m ys else 32 ∷ member_word (is_secondary y.kind) y.house ++ listed_words m ys
+listed_words m (y ∷ ys) =
+    if y.house == m then listed_words m ys else 32 ∷ member_word (is_secondary y.kind) y.house ++
+    listed_words m ys
 
 -- the house numbers ascend
 abbrev pub AreOrdered : List Member → Type 0
@@ -35,4 +37,5 @@ abbrev pub commands_without : Cell → (d m : ℕ) → List Member → (posted :
 commands_without g d m kept posted =
     let rs : List ℕ = others_of m kept in
     start_commands g kept ++ Epoch d m rs (secondaries_of kept)
-    ∷ (deliver_commands (length g.bag) (length rs) ++ skulk_commands m d (length g.bag + posted) (length rs))
+    ∷ (deliver_commands (length g.bag) (length rs) ++ skulk_commands m d (length g.bag + posted)
+    (length rs))

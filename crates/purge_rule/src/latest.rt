@@ -9,7 +9,7 @@ use std::collections::btree_map::Iter;
 
 /// The greatest time in these entries; 0 where there is none.
 pub(crate) fn latest_in(entries: Iter<'_, SimpleName, EntryCell>) -> u64
-    ensures { result ≡ greatest_of (λ e. latest_in_entry e.1) entries }
+    ensures { result ≡ greatest_of (λ e. latest_in_entry e.1) entries.entry }
 {
     let mut time = 0;
     for (_, entry) in entries {

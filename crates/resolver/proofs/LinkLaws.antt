@@ -39,7 +39,7 @@ begins_otherwise name front rest begins = by_test (is_name name (front ++ rest))
 
 -- ---- the last component
 
--- the same names end alike
+-- equal names end alike
 pub end_alike : (all other : List (List ℕ)) (own last : List ℕ) → is_name all other ≡ true → Some own ≡ slice_get all (length all - 1)
     → Some last ≡ slice_get other (length other - 1) → pointwise nat_eq own last ≡ true
 end_alike all other own last same has_own has_last =

@@ -15,7 +15,7 @@ use Rattle.resolver.specs.PassWords.{EndsBy}
 apart : (w : Walker) (e : End) → Goes w ≡ Stops e → ⊥
 apart w e h = cc
 
--- the same, where it is known what the step comes to
+-- likewise, where it is known what the step comes to
 pub from_step_at : {reader : Reader} {last : Bool} (w : Walker) {e : End} (s : Step) → step reader last w ≡ s → EndsBy reader last s e
     → EndsFrom reader last w e
 from_step_at w (Goes next) h r = goes next h r

@@ -78,7 +78,7 @@ fn object_near<R: EntryReader>(
     }
 }
 
-// The same, where the directory is known.
+// Likewise where the directory is known.
 fn object_in<R: EntryReader>(
     alloc: Global,
     reader: &R,
@@ -198,7 +198,7 @@ fn entered<R: EntryReader>(
     }
 }
 
-// The same, from this directory on.
+// Likewise from this directory on.
 fn entered_from<R: EntryReader>(
     alloc: Global,
     reader: &R,
