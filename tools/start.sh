@@ -1,5 +1,5 @@
 # shellcheck shell=sh
-# Starts a program of this repository. The wrappers ./cdsreplay and ./cdsmend read this file; each knows the words of its program.
+# Starts a program of this repository. The wrappers ./cdsreplay, ./cdsmend and ./cdshouse read this file; each knows the words of its program.
 # They set `root`, the folder of the repository, and `name`, that of the program.
 # shellcheck disable=SC2154
 
@@ -108,9 +108,9 @@ run_program() {
     exit "$status"
 }
 
-# Runs the proved program if it is that of the sources. Else `tools/build` finds one to run: the proved program after all, or one that is
-# not proved, or it proves and builds.
-start() {
+# Finds the program to run: the proved one if it is that of the sources. Else `tools/build` finds one: the proved program after all, or one
+# that is not proved, or it proves and builds.
+find_program() {
     if [ ! -e "/proc/$$/fd/0" ] || [ ! -e "/proc/$$/fd/1" ]; then
         say "standard input or standard output is closed"
         exit 1
@@ -118,5 +118,10 @@ start() {
     if ! is_proved; then
         program=$("$root/tools/build" "$name" --find </dev/null) || exit 1
     fi
+}
+
+# Finds the program, runs it with these words, and says what its status means.
+start() {
+    find_program
     run_program "$@"
 }

@@ -1,4 +1,4 @@
-"""Cases of the wrappers ./cdsreplay and ./cdsmend, for tools/cases: which words they know, what they say of how a program ends, which
+"""Cases of the wrappers ./cdsreplay, ./cdsmend and ./cdshouse, for tools/cases: which words they know, what they say of how a program ends, which
 program they run, and what a signal does.
 
 They are tried on copies: beside a program that ends as the first word of its input says and writes the other words, and a `tools/build`
@@ -59,6 +59,10 @@ TABLE = (
     ("a source that has gone", "sleep 0.1; rm crates/low/src/lib.rt; echo 0 1 ok | ./cdsreplay run", 0, "unproved\n", "cdsreplay: these answers are unproved.\n"),
     ("an old source in place of a new one", "sleep 0.1; touch -d @9 old; mv old crates/low/src/lib.rt; echo 0 | ./cdsreplay run", 0, "unproved\n", "cdsreplay: these answers are unproved.\n"),
     ("a proof that has changed", "sleep 0.1; echo >>crates/low/proofs/a.antt; echo 0 1 ok | ./cdsreplay run", 0, "1 ok\n", ""),
+    ("the house of a folder", "echo 0 1 ok | ./cdshouse links", 0, "1 ok\n", ""),
+    ("a house that ends otherwise", "echo 10 | ./cdshouse links", 10, "", ""),
+    ("no folder", "./cdshouse 2>&1 | head -n 1", 0, "usage: ./cdshouse FOLDER       is the house that the folder keeps: lines in, answers out\n", ""),
+    ("two folders", "./cdshouse links links 2>errors", 2, "", ""),
     ("closed ends", "./cdsreplay run <&-", 1, "", "cdsreplay: standard input or standard output is closed\n"),
 )
 
@@ -79,7 +83,7 @@ def copy_wrappers(folder, build):
 
 
 def copy_with_stub(folder):
-    """Makes a repository in which both programs are the stub, and are noted as proved."""
+    """Makes a repository in which all programs are the stub, and are noted as proved."""
     copy_wrappers(folder, FINDER)
     os.mkdir(f"{folder}/links")
     texts = {"in": "3 12 fault BadWord 3\n", "old": "", "HANDLES": "", "crates.txt": "", "crates/low/src/lib.rt": "", "crates/low/specs/A": "", "crates/low/proofs/a.antt": ""}
@@ -93,7 +97,7 @@ def copy_with_stub(folder):
 
 
 def note_stubs(folder):
-    """Notes both programs as proved, of the sources as they are."""
+    """Notes all programs as proved, of the sources as they are."""
     for name in PROGRAMS:
         write(f"{folder}/out/built-{name}", "")
         os.utime(f"{folder}/out/built-{name}", (time.time(),) * 2)
@@ -208,7 +212,7 @@ def handed_over(room, _):
         os.makedirs(f"{other}/crates/{name}/out")
         for file in (f"crates/{name}/out/{name}", f"out/built-{name}"):
             shutil.copy(f"{one}/{file}", f"{other}/{file}")
-    for words in (["./cdsreplay", "run"], ["./cdsmend", "1"]) * 2:
+    for words in (["./cdsreplay", "run"], ["./cdsmend", "1"], ["./cdshouse", "crates"]) * 2:
         ran = subprocess.run(words, cwd=other, input="0 1 ok\n", capture_output=True, text=True, env=without_rt(), timeout=SECONDS)
         if (ran.returncode, ran.stdout, ran.stderr) != (0, "1 ok\n", ""):
             return f"{words[0]} ends with {ran.returncode}, {ran.stdout!r} and {ran.stderr!r}"

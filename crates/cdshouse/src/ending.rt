@@ -1,49 +1,95 @@
-// The number that the process ends with.
+// How the process ends.
+ghost use Rattle.std.specs.Prelude.{◌≡◌};
+ghost use Rattle.cdshouse.specs.Statuses.{code_of, status_after, status_not_begun, status_without_words};
+ghost use Rattle.cdshouse.specs.declared.ending.Status.TheVariants.{OutOfMemory};
+
 use cds_base::WordsFault;
 use cds_stamps::AllocOr;
 use house_journal::JournalFault;
 use house_serving::Ending;
+use std::alloc::AllocError;
 
-pub(crate) const USAGE: u8 = 2;
+/// How the process ends.
+#[derive(Clone, Copy, Debug, PartialEq, Eq)]
+pub enum Status {
+    /// The input ended.
+    Ok,
+    /// There is not exactly one word.
+    Usage,
+    BadInput,
+    ReadFault,
+    WriteFault,
+    OutOfMemory,
+    /// A segment has no room for a record.
+    Full,
+    DiskFault,
+    /// The folder is not there or cannot be read, or its last segment is none.
+    BadFolder,
+    /// Another process has the folder.
+    Taken,
+}
 
-pub(crate) const WRITE_FAULT: u8 = 5;
+impl Status {
+    /// The number that the process ends with.
+    pub fn code(self) -> u8
+        ensures { result ≡ code_of self }
+    {
+        match self {
+            Status::Ok => 0,
+            Status::Usage => 2,
+            Status::BadInput => 3,
+            Status::ReadFault => 4,
+            Status::WriteFault => 5,
+            Status::OutOfMemory => 6,
+            Status::Full => 7,
+            Status::DiskFault => 8,
+            Status::BadFolder => 9,
+            Status::Taken => 10,
+        }
+    }
 
-pub(crate) const NO_MEMORY: u8 = 6;
+    /// How the process ends without the words of its command line.
+    pub fn without_words(fault: WordsFault) -> Status
+        ensures { result ≡ status_without_words fault }
+    {
+        match fault {
+            WordsFault::NoText => Status::Usage,
+            WordsFault::OutOfMemory => Status::OutOfMemory,
+        }
+    }
 
-pub(crate) const FULL: u8 = 7;
+    /// How the process ends if a segment is not begun.
+    pub fn not_begun(fault: AllocOr<JournalFault>) -> Status
+        ensures { result ≡ status_not_begun fault }
+    {
+        match fault {
+            AllocOr::Fault(JournalFault::Full) => Status::Full,
+            AllocOr::Fault(_) => Status::DiskFault,
+            AllocOr::OutOfMemory => Status::OutOfMemory,
+        }
+    }
 
-pub(crate) const DISK_FAULT: u8 = 8;
-/// The folder is not there, cannot be read, or its last segment is none.
-pub(crate) const BAD_FOLDER: u8 = 9;
-/// Another process has the folder.
-pub(crate) const TAKEN: u8 = 10;
-
-/// How a program ends without the words of its command line.
-pub(crate) fn without_words(fault: WordsFault) -> u8 {
-    match fault {
-        WordsFault::NoText => USAGE,
-        WordsFault::OutOfMemory => NO_MEMORY,
+    /// How the process ends by the ending of a run; or it goes on, in the next segment.
+    pub fn after(ending: Ending) -> Option<Status>
+        ensures { result ≡ status_after ending }
+    {
+        match ending {
+            Ending::InputEnds => Some(Status::Ok),
+            Ending::BadInput => Some(Status::BadInput),
+            Ending::ReadFault => Some(Status::ReadFault),
+            Ending::WriteFault => Some(Status::WriteFault),
+            Ending::OutOfMemory => Some(Status::OutOfMemory),
+            Ending::Full => Some(Status::Full),
+            Ending::DiskFault => Some(Status::DiskFault),
+            Ending::Grown => None,
+        }
     }
 }
 
-/// How a process ends if a segment is not begun.
-pub(crate) fn not_begun(fault: AllocOr<JournalFault>) -> u8 {
-    match fault {
-        AllocOr::Fault(JournalFault::Full) => FULL,
-        AllocOr::Fault(_) => DISK_FAULT,
-        AllocOr::OutOfMemory => NO_MEMORY,
-    }
-}
+impl From<AllocError> for Status {
+    ghost from_gives = { λ _ e. e ≡ OutOfMemory };
 
-/// How a process ends by the ending of a run.
-pub(crate) fn code_of(ending: Ending) -> u8 {
-    match ending {
-        Ending::InputEnds | Ending::Grown => 0,
-        Ending::BadInput => 3,
-        Ending::ReadFault => 4,
-        Ending::WriteFault => WRITE_FAULT,
-        Ending::OutOfMemory => NO_MEMORY,
-        Ending::Full => FULL,
-        Ending::DiskFault => DISK_FAULT,
+    fn from(_error: AllocError) -> Status {
+        Status::OutOfMemory
     }
 }

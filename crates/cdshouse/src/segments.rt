@@ -1,10 +1,19 @@
 // What a process finds in the last segment of its folder, and the next segment that it writes.
-ghost use Rattle.std.specs.Prelude.{◌≡◌, [], None, IfOk};
+ghost use Rattle.std.specs.Prelude.{◌≡◌, ◌+◌, ℕ, List, [], ◌∷◌, None, IfOk, OnOk, replicate};
+ghost use Rattle.std.specs.Io.KnownBytes.{Appends};
 ghost use Rattle.cds_base.specs.Lines.{fault_of_lines};
+ghost use Rattle.script_answers.specs.Texts.{lines_text};
+ghost use Rattle.cell_runs.specs.Entries.{Post};
 ghost use Rattle.house_journal.specs.Disks.{Only};
+ghost use Rattle.house_segments.specs.Chains.{last_digest};
+ghost use Rattle.house_segments.specs.Segments.{IsAt};
+ghost use Rattle.house_serving.specs.Serving.{Served, run_of};
+ghost use Rattle.house_turns.specs.HouseReplies.{Responds, turn_text};
+ghost use Rattle.house_turns.specs.Openings.{GoesOn, HasNoEnd, first_lines, new_house};
 ghost use Rattle.house_serving.specs.declared.ending.Ending.TheVariants.{Grown};
+ghost use Rattle.cdshouse.specs.Folders.{IsDigestOf, IsLastSegment, first_bodies};
 
-use crate::ending::{BAD_FOLDER, NO_MEMORY, WRITE_FAULT, not_begun};
+use crate::ending::Status;
 use crate::folder::{last_number, name_segment, segment_octets};
 use cds_base::{Lines, Sink, Source, put_all};
 use house_entries::head_octets;
@@ -12,7 +21,7 @@ use house_journal::Disk;
 use house_segments::{DIGEST, Segment, last_record};
 use house_serving::{Ending, serve};
 use house_turns::{House, open};
-use std::alloc::{AllocError, Global};
+use std::alloc::Global;
 
 // A segment is changed for the next one once it has so many octets, and as many as eight images.
 const MOST_SEGMENT: u64 = 16_777_216;
@@ -20,77 +29,155 @@ const MOST_SEGMENT: u64 = 16_777_216;
 /// A house as the folder has it: its last segment's number, and the digest of that segment's last
 /// record.
 #[derive(Drop)]
-pub(crate) struct Found {
-    pub(crate) house: House,
-    pub(crate) number: u64,
-    pub(crate) digest: [u8; DIGEST],
+pub struct FolderHouse {
+    pub house: House,
+    pub number: u64,
+    pub digest: [u8; DIGEST],
 }
 
 // The house of a record.
-fn house_of(alloc: Global, body: &[u8]) -> Result<House, u8> {
-    match open(alloc, body) {
-        Ok(Some(house)) => Ok(house),
-        Ok(None) => Err(BAD_FOLDER),
-        Err(AllocError) => Err(NO_MEMORY),
+fn house_of(alloc: Global, body: &[u8]) -> Result<House, Status>
+    ensures { IfOk result (GoesOn body.now) }
+{
+    match open(alloc, body)? {
+        Some(house) => Ok(house),
+        None => Err(Status::BadFolder),
     }
 }
 
-/// What the last segment of the folder has.
-pub(crate) fn found(rt: &HostRuntime, folder: &str) -> Result<Found, u8> {
-    let alloc = rt.alloc();
-    let number = last_number(rt, folder)?;
-    if number == 0 {
-        return Ok(Found {
-            house: House::new(alloc),
-            number,
-            digest: [0; DIGEST],
-        });
+// What a folder without a segment has.
+fn empty_folder(alloc: Global) -> FolderHouse
+    ensures house { result.house ≡ new_house }
+    ensures number { result.number ≡ 0 }
+    ensures digest { result.digest ≡ replicate 32 0 }
+{
+    FolderHouse {
+        house: House::new(alloc),
+        number: 0,
+        digest: [0; DIGEST],
     }
-    let octets = segment_octets(rt, folder, number)?;
-    let Ok(title) = head_octets(alloc, number, b"") else {
-        return Err(NO_MEMORY);
-    };
-    let Some(last) = last_record(&title, &octets) else {
-        return Err(BAD_FOLDER);
+}
+
+// What the octets of the last segment have.
+fn read_segment(alloc: Global, number: u64, octets: &[u8]) -> Result<FolderHouse, Status>
+    ensures { IfOk result (IsLastSegment number octets.now) }
+{
+    let title = head_octets(alloc, number, b"")?;
+    let Some(last) = last_record(&title, octets) else {
+        return Err(Status::BadFolder);
     };
     let house = house_of(alloc, last.body)?;
-    Ok(Found {
+    Ok(FolderHouse {
         house,
         number,
         digest: last.digest,
     })
 }
 
+/// What the last segment of the folder has.
+pub(crate) fn read_folder(rt: &HostRuntime, folder: &str) -> Result<FolderHouse, Status> {
+    let number = last_number(rt, folder)?;
+    if number == 0 {
+        return Ok(empty_folder(rt.alloc()));
+    }
+    let octets = segment_octets(rt, folder, number)?;
+    read_segment(rt.alloc(), number, &octets)
+}
+
 /// A segment that is to be made: its number, the digest before it, and its first record; and
 /// whether the house says who it is then.
 #[derive(Drop)]
-pub(crate) struct Next {
-    pub(crate) number: u64,
-    pub(crate) before: [u8; DIGEST],
-    pub(crate) first: Vec<u8>,
-    pub(crate) speaks: bool,
+pub struct Next {
+    pub number: u64,
+    pub before: [u8; DIGEST],
+    pub first: Vec<u8>,
+    pub speaks: bool,
+}
+
+/// The segment after the one of this number.
+pub(crate) fn next_after(
+    number: u64,
+    before: [u8; DIGEST],
+    first: Vec<u8>,
+    speaks: bool,
+) -> Result<Next, Status>
+    ensures number { IfOk result (λ n. n.number ≡ number + 1) }
+    ensures before { IfOk result (λ n. n.before ≡ before) }
+    ensures first { IfOk result (λ n. n.first ≡ first) }
+    ensures speaks { IfOk result (λ n. n.speaks ≡ speaks) }
+{
+    Ok(Next {
+        number: number.checked_add(1).ok_or(Status::DiskFault)?,
+        before,
+        first,
+        speaks,
+    })
+}
+
+// Makes the next segment on a disk that is empty: its head, and its first record.
+fn begin<D: Disk + Drop>(alloc: Global, disk: D, next: &Next) -> Result<Segment<D>, Status>
+    requires empty { D.Disk.reads disk ≡ [] }
+    requires only { Only (D.Disk.reads disk) (D.Disk.may_leave disk) }
+    ensures { IfOk result (λ s. IsAt D.Disk s next.now.before
+        (first_bodies next.now)) }
+{
+    let head = head_octets(alloc, next.number, &next.before)?;
+    match Segment::begin(alloc, disk, next.before, &head, &next.first) {
+        Ok(segment) => Ok(segment),
+        Err(fault) => Err(Status::not_begun(fault)),
+    }
+}
+
+// What the house says first.
+fn say_first<K: Sink>(alloc: Global, house: &House, sink: &mut K) -> Result<(), Status>
+    ensures { (line : List ℕ) (posts : List Post) (answer : List ℕ)
+        → house.now.last ≡ turn_text line posts answer → HasNoEnd line → HasNoEnd answer
+        → OnOk result (Appends (K.written sink.old) (K.written sink.new)
+        (lines_text 0 (first_lines house.now house.now.home line posts answer))) }
+{
+    let text = house.first_words(alloc)?;
+    match put_all(sink, &text) {
+        Ok(()) => Ok(()),
+        Err(_) => Err(Status::WriteFault),
+    }
 }
 
 /// How a segment was left: why, and the digest of its last record.
 #[derive(Clone, Copy)]
-pub(crate) struct Left {
-    pub(crate) ending: Ending,
-    pub(crate) digest: [u8; DIGEST],
+pub struct Left {
+    pub ending: Ending,
+    pub digest: [u8; DIGEST],
 }
 
-// What the house says first.
-fn say_first<K: Sink>(alloc: Global, house: &House, sink: &mut K) -> Result<(), u8> {
-    let Ok(text) = house.first_words(alloc) else {
-        return Err(NO_MEMORY);
-    };
-    match put_all(sink, &text) {
-        Ok(()) => Ok(()),
-        Err(_) => Err(WRITE_FAULT),
+// Answers lines until the segment has grown or the run ends.
+fn serve_segment<S: Source, K: Sink, D: Disk>(
+    alloc: Global,
+    house: &mut House,
+    segment: &mut Segment<D>,
+    lines: &mut Lines,
+    source: &mut S,
+    sink: &mut K,
+) -> Left
+    requires ready { (before : List ℕ) × (bodies : List (List ℕ))
+        × IsAt D.Disk segment.old before bodies }
+    requires unbroken { fault_of_lines lines.old ≡ None }
+    ensures served { (before : List ℕ) (bodies : List (List ℕ)) → IsAt D.Disk segment.old before bodies
+        → Served Responds D.Disk before bodies house.old house.new segment.old segment.new
+        lines.old lines.new (run_of S.left S.faults K.written K.faults source.old source.new
+        sink.old sink.new) result.ending }
+    ensures digest { (before : List ℕ) (bodies : List (List ℕ)) → IsAt D.Disk segment.new before bodies
+        → result.digest ≡ last_digest before bodies }
+{
+    let most = segment.size().saturating_mul(8).max(MOST_SEGMENT);
+    let ending = serve(alloc, house, segment, most, lines, source, sink);
+    Left {
+        ending,
+        digest: segment.digest(),
     }
 }
 
 /// Makes a segment on a disk that is empty, gives it its name, and answers lines until it has grown
-/// or the run ends.
+/// or the run ends. The digest of a segment that has grown is that of its chain.
 pub(crate) fn serve_on<S: Source, K: Sink, D: Disk + Drop>(
     rt: &HostRuntime,
     folder: &str,
@@ -100,28 +187,19 @@ pub(crate) fn serve_on<S: Source, K: Sink, D: Disk + Drop>(
     lines: &mut Lines,
     source: &mut S,
     sink: &mut K,
-) -> Result<Left, u8>
+) -> Result<Left, Status>
     requires empty { D.Disk.reads disk ≡ [] }
     requires only { Only (D.Disk.reads disk) (D.Disk.may_leave disk) }
     requires unbroken { fault_of_lines lines.old ≡ None }
-    ensures { IfOk result (λ left. left.ending ≡ Grown → fault_of_lines lines.new ≡ None) }
+    ensures unbroken { IfOk result (λ left. left.ending ≡ Grown → fault_of_lines lines.new ≡ None) }
+    ensures digest { IfOk result
+        (λ left. left.ending ≡ Grown → IsDigestOf next.now left.digest) }
 {
     let alloc = rt.alloc();
-    let Ok(head) = head_octets(alloc, next.number, &next.before) else {
-        return Err(NO_MEMORY);
-    };
-    let mut segment = match Segment::begin(alloc, disk, next.before, &head, &next.first) {
-        Ok(segment) => segment,
-        Err(fault) => return Err(not_begun(fault)),
-    };
+    let mut segment = begin(alloc, disk, next)?;
     name_segment(rt, folder, next.number)?;
     if next.speaks {
         say_first(alloc, house, sink)?;
     }
-    let most = segment.size().saturating_mul(8).max(MOST_SEGMENT);
-    let ending = serve(alloc, house, &mut segment, most, lines, source, sink);
-    Ok(Left {
-        ending,
-        digest: segment.digest(),
-    })
+    Ok(serve_segment(alloc, house, &mut segment, lines, source, sink))
 }

@@ -1,6 +1,6 @@
 -- How one line ends.
-use Rattle.std.proofs.Common.{◌≡◌, inl, inr, ℕ, ◌<◌, List, [], ◌∷◌, ◌++◌, length, take, drop, refl, sym, ◌∙◌, subst, append-nil, take-append-drop}
-use Rattle.std.specs.Prelude.{Option, None, Ok, Err}
+use Rattle.std.proofs.Common.{◌≡◌, inl, inr, ℕ, ◌+◌, ◌<◌, List, [], ◌∷◌, ◌++◌, length, take, drop, refl, sym, ◌∙◌, subst, append-nil, take-append-drop, arith}
+use Rattle.std.specs.Prelude.{Option, Ok, Err}
 use Rattle.std.specs.Io.KnownBytes.{Appends}
 use Rattle.cds_base.specs.Counts.{Rose}
 use Rattle.cds_base.proofs.KnownOctets.{appends_none}
@@ -9,6 +9,7 @@ use Rattle.house_segments.specs.Segments.{IsAt, disk_of}
 use Rattle.house_segments.specs.declared.segment.Segment.{Segment}
 use Rattle.house_serving.specs.Faults.{line_fault_text, too_long}
 use Rattle.house_serving.specs.PrivateParts.{Keeps, LineServed, Stops}
+use Rattle.house_serving.specs.Serving.{IsOver}
 use Rattle.house_serving.specs.Turns.{Said, Turn, bodies_in}
 use Rattle.house_serving.specs.declared.ending.Ending.{Ending}
 use Rattle.house_serving.specs.declared.ending.Ending.TheVariants.{InputEnds, BadInput, ReadFault, WriteFault, OutOfMemory, Full, DiskFault, Grown}
@@ -29,7 +30,7 @@ module _ {H D : Type 0} (responds : H → ℕ → List ℕ → Said → H → Ty
   cut_off written written' writes writes' BadInput long stops = record {
     turns = [];
     over = [];
-    over_one = (None, refl);
+    over_one = inl refl;
     last = line_fault_text (too_long number);
     text = line_fault_text (too_long number);
     at = house;
@@ -44,7 +45,7 @@ module _ {H D : Type 0} (responds : H → ℕ → List ℕ → Said → H → Ty
       record {
         turns = [];
         over = [];
-        over_one = (None, refl);
+        over_one = inl refl;
         last = whole;
         text = take stops.1.0 whole;
         at = house;
@@ -57,7 +58,7 @@ module _ {H D : Type 0} (responds : H → ℕ → List ℕ → Said → H → Ty
   cut_off written written' writes writes' OutOfMemory long stops = record {
     turns = [];
     over = [];
-    over_one = (None, refl);
+    over_one = inl refl;
     last = [];
     text = [];
     at = house;
@@ -80,7 +81,7 @@ module _ {H D : Type 0} (responds : H → ℕ → List ℕ → Said → H → Ty
   line_unmade house' written writes = record {
     turns = [];
     over = [];
-    over_one = (None, refl);
+    over_one = inl refl;
     last = [];
     text = [];
     at = house;
@@ -91,54 +92,62 @@ module _ {H D : Type 0} (responds : H → ℕ → List ℕ → Said → H → Ty
     cause = (refl, refl);
   }
 
+  -- the reply to a line was made, whose record is over
+  line_over : (house' : H) (said : Said) → responds house number line said house'
+      → IsOver responds (number + 0) house (bodies_in said.body)
+  line_over house' said does =
+      let same : number ≡ number + 0 = omega arith in
+      subst (λ (n : ℕ). IsOver responds n house (bodies_in said.body)) same
+      (inr (record { line = line; said = said; next = house'; does = does; bodies = refl }))
+
   -- a line whose record was not put, or may have been
-  pub line_kept_open : (house' : H) (s' : Segment D) (body : Option (List ℕ)) (ending : Ending) (written : Option (List ℕ)) (writes : ℕ)
-      → Keeps g before bodies s s' body (Err ending)
+  pub line_kept_open : (house' : H) (s' : Segment D) (said : Said) (ending : Ending) (written : Option (List ℕ)) (writes : ℕ)
+      → responds house number line said house' → Keeps g before bodies s s' said.body (Err ending)
       → LineServed responds g before bodies number line house house' s s' written written writes writes (Err ending)
-  line_kept_open house' s' body OutOfMemory written writes keeps = record {
+  line_kept_open house' s' said OutOfMemory written writes does keeps = record {
     turns = [];
-    over = bodies_in body;
-    over_one = (body, refl);
+    over = bodies_in said.body;
+    over_one = line_over house' said does;
     last = [];
     text = [];
     at = house;
     one = line ++ 10 ∷ [];
-    work = open_work responds g before bodies number house (disk_of s) (disk_of s') (bodies_in body) keeps.crash keeps.left written;
+    work = open_work responds g before bodies number house (disk_of s) (disk_of s') (bodies_in said.body) keeps.crash keeps.left written;
     takes = refl;
     ends = refl;
     cause = (refl, keeps.cause);
   }
-  line_kept_open house' s' body DiskFault written writes keeps = record {
+  line_kept_open house' s' said DiskFault written writes does keeps = record {
     turns = [];
-    over = bodies_in body;
-    over_one = (body, refl);
+    over = bodies_in said.body;
+    over_one = line_over house' said does;
     last = [];
     text = [];
     at = house;
     one = line ++ 10 ∷ [];
-    work = open_work responds g before bodies number house (disk_of s) (disk_of s') (bodies_in body) keeps.crash keeps.left written;
+    work = open_work responds g before bodies number house (disk_of s) (disk_of s') (bodies_in said.body) keeps.crash keeps.left written;
     takes = refl;
     ends = refl;
     cause = (refl, keeps.cause);
   }
-  line_kept_open house' s' body Full written writes keeps = record {
+  line_kept_open house' s' said Full written writes does keeps = record {
     turns = [];
-    over = bodies_in body;
-    over_one = (body, refl);
+    over = bodies_in said.body;
+    over_one = line_over house' said does;
     last = [];
     text = [];
     at = house;
     one = line ++ 10 ∷ [];
-    work = open_work responds g before bodies number house (disk_of s) (disk_of s') (bodies_in body) keeps.crash keeps.left written;
+    work = open_work responds g before bodies number house (disk_of s) (disk_of s') (bodies_in said.body) keeps.crash keeps.left written;
     takes = refl;
     ends = (refl, subst (λ (t : Segment D). IsAt g t before (bodies ++ [])) (sym (keeps.full refl)) here);
     cause = (refl, keeps.cause);
   }
-  line_kept_open house' s' body InputEnds written writes keeps = absurd keeps.cause
-  line_kept_open house' s' body BadInput written writes keeps = absurd keeps.cause
-  line_kept_open house' s' body ReadFault written writes keeps = absurd keeps.cause
-  line_kept_open house' s' body WriteFault written writes keeps = absurd keeps.cause
-  line_kept_open house' s' body Grown written writes keeps = absurd keeps.cause
+  line_kept_open house' s' said InputEnds written writes does keeps = absurd keeps.cause
+  line_kept_open house' s' said BadInput written writes does keeps = absurd keeps.cause
+  line_kept_open house' s' said ReadFault written writes does keeps = absurd keeps.cause
+  line_kept_open house' s' said WriteFault written writes does keeps = absurd keeps.cause
+  line_kept_open house' s' said Grown written writes does keeps = absurd keeps.cause
 
   -- a line that was done and answered
   pub line_answered : (house' : H) (s' : Segment D) (said : Said) → responds house number line said house' → Keeps g before bodies s s' said.body (Ok tt)
@@ -149,7 +158,7 @@ module _ {H D : Type 0} (responds : H → ℕ → List ℕ → Said → H → Ty
       record {
         turns = t ∷ [];
         over = [];
-        over_one = (None, refl);
+        over_one = inl refl;
         last = [];
         text = said.text;
         at = house';
@@ -179,7 +188,7 @@ module _ {H D : Type 0} (responds : H → ℕ → List ℕ → Said → H → Ty
       record {
         turns = t ∷ [];
         over = [];
-        over_one = (None, refl);
+        over_one = inl refl;
         last = [];
         text = take k said.text;
         at = house';

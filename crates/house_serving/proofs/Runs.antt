@@ -16,7 +16,7 @@ use Rattle.house_serving.specs.Ending.{HasEndingCause}
 use Rattle.house_serving.specs.Ending as one_line
 use Rattle.house_serving.specs.Faults.{line_fault_text, shown, too_long}
 use Rattle.house_serving.specs.PrivateParts.{LineEndsSo, LineServed, Stops}
-use Rattle.house_serving.specs.Serving.{EndsSo, IsFaulty, IsSettled, Run, Served, Work}
+use Rattle.house_serving.specs.Serving.{EndsSo, IsFaulty, IsOver, IsSettled, Run, Served, Work}
 use Rattle.house_serving.specs.declared.faults.TheConstants.{MOST_LINE}
 use Rattle.house_serving.specs.Turns.{Said, Turn, bodies_of, lines_text, texts_of}
 use Rattle.house_serving.specs.declared.ending.Ending.{Ending}
@@ -97,7 +97,7 @@ module _ {H D : Type 0} (responds : H → ℕ → List ℕ → Said → H → Ty
     grown unbroken = record {
       turns = b.turns;
       over = [];
-      over_one = (None, refl);
+      over_one = inl refl;
       last = [];
       text = texts_of b.turns;
       at = house1;
@@ -115,7 +115,7 @@ module _ {H D : Type 0} (responds : H → ℕ → List ℕ → Said → H → Ty
       input_ends next calm = record {
         turns = b.turns;
         over = [];
-        over_one = (None, refl);
+        over_one = inl refl;
         last = [];
         text = texts_of b.turns;
         at = house1;
@@ -152,7 +152,7 @@ module _ {H D : Type 0} (responds : H → ℕ → List ℕ → Said → H → Ty
             record {
               turns = b.turns;
               over = [];
-              over_one = (None, refl);
+              over_one = inl refl;
               last = [];
               text = texts_of b.turns;
               at = house1;
@@ -168,7 +168,7 @@ module _ {H D : Type 0} (responds : H → ℕ → List ℕ → Said → H → Ty
             record {
               turns = b.turns;
               over = [];
-              over_one = (None, refl);
+              over_one = inl refl;
               last = line;
               text = texts_of b.turns ++ line;
               at = house1;
@@ -188,7 +188,7 @@ module _ {H D : Type 0} (responds : H → ℕ → List ℕ → Said → H → Ty
             record {
               turns = b.turns;
               over = [];
-              over_one = (None, refl);
+              over_one = inl refl;
               last = line;
               text = texts_of b.turns ++ part;
               at = house1;
@@ -209,7 +209,7 @@ module _ {H D : Type 0} (responds : H → ℕ → List ℕ → Said → H → Ty
         stops_at OutOfMemory stops cause = record {
           turns = b.turns;
           over = [];
-          over_one = (None, refl);
+          over_one = inl refl;
           last = [];
           text = texts_of b.turns;
           at = house1;
@@ -304,6 +304,15 @@ module _ {H D : Type 0} (responds : H → ℕ → List ℕ → Said → H → Ty
           abbrev run3 : Run
           run3 = run_between left left2 written written2 reads reads2 writes writes2
 
+          -- the record that is over is that of the line after all of them
+          over_next : IsOver responds (lines_so_far lines + length turns + 1) done.at done.over
+          over_next =
+              let first = next.answer.0 in
+              let same = b.number in
+              let numbered : number + length done.turns ≡ lines_so_far lines + length turns + 1 =
+              omega (arith, first, same, length-append b.turns done.turns) in
+              subst (λ (n : ℕ). IsOver responds n done.at done.over) numbered done.over_one
+
           served_by : (ending : Ending)
               → EndsSo g before bodies segment2 turns done.over done.last (texts_of b.turns ++ done.text) done.at house2 done.one lines2
               (lines_so_far lines + length turns + 1) left2 ending
@@ -312,7 +321,7 @@ module _ {H D : Type 0} (responds : H → ℕ → List ℕ → Said → H → Ty
           served_by ending ends cause = record {
             turns = turns;
             over = done.over;
-            over_one = done.over_one;
+            over_one = over_next;
             last = done.last;
             text = texts_of b.turns ++ done.text;
             at = done.at;

@@ -1,5 +1,5 @@
 -- Words of private contracts: what the parts of a run do.
-use Rattle.std.specs.Prelude.{◌≡◌, ◌≢◌, ◌⊎◌, ℕ, ◌<◌, List, [], ◌∷◌, ◌++◌, length, take, Option, Result, Ok, Err, OnOk}
+use Rattle.std.specs.Prelude.{◌≡◌, ◌≢◌, ◌⊎◌, ℕ, ◌+◌, ◌<◌, List, [], ◌∷◌, ◌++◌, length, take, Option, Result, Ok, Err, OnOk}
 use Rattle.std.specs.Io.KnownBytes.{Appends}
 use Rattle.cds_base.specs.Counts.{Rose}
 use Rattle.cds_base.specs.declared.scan.LineFault.{LineFault}
@@ -12,7 +12,7 @@ use Rattle.house_segments.specs.Segments.{IsAt, disk_of}
 use Rattle.house_segments.specs.declared.segment.Segment.{Segment}
 use Rattle.house_serving.specs.Ending.{HasLineCause}
 use Rattle.house_serving.specs.Faults.{line_fault_text, shown, too_long}
-use Rattle.house_serving.specs.Serving.{HasFront, IsFront, IsOneAtMost, IsSettled, Work}
+use Rattle.house_serving.specs.Serving.{HasFront, IsFront, IsOver, IsSettled, Work}
 use Rattle.house_serving.specs.Turns.{Said, Turn, bodies_in, bodies_of, lines_text, texts_of}
 use Rattle.house_serving.specs.declared.ending.Ending.{Ending}
 use Rattle.house_serving.specs.declared.ending.Ending.TheVariants.{BadInput, ReadFault, WriteFault, OutOfMemory, Full, DiskFault}
@@ -80,7 +80,7 @@ pub record LineServed {H D : Type 0} (responds : H → ℕ → List ℕ → Said
   pub text : List ℕ
   pub at : H
   pub one : List ℕ
-  pub over_one : IsOneAtMost over
+  pub over_one : IsOver responds (number + length turns) at over
   pub work : Work responds g before bodies number house (disk_of segment) (disk_of segment') written written' turns over text at
   pub takes : lines_text turns ++ one ≡ line ++ 10 ∷ []
   pub ends : LineEndsSo g before bodies segment' turns over last text at house' one number line result

@@ -100,9 +100,20 @@ EndsSo g before bodies segment turns over last text at house one lines number le
 EndsSo g before bodies segment turns over last text at house one lines number left Grown =
     IsSettled g before bodies segment turns over last text at house × (last ≡ []) × (one ≡ []) × (fault_of_lines lines ≡ None)
 
--- no body, or one
-abbrev pub IsOneAtMost : List (List ℕ) → Type 0
-IsOneAtMost over = (body : Option (List ℕ)) × (over ≡ bodies_in body)
+-- the house makes a reply of one more line, of this number: the record of that has this body, or
+-- there is none
+pub record IsNextLine {H : Type 0} (responds : H → ℕ → List ℕ → Said → H → Type 0)
+    (number : ℕ) (at : H) (over : List (List ℕ)) : Type 0 where
+  pub line : List ℕ
+  pub said : Said
+  pub next : H
+  pub does : responds at number line said next
+  pub bodies : over ≡ bodies_in said.body
+
+-- no body, or that of the record of one more line
+abbrev pub IsOver : {H : Type 0} → (responds : H → ℕ → List ℕ → Said → H → Type 0)
+    → (number : ℕ) → (at : H) → List (List ℕ) → Type 0
+IsOver responds number at over = (over ≡ []) ⊎ IsNextLine responds number at over
 
 -- A run of a house over a segment. Of the octets that were read come the lines of the turns, then
 -- one line that was taken and not done, if there is one, and then those that are octets_ahead
@@ -114,7 +125,7 @@ pub record Served {H D : Type 0} (responds : H → ℕ → List ℕ → Said →
   pub text : List ℕ
   pub at : H
   pub one : List ℕ
-  pub over_one : IsOneAtMost over
+  pub over_one : IsOver responds (lines_so_far lines + length turns + 1) at over
   pub work : Work responds g before bodies (lines_so_far lines + 1) house (disk_of segment) (disk_of segment') run.written run.written' turns over text at
   pub read : GrowsByReading run.left run.left' (octets_ahead lines) (lines_text turns ++ (one ++ octets_ahead lines'))
   pub ends : EndsSo g before bodies segment' turns over last text at house' one lines' (lines_so_far lines + length turns + 1) run.left' ending

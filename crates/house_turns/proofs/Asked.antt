@@ -9,7 +9,7 @@ use Rattle.house_directory.specs.declared.states.DirState.{DirState}
 use Rattle.house_directory.specs.declared.states.DirState.TheVariants as state
 use Rattle.house_directory.specs.declared.states.Held.{Held}
 use Rattle.cell_runs.specs.LineAnswers.{refused}
-use Rattle.house_turns.specs.LineAnswers.{dump_said, look_said, values_said}
+use Rattle.house_turns.specs.HouseAnswers.{dump_said, look_said, values_said}
 
 -- a directory that is not held
 pub dump_absent : (o : Option DirState) → held_in o ≡ None → dump_said o ≡ refused why.NoReplica ∷ []

@@ -1,6 +1,7 @@
 -- What is said to a line, from the calls of the clearinghouse.
 use Rattle.std.proofs.Common.{◌≡◌, ℕ, ◌+◌, ◌<◌, ◌≤◌, Bool, true, false, List, [], ◌∷◌, ◌++◌, length, refl, sym, ap, subst, ◌∙◌, append-nil, arith}
-use Rattle.std.specs.Prelude.{Option, Some, None, Result, Ok, Err, IfOk, MatchOption, codes, cond, decimal, is_some, nat_le, nat_lt, not, if◌then◌else◌}
+use Rattle.std.specs.Prelude.{Option, Some, None, Result, Ok, Err, IfOk, MatchOption, codes, cond, decimal, is_none, is_some, ◌==◌, ◌&&◌, nat_le, nat_lt, not, if◌then◌else◌}
+use Rattle.std.specs.List.{list_all}
 use Rattle.std.specs.FinMap.{FinMap, get, get-insert, insert}
 use Rattle.std.specs.Ordering.{eq_by_cmp}
 use Rattle.cds_stamps.specs.Keyed.{ties_are_equal}
@@ -10,7 +11,7 @@ use Rattle.std.proofs.lemmas.Bool.Decides.{nat_tests}
 use Rattle.cds_stamps.specs.declared.numbers.DirId.{DirId}
 use Rattle.cds_stamps.specs.declared.numbers.EpochNo.{EpochNo}
 use Rattle.cds_stamps.specs.declared.numbers.HouseNo.{HouseNo}
-use Rattle.cds_stamps.specs.Members.{Member}
+use Rattle.cds_stamps.specs.Members.{Member, is_listed, master_of, members_fault, members_of}
 use Rattle.cds_stamps.specs.Numbers.{root_dir}
 use Rattle.cell_names.specs.Houses.{Houses}
 use Rattle.cell_script.specs.declared.lists.Listed.{Listed}
@@ -29,12 +30,12 @@ use Rattle.cell_model.specs.Turns.{HouseStep, Turn, accept, found_directory, tak
 use Rattle.script_answers.specs.Texts.{answer_line}
 use Rattle.script_answers.specs.declared.answer.Answer.TheVariants as answer
 use Rattle.house_directory.specs.declared.taking.Taken.{Taken}
-use Rattle.house_directory.specs.DirectorySteps.{IsStampAnswer, IsTakeAnswer, is_taken}
+use Rattle.house_directory.specs.declared.taking.Taken.TheVariants as taken
+use Rattle.house_directory.specs.DirectorySteps.{IsStampAnswer, IsTakeAnswer, UnlessTaken, is_taken}
 use Rattle.house_directory.specs.HouseMessages.{StandsMessage, leave_of, numbers_of, posts_to}
 use Rattle.house_lines.specs.declared.line.HouseLine.TheVariants as line
 use Rattle.cell_model.specs.Cells as model
 use Rattle.cell_model.specs.Commands as command
-use Rattle.script_answers.specs.declared.answer.ScriptRefusal.{ScriptRefusal}
 use Rattle.script_answers.specs.declared.answer.ScriptRefusal.TheVariants as why
 use Rattle.house_directory.specs.declared.posted.Posted.{Posted}
 use Rattle.house_directory.specs.declared.states.DirState.{DirState}
@@ -52,21 +53,21 @@ use Rattle.clearinghouse.specs.ModelHouses.{StandsHouse}
 use Rattle.house_lines.specs.declared.line.EpochList.{EpochList}
 use Rattle.house_lines.specs.declared.line.HouseLine.{HouseLine}
 use Rattle.cell_runs.specs.Entries.{Post}
-use Rattle.cell_runs.specs.OrderSteps.{ArePosts, IsLetterOf, then_found}
+use Rattle.cell_runs.specs.OrderSteps.{IsLetterOf, then_found}
 use Rattle.cell_runs.specs.LineAnswers.{refused, update_refusal_of}
 use Rattle.house_turns.specs.declared.said.Said.{Said}
-use Rattle.house_turns.specs.HouseReplies.{ComesTo, IsOutcome, Outcome, Posts, Tells}
-use Rattle.house_turns.specs.LineAnswers.{early_refusal, epoch_refusal, founding_refusal, is_given, maybe_refused, octets_refusal, take_refusal}
+use Rattle.house_turns.specs.HouseReplies.{ComesTo, IsOutcome, Outcome, Posts, StaysAt, Tells}
+use Rattle.house_turns.specs.HouseAnswers.{ascend_from, early_refusal, epoch_refusal, founding_refusal, is_given, maybe_refused, octets_refusal, take_refusal}
 use Rattle.house_turns.specs.LineSteps.{CarriesAt, first_members, listed_houses, step_at}
-use Rattle.house_turns.specs.PrivateTurns.{Comes, ComesUnless, Does, MakesChild, Says, TakesMessage, epoch_of, posts_of_letters, posts_said, taken_line, taken_outcome}
-use Rattle.house_turns.proofs.Letters.{letters_posts, maybe_letters, posts_said-append, said_stand}
+use Rattle.house_turns.specs.PrivateTurns.{ArePostsOf, Comes, ComesUnless, Does, MakesChild, Says, TakesMessage, epoch_of, posts_of_letters, taken_line, taken_outcome}
+use Rattle.house_turns.proofs.Letters.{letters_posts, maybe_letters, posts_both, posts_stand}
 use Rattle.house_turns.proofs.Outcomes.{Fits, Reads, accept_fits, child_posts, child_tells, posts_outcome, refused_reads, taken_reads, tells_outcome, untaken_reads}
 
 -- ---- letters
 
 -- letters that were made, if they were, are what is posted
 pub made_letters : (r : Result (Option Letters) AllocError) (ps : List Posted)
-    → IfOk r (λ o. MatchOption o (ps ≡ []) (λ l. AreLetters l ps)) → IfOk r (λ o. posts_of_letters o ≡ posts_said ps)
+    → IfOk r (λ o. MatchOption o (ps ≡ []) (λ l. AreLetters l ps)) → IfOk r (λ o. ArePostsOf (posts_of_letters o) ps)
 made_letters (Ok o) ps is = maybe_letters o ps is
 made_letters (Err e) ps is = tt
 
@@ -74,12 +75,11 @@ made_letters (Err e) ps is = tt
 pub epoch_letters : (c : Clearinghouse) (d : DirId) (k : EpochNo) (leaving : List HouseNo) (first : Option Letters) (ls : Letters)
     → MatchOption first (posts_at c d (Some out.Join) ≡ []) (λ l. AreLetters l (posts_at c d (Some out.Join)))
     → AreLetters ls (posts_to (numbers_of leaving) (leave_of (sender_of c d) k))
-    → posts_of_letters first ++ posts_of_letters (Some ls) ≡ posts_said (epoch_posts_at c d k leaving None)
+    → ArePostsOf (posts_of_letters first ++ posts_of_letters (Some ls)) (epoch_posts_at c d k leaving None)
 epoch_letters c d k leaving first ls joins leaves =
     let there : List Posted = posts_at c d (Some out.Join) in
     let gone : List Posted = posts_to (numbers_of leaving) (leave_of (sender_of c d) k) in
-    ap (λ (ps : List Post). ps ++ posts_of_letters (Some ls)) (maybe_letters first there joins)
-    ∙ ap (λ (ps : List Post). posts_said there ++ ps) (letters_posts ls gone leaves) ∙ sym (posts_said-append there gone)
+    posts_both (posts_of_letters first) (posts_of_letters (Some ls)) there gone (maybe_letters first there joins) (letters_posts ls gone leaves)
 
 -- ---- what is said, and what a line comes to
 
@@ -112,20 +112,22 @@ module _ (Answers : command.Answer → Type 0) (said : List ℕ) (c c' : Clearin
     (step : (now : model.House) (m : model.Message) → StandsHouse c now → now.clock ≡ clock → CarriesAt c.house.0 now l m
     → IsStep Answers (step_at c.house.0 now l m) c c' posted) where
   -- a call that is no turn
-  pub comes_tells : Reads Answers false said → ComesTo c clock l (Tells (said ∷ [])) c'
-  comes_tells reads = record {
+  pub comes_tells : Reads Answers false said → c' ≡ c → ComesTo c clock l (Tells (said ∷ [])) c'
+  comes_tells reads same = record {
     step = λ now m stands ticks carries.
         tells_outcome Answers said c c' posted (step_at c.house.0 now l m) (fits now m) reads (step now m stands ticks carries);
+    stays = same;
     house = house;
     node = node;
     lawful = lawful;
   }
 
   -- a call that is one
-  pub comes_posts : (posts : List Post) → Reads Answers true said → posts ≡ posts_said posted → ComesTo c clock l (Posts posts said) c'
+  pub comes_posts : (posts : List Post) → Reads Answers true said → ArePostsOf posts posted → ComesTo c clock l (Posts posts said) c'
   comes_posts posts reads are = record {
     step = λ now m stands ticks carries.
         posts_outcome Answers said c c' posted (step_at c.house.0 now l m) posts (fits now m) reads are (step now m stands ticks carries);
+    stays = tt;
     house = house;
     node = node;
     lawful = lawful;
@@ -167,6 +169,16 @@ module _ (x k : ℕ) (list : EpochList) where
       let test : nat_le k h.epoch.0 ≡ false = subst (λ (e : EpochNo). nat_le k e.0 ≡ false) (sym own) (grind (arith, nat_tests, high)) in
       rw (good, test) refl
 
+-- the house is the master of a list that it is given
+given_first : (m x : ℕ) (b d e : Bool) → (b && ((m == x) && d)) && e ≡ true → m ≡ x
+given_first m x b d e good = grind (arith, nat_tests, good)
+
+pub given_master : (x k : ℕ) (list : EpochList) → is_given x k list ≡ true → master_of (members_of list.members) ≡ x
+given_master x k list good =
+    given_first (master_of (members_of list.members)) x (is_none (members_fault (members_of list.members)))
+    (list_all (λ (m : Member). nat_le m.since k) (members_of list.members))
+    (ascend_from 0 (numbers_of list.leaving) && list_all (λ (h : ℕ). not (is_listed h (members_of list.members))) (numbers_of list.leaving)) good
+
 -- then it is later than the one that is held
 pub epoch_later : (o : Option DirState) (e : EpochNo) (k : ℕ) → epoch_of o ≡ Some e → e.0 < k → IsLater k o
 epoch_later None e k is high = tt
@@ -189,6 +201,7 @@ repoint_comes (Ok s) number c c' clock d n h rs houses is does = record {
     step = λ now m stands ticks carries.
         subst (λ (k : Houses). IsOutcome (accept c.house.0 now d.0 (change.Repoint n k.master k.others)) does.outcome c c') is
         (does.comes.step now m stands ticks tt);
+    stays = does.comes.stays;
     house = does.comes.house;
     node = does.comes.node;
     lawful = does.comes.lawful;
@@ -245,14 +258,15 @@ still_absent c c' dir made u s o takes absent =
 
 -- the root directory is made
 pub root_comes : (c c' : Clearinghouse) (clock : ℕ) (ls : List Listed) (ms : List Member) (posted : List Posted) (posts : List Post)
-    → c'.house ≡ c.house → c'.node ≡ c.node → (IsLawful c → IsLawful c') → ms ≡ first_members c.house.0 ls → posts ≡ posts_said posted
+    → c'.house ≡ c.house → c'.node ≡ c.node → (IsLawful c → IsLawful c') → ms ≡ first_members c.house.0 ls → ArePostsOf posts posted
     → ((now : model.House) → StandsHouse c now → IsTurn (found_directory c.house.0 now root_dir ms) c' posted)
     → ComesTo c clock (line.Root ls) (Posts posts (answer_line answer.Done)) c'
 root_comes c c' clock ls ms posted posts house node lawful is are turns = record {
   step = λ now m stands ticks carries.
       let t : Turn = found_directory c.house.0 now root_dir (first_members c.house.0 ls) in
       let done = subst (λ (ms : List Member). IsTurn (found_directory c.house.0 now root_dir ms) c' posted) is (turns now stands) in
-      (subst (λ (ps : List Post). ArePosts ps t.posts) (sym are) (said_stand posted t.posts done.each), λ ns. refl, done.stands);
+      (posts_stand posts posted t.posts are done.each, λ ns. refl, done.stands);
+  stays = tt;
   house = house;
   node = node;
   lawful = lawful;
@@ -273,6 +287,7 @@ child_comes (Ok s) number c c' clock d n made ls u ms child is makes = record {
         (change.MakeChild n (record { dir = made.0; master = c.house.0; others = sorted_houses (listed_houses ls) })))) makes.outcome c c') is
         (subst (λ (u : Change). IsOutcome (then_found c.house.0 made.0 ms (accept c.house.0 now d.0 u)) makes.outcome c c') child
         (makes.step now stands ticks));
+    stays = makes.stays;
     house = makes.house;
     node = makes.node;
     lawful = makes.lawful;
@@ -283,8 +298,8 @@ module _ (r : Result Said AllocError) (number : ℕ) (c c' : Clearinghouse) (clo
   -- an update that makes a child is refused
   pub child_refused : (why : UpdateRefusal) (posted : List Posted) → IfOk r (λ s. Says number s (Tells (refused (update_refusal_of why) ∷ [])))
       → ((now : model.House) → StandsHouse c now → now.clock ≡ clock → IsStep (IsStampAnswer (Err why)) (accept c.house.0 now d.0 u) c c' posted)
-      → c'.house ≡ c.house → c'.node ≡ c.node → (IsLawful c → IsLawful c') → IfOk r (MakesChild number c c' clock d u made ms)
-  child_refused why posted says step house node lawful = go r says
+      → c' ≡ c → c'.house ≡ c.house → c'.node ≡ c.node → (IsLawful c → IsLawful c') → IfOk r (MakesChild number c c' clock d u made ms)
+  child_refused why posted says step same house node lawful = go r says
     where
       go : (r : Result Said AllocError) → IfOk r (λ s. Says number s (Tells (refused (update_refusal_of why) ∷ [])))
           → IfOk r (MakesChild number c c' clock d u made ms)
@@ -296,6 +311,7 @@ module _ (r : Result Said AllocError) (number : ℕ) (c c' : Clearinghouse) (clo
             child_tells c.house.0 made.0 ms c (accept c.house.0 now d.0 u) (refused (update_refusal_of why) ∷ []) c'
             (tells_outcome (IsStampAnswer (Err why)) (refused (update_refusal_of why)) c c' posted (accept c.house.0 now d.0 u)
             (accept_fits c.house.0 now d.0 u) (refused_reads why) (step now stands ticks));
+        stays = same;
         house = house;
         node = node;
         lawful = lawful;
@@ -305,7 +321,7 @@ module _ (r : Result Said AllocError) (number : ℕ) (c c' : Clearinghouse) (clo
   pub child_done : (mid : Clearinghouse) (stamp : Stamp) (ps qs : List Posted) (posts : List Post)
       → IfOk r (λ s. Says number s (Posts posts (answer_line (answer.Made made stamp []))))
       → ((now : model.House) → StandsHouse c now → now.clock ≡ clock → IsStep (IsStampAnswer (Ok stamp)) (accept c.house.0 now d.0 u) c mid ps)
-      → ((now : model.House) → StandsHouse mid now → IsTurn (found_directory c.house.0 now made.0 ms) c' qs) → posts ≡ posts_said ps ++ posts_said qs
+      → ((now : model.House) → StandsHouse mid now → IsTurn (found_directory c.house.0 now made.0 ms) c' qs) → ArePostsOf posts (ps ++ qs)
       → c'.house ≡ c.house → c'.node ≡ c.node → (IsLawful c → IsLawful c') → IfOk r (MakesChild number c c' clock d u made ms)
   child_done mid stamp ps qs posts says step founds are house node lawful = go r says
     where
@@ -318,6 +334,7 @@ module _ (r : Result Said AllocError) (number : ℕ) (c c' : Clearinghouse) (clo
         step = λ now stands ticks.
             child_posts c.house.0 made.0 ms c (accept c.house.0 now d.0 u) stamp mid c' ps qs posts (accept_fits c.house.0 now d.0 u)
             (step now stands ticks) founds are;
+        stays = tt;
         house = house;
         node = node;
         lawful = lawful;
@@ -327,21 +344,37 @@ module _ (r : Result Said AllocError) (number : ℕ) (c c' : Clearinghouse) (clo
 
 -- what a message comes to
 pub taken_outcome_is : (t : Taken) (c c' : Clearinghouse) (posted : List Posted) (s : HouseStep) (posts : List Post) → Fits s
-    → IsStep (IsTakeAnswer t) s c c' posted → posts ≡ posts_said posted → IsOutcome s (taken_outcome t posts) c c'
+    → IsStep (IsTakeAnswer t) s c c' posted → ArePostsOf posts posted → IsOutcome s (taken_outcome t posts) c c'
 taken_outcome_is t c c' posted s posts fits step are = go (is_taken t) refl
   where
     go : (b : Bool) → is_taken t ≡ b → IsOutcome s (if b then Posts posts (taken_line t) else Tells (taken_line t ∷ [])) c c'
     go true on = posts_outcome (IsTakeAnswer t) (taken_line t) c c' posted s posts fits (taken_reads t on) are step
     go false off = tells_outcome (IsTakeAnswer t) (taken_line t) c c' posted s fits (untaken_reads t off) step
 
+-- one that is not taken changes nothing
+pub taken_stays : (t : Taken) (posts : List Post) (c c' : Clearinghouse) (o : Option Outgoing) → UnlessTaken t ((c' ≡ c) × (o ≡ None))
+    → StaysAt (taken_outcome t posts) c c'
+taken_stays taken.Taken posts c c' o same = tt
+taken_stays (taken.Complete t) posts c c' o same = tt
+taken_stays (taken.Late a b) posts c c' o same = same.0
+taken_stays (taken.Early a b) posts c c' o same = same.0
+taken_stays (taken.Stale a b) posts c c' o same = same.0
+taken_stays taken.NoReplica posts c c' o same = same.0
+taken_stays taken.Foreign posts c c' o same = same.0
+
 pub message_comes : (r : Result Said AllocError) (number : ℕ) (c c' : Clearinghouse) (message : Message) (t : Taken) (posts : List Post)
     → IfOk r (λ s. Says number s (taken_outcome t posts))
     → ((now : model.House) (m : model.Message) → StandsHouse c now → StandsMessage c.house.0 message m → CanTake now m
     → IsOutcome (take now m) (taken_outcome t posts) c c')
-    → c'.house ≡ c.house → c'.node ≡ c.node → (IsLawful c → IsLawful c') → IfOk r (TakesMessage number c c' message)
-message_comes (Err e) number c c' message t posts says step house node lawful = tt
-message_comes (Ok s) number c c' message t posts says step house node lawful =
-    record { outcome = taken_outcome t posts; says = says; step = step; house = house; node = node; lawful = lawful }
+    → StaysAt (taken_outcome t posts) c c' → c'.house ≡ c.house → c'.node ≡ c.node → (IsLawful c → IsLawful c') → IfOk r (TakesMessage number c c' message)
+message_comes (Err e) number c c' message t posts says step stays house node lawful = tt
+message_comes (Ok s) number c c' message t posts says step stays house node lawful =
+    record { outcome = taken_outcome t posts; says = says; step = step; stays = stays; house = house; node = node; lawful = lawful }
+
+-- the message that was decoded, or else this one
+abbrev message_in : Message → Result (Message × ℕ) RecordFault → Message
+message_in m (Ok r) = r.0
+message_in m (Err f) = m
 
 -- a `take` is that of the message that its octets are
 pub take_comes : (r : Result Said AllocError) (number : ℕ) (c c' : Clearinghouse) (clock : ℕ) (octets : List ℕ) (message : Message) (used : ℕ)
@@ -351,7 +384,7 @@ take_comes (Err e) number c c' clock octets message used decodes takes = tt
 take_comes (Ok s) number c c' clock octets message used decodes takes = record {
   outcome = takes.outcome;
   says = takes.says;
-  comes = record { step = step; house = takes.house; node = takes.node; lawful = takes.lawful };
+  comes = record { step = step; stays = takes.stays; house = takes.house; node = takes.node; lawful = takes.lawful };
 }
   where
     step : (now : model.House) (m : model.Message) → StandsHouse c now → now.clock ≡ clock → CarriesAt c.house.0 now (line.Take octets) m
@@ -359,7 +392,7 @@ take_comes (Ok s) number c c' clock octets message used decodes takes = record {
     step now m stands ticks carries =
         let letter : IsLetterOf c.house.0 octets m = carries.0 in
         let read = decodes.only letter.carried octets [] letter.whole (sym (append-nil octets)) in
-        let same : letter.carried ≡ message = cc in
+        let same : letter.carried ≡ message = ap (message_in letter.carried) read in
         takes.step now m stands (subst (λ (k : Message). StandsMessage c.house.0 k m) same letter.stands) carries.1
 
 -- why octets are refused

@@ -2,22 +2,22 @@
 use Rattle.std.proofs.Common.{◌≡◌, ℕ, List, [], ◌∷◌, ◌++◌, sym, ap, ◌∙◌, append_assoc, append-nil}
 use Rattle.std.specs.List.{flat_map}
 use Rattle.std.proofs.lemmas.List.Concat.{flat_map-cons}
-use Rattle.house_turns.specs.HouseReplies.{joined}
+use Rattle.house_turns.specs.HouseReplies.{with_spaces}
 
 -- words, each after a space
 abbrev pub spaced : List (List ℕ) → List ℕ
 spaced = flat_map (λ (w : List ℕ). 32 ∷ w)
 
 -- the first word, and the others
-pub joined_spaced : (w : List ℕ) (ws : List (List ℕ)) → joined (w ∷ ws) ≡ w ++ spaced ws
+pub joined_spaced : (w : List ℕ) (ws : List (List ℕ)) → with_spaces (w ∷ ws) ≡ w ++ spaced ws
 joined_spaced w [] = sym (append-nil w)
 joined_spaced w (v ∷ ws) =
     ap (λ (r : List ℕ). w ++ (32 ∷ r)) (joined_spaced v ws) ∙ ap (λ (r : List ℕ). w ++ r) (sym (flat_map-cons (λ (w : List ℕ). 32 ∷ w) v ws))
 
 -- the first word was written
-pub joined_first : (all ws : List (List ℕ)) (w text : List ℕ) → all ≡ w ∷ ws → text ≡ [] ++ w → text ++ spaced ws ≡ joined all
+pub joined_first : (all ws : List (List ℕ)) (w text : List ℕ) → all ≡ w ∷ ws → text ≡ [] ++ w → text ++ spaced ws ≡ with_spaces all
 joined_first all ws w text is wrote =
-    ap (λ (t : List ℕ). t ++ spaced ws) wrote ∙ sym (joined_spaced w ws) ∙ ap joined (sym is)
+    ap (λ (t : List ℕ). t ++ spaced ws) wrote ∙ sym (joined_spaced w ws) ∙ ap with_spaces (sym is)
 
 -- another one was written
 pub joined_next : (rest ws : List (List ℕ)) (w text spaces after all : List ℕ) → rest ≡ w ∷ ws → spaces ≡ text ++ 32 ∷ [] → after ≡ spaces ++ w

@@ -1,8 +1,12 @@
 mod Pieces
+mod Cuts
+mod SaidAgain
+mod LastTurns
 mod Letters
 mod Outcomes
 mod Comes
 mod Replies
+mod Recorded
 mod Joining
 mod Starts
 mod Asked

@@ -1,6 +1,6 @@
 -- What a line comes to, from the step of the clearinghouse.
-use Rattle.std.proofs.Common.{◌≡◌, ℕ, Bool, true, false, List, [], ◌∷◌, ◌++◌, refl, sym, ap, subst, ◌∙◌}
-use Rattle.std.specs.Prelude.{Option, Some, None, Result, Ok, Err, ◌==◌, ◌&&◌, nat_le, nat_lt, if◌then◌else◌}
+use Rattle.std.proofs.Common.{◌≡◌, ℕ, Bool, true, false, List, [], ◌∷◌, ◌++◌, refl, ap, ◌∙◌}
+use Rattle.std.specs.Prelude.{Option, Some, None, Ok, Err, ◌==◌, ◌&&◌, nat_le, nat_lt, if◌then◌else◌}
 use Rattle.cds_stamps.specs.declared.stamp.Stamp.{Stamp}
 use Rattle.cds_stamps.specs.Members.{Member, is_listed, master_of, others_of, since_in}
 use Rattle.cds_stamps.specs.Stamps.{is_stamp}
@@ -14,7 +14,6 @@ use Rattle.cell_model.specs.Turns.{HouseStep, Stays, Turns, Turn}
 use Rattle.script_answers.specs.Texts.{answer_line}
 use Rattle.script_answers.specs.declared.answer.Answer.TheVariants as answer
 use Rattle.house_directory.specs.declared.posted.Posted.{Posted}
-use Rattle.house_directory.specs.declared.skulks.Begun.{Begun}
 use Rattle.house_directory.specs.declared.skulks.Begun.TheVariants as begun
 use Rattle.house_directory.specs.declared.taking.Taken.{Taken}
 use Rattle.house_directory.specs.declared.taking.Taken.TheVariants as taken
@@ -28,12 +27,12 @@ use Rattle.script_answers.specs.declared.answer.ScriptRefusal.TheVariants as ref
 use Rattle.clearinghouse.specs.declared.house.Clearinghouse.{Clearinghouse}
 use Rattle.clearinghouse.specs.HouseSteps.{IsStep, IsTurn}
 use Rattle.clearinghouse.specs.ModelHouses.{StandsHouse}
-use Rattle.cell_runs.specs.OrderSteps.{ArePosts, then_found, with_number}
+use Rattle.cell_runs.specs.OrderSteps.{then_found, with_number}
 use Rattle.cell_runs.specs.Entries.{Post}
 use Rattle.cell_runs.specs.LineAnswers.{answer_said, refused, update_refusal_of}
 use Rattle.house_turns.specs.HouseReplies.{IsOutcome, Posts, Tells}
-use Rattle.house_turns.specs.PrivateTurns.{epoch_refusal_of, posts_said, taken_line}
-use Rattle.house_turns.proofs.Letters.{posts_said-append, said_stand}
+use Rattle.house_turns.specs.PrivateTurns.{ArePostsOf, epoch_refusal_of, taken_line}
+use Rattle.house_turns.proofs.Letters.{posts_stand}
 
 -- ---- turns and other answers
 
@@ -58,13 +57,13 @@ abbrev pub Fits : HouseStep → Type 0
 Fits (Stays a) = of_turn a ≡ false
 Fits (Turns t) = (ns : List ℕ) → of_turn (t.answer ns) ≡ true
 
--- what is told where nothing changes
+-- what is said of each answer that passes a test, and whether those are answers of turns
 pub record Reads (Answers : command.Answer → Type 0) (turn : Bool) (said : List ℕ) : Type 0 where
   pub kind : (a : command.Answer) → Answers a → of_turn a ≡ turn
   pub is : (a : command.Answer) → Answers a → said ≡ answer_said a
 
 module _ (Answers : command.Answer → Type 0) (said : List ℕ) (c c' : Clearinghouse) (posted : List Posted) where
-  -- no turn, told with this answer
+  -- no turn, with this answer
   pub tells_outcome : (s : HouseStep) → Fits s → Reads Answers false said → IsStep Answers s c c' posted → IsOutcome s (Tells (said ∷ [])) c c'
   tells_outcome (Stays a) fits reads step = (ap (λ (l : List ℕ). l ∷ []) (reads.is a step.0), step.1)
   tells_outcome (Turns t) fits reads step =
@@ -73,13 +72,13 @@ module _ (Answers : command.Answer → Type 0) (said : List ℕ) (c c' : Clearin
       absurd (cc)
 
   -- a turn, with these posts and this answer
-  pub posts_outcome : (s : HouseStep) (posts : List Post) → Fits s → Reads Answers true said → posts ≡ posts_said posted → IsStep Answers s c c' posted
+  pub posts_outcome : (s : HouseStep) (posts : List Post) → Fits s → Reads Answers true said → ArePostsOf posts posted → IsStep Answers s c c' posted
       → IsOutcome s (Posts posts said) c c'
   posts_outcome (Stays a) posts fits reads are step =
       let on : of_turn a ≡ true = reads.kind a step.0 in
       absurd (cc)
   posts_outcome (Turns t) posts fits reads are step = (
-    subst (λ (ps : List Post). ArePosts ps t.posts) (sym are) (said_stand posted t.posts step.1.each),
+    posts_stand posts posted t.posts are step.1.each,
     λ ns. reads.is (t.answer ns) (step.0 ns),
     step.1.stands,
   )
@@ -393,7 +392,7 @@ module _ (x d : ℕ) (ms : List Member) (c : Clearinghouse) where
   -- a child that is made, and its directory
   pub child_posts : (s : HouseStep) (stamp : Stamp) (c' c'' : Clearinghouse) (ps qs : List Posted) (posts : List Post) → Fits s
       → IsStep (IsStampAnswer (Ok stamp)) s c c' ps → ((now : model.House) → StandsHouse c' now → IsTurn (turns.found_directory x now d ms) c'' qs)
-      → posts ≡ posts_said ps ++ posts_said qs
+      → ArePostsOf posts (ps ++ qs)
       → IsOutcome (then_found x d ms s) (Posts posts (answer_line (answer.Made (record { 0 = d }) stamp []))) c c''
   child_posts (Stays a) stamp c' c'' ps qs posts fits step founds are =
       let on : of_turn a ≡ true = (stamped_reads stamp).kind a step.0 in
@@ -402,8 +401,7 @@ module _ (x d : ℕ) (ms : List Member) (c : Clearinghouse) where
       let founded = founds t.house step.1.stands in
       let more : List model.Message = (turns.found_directory x t.house d ms).posts in
       let each : StandEach (ps ++ qs) (t.posts ++ more) = each_append ps qs t.posts more step.1.each founded.each in (
-        subst (λ (ls : List Post). ArePosts ls (t.posts ++ more)) (sym (are ∙ sym (posts_said-append ps qs)))
-            (said_stand (ps ++ qs) (t.posts ++ more) each),
+        posts_stand posts (ps ++ qs) (t.posts ++ more) are each,
         λ ns. made (t.answer ns) (step.0 ns),
         founded.stands,
       )

@@ -1,11 +1,11 @@
 -- Octets in pieces: the first piece and the others.
-use Rattle.std.proofs.Common.{◌≡◌, ℕ, zero, suc, ◌+◌, ◌≤◌, ◌<◌, List, [], ◌∷◌, ◌++◌, length, take, drop, refl, sym, ◌∙◌, ap, arith, append_assoc, append-nil}
+use Rattle.std.proofs.Common.{◌≡◌, ℕ, zero, suc, ◌+◌, ◌≤◌, ◌<◌, List, [], ◌∷◌, ◌++◌, length, take, drop, refl, sym, ◌∙◌, ap, arith, append_assoc, append-nil, get_or}
 use Rattle.std.specs.Prelude.{codes, map}
 use Rattle.std.proofs.lemmas.Grind.{flat_map-append}
-use Rattle.std.proofs.lemmas.List.{drop_all, length-drop, take_all}
+use Rattle.std.proofs.lemmas.List.{drop_all, length-drop, map-append, take_all, take_more}
 use Rattle.std.proofs.lemmas.List.Concat.{flat_map-cons}
 use Rattle.script_answers.specs.Texts.{line_text, lines_text}
-use Rattle.house_turns.specs.Texts.{pieces_after, pieces_of, piece_lines, post_line}
+use Rattle.house_turns.specs.PostTexts.{pieces_after, pieces_of, piece_lines, post_line}
 
 -- the pieces after some octets are those of the others
 pub pieces_later : (size k : ℕ) (xs : List ℕ) → pieces_after size k xs ≡ pieces_of size (drop k xs)
@@ -19,6 +19,12 @@ pub pieces_next : (xs : List ℕ) → 0 < length xs → pieces_of 2000 xs ≡ ta
 unfolding pieces_after
 pieces_next [] some = absurd (omega (arith, some))
 pieces_next (x ∷ xs) some = ap (λ (ps : List (List ℕ)). take 2000 (x ∷ xs) ∷ ps) (pieces_later 2000 1999 xs)
+
+-- no octets have no piece
+pub pieces_none : (xs : List ℕ) → length xs ≡ 0 → pieces_of 2000 xs ≡ []
+unfolding pieces_after
+pieces_none [] none = refl
+pieces_none (x ∷ xs) none = absurd (omega (arith, none))
 
 -- the last piece
 pub pieces_last : (xs : List ℕ) → 0 < length xs → length xs ≤ 2000 → pieces_of 2000 xs ≡ xs ∷ []
@@ -60,3 +66,20 @@ written_last n t t' t'' e ls wrote last =
     ∙ ap (λ (x : List ℕ). t ++ (lines_text n ls ++ x)) (sym (append-nil (line_text n e)))
     ∙ ap (λ (x : List ℕ). t ++ (lines_text n ls ++ x)) (sym (flat_map-cons (line_text n) e []))
     ∙ ap (λ (x : List ℕ). t ++ x) (sym (flat_map-append (line_text n) ls (e ∷ [])))
+
+-- a line was written of one more of some items
+pub written_item : {X : Type 0} (n : ℕ) (f : X → List ℕ) (t t' : List ℕ) (xs : List X) (i : ℕ) (x d : X) → i < length xs → x ≡ get_or xs i d
+    → t ≡ lines_text n (map f (take i xs)) → t' ≡ t ++ line_text n (f x) → t' ≡ lines_text n (map f (take (i + 1) xs))
+written_item {X} n f t t' xs i x d within is before wrote =
+    wrote ∙ ap (λ (r : List ℕ). r ++ line_text n (f x)) before
+    ∙ ap (λ (r : List ℕ). lines_text n (map f (take i xs)) ++ r) (sym (append-nil (line_text n (f x))))
+    ∙ sym (flat_map-append (line_text n) (map f (take i xs)) (f x ∷ []))
+    ∙ ap (lines_text n) (sym (map-append f (take i xs) (x ∷ [])))
+    ∙ ap (λ (y : X). lines_text n (map f (take i xs ++ y ∷ []))) is
+    ∙ ap (λ (ys : List X). lines_text n (map f ys)) (sym (take_more xs i d within))
+
+-- the number of a line, its words and its end
+pub line_whole : (digits t words : List ℕ) → ((t ++ (digits ++ 32 ∷ [])) ++ words) ++ 10 ∷ [] ≡ t ++ (digits ++ (32 ∷ (words ++ 10 ∷ [])))
+line_whole digits t words =
+    append_assoc (t ++ (digits ++ 32 ∷ [])) words (10 ∷ []) ∙ append_assoc t (digits ++ 32 ∷ []) (words ++ 10 ∷ [])
+    ∙ ap (λ (r : List ℕ). t ++ r) (append_assoc digits (32 ∷ []) (words ++ 10 ∷ []))

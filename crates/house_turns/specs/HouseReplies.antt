@@ -1,22 +1,19 @@
 -- What a house replies to a line, and what its record says (own, after C705, updates, skulks and
 -- new epochs).
-use Rattle.std.specs.Prelude.{◌≡◌, ℕ, ◌+◌, nat_lt, Bool, true, false, List, [], ◌∷◌, ◌++◌, length, map, Option, Some, None, Result, Ok, Err, codes}
+use Rattle.std.specs.Prelude.{◌≡◌, ℕ, ◌+◌, nat_lt, Bool, true, false, List, [], ◌∷◌, ◌++◌, length, Option, Some, None, Result, Ok, Err, codes}
 use Rattle.std.specs.FinMap.{empty}
 use Rattle.std.specs.List.{flat_map}
 use Rattle.cell_model.specs.Cells as model
 use Rattle.cell_model.specs.Turns.{HouseStep, Stays, Turns}
-use Rattle.cds_records.specs.RecordOctets.{image_octets}
 use Rattle.cds_stamps.specs.declared.numbers.HouseNo.{HouseNo}
 use Rattle.cell_script.specs.Words.{words_of}
 use Rattle.cell_script.specs.declared.fault.ParseFault.{ParseFault}
 use Rattle.script_answers.specs.Texts.{answer_line, lines_text, parse_fault_text}
 use Rattle.script_answers.specs.declared.answer.Answer.TheVariants as answer
 use Rattle.script_answers.specs.declared.answer.ScriptRefusal.TheVariants as why
-use Rattle.clearinghouse.specs.HouseImages.{image_of}
 use Rattle.clearinghouse.specs.LawfulHouses.{IsLawful}
 use Rattle.clearinghouse.specs.ModelHouses.{StandsHouse}
 use Rattle.clearinghouse.specs.declared.house.Clearinghouse.{Clearinghouse}
-use Rattle.house_entries.specs.Bodies.{body_of}
 use Rattle.house_lines.specs.LineRows.{said_in}
 use Rattle.house_lines.specs.declared.line.HouseLine.{HouseLine}
 use Rattle.house_lines.specs.declared.line.HouseLine.TheVariants as asks
@@ -27,8 +24,9 @@ use Rattle.cell_runs.specs.OrderSteps.{ArePosts}
 use Rattle.house_turns.specs.declared.house.House.{House}
 use Rattle.house_turns.specs.declared.house.TheConstants.{MOST_MESSAGE}
 use Rattle.house_turns.specs.LineSteps.{CarriesAt, step_at}
-use Rattle.house_turns.specs.LineAnswers.{early_refusal, question_said}
-use Rattle.house_turns.specs.Texts.{octets_line, piece_lines, pieces_of, post_line}
+use Rattle.house_turns.specs.HouseAnswers.{early_refusal, question_said}
+use Rattle.house_turns.specs.Records.{IsRecord}
+use Rattle.house_turns.specs.PostTexts.{octets_line, piece_lines, pieces_of, post_line}
 
 -- ---- messages that are posted, and texts
 
@@ -49,10 +47,10 @@ abbrev pub turn_text : (line : List ℕ) → List Post → (answer : List ℕ) �
 turn_text line posts answer = line ++ (10 ∷ (posts_text posts ++ (answer ++ 10 ∷ [])))
 
 -- words with one space between two (own)
-abbrev pub joined : List (List ℕ) → List ℕ
-joined [] = []
-joined (w ∷ []) = w
-joined (w ∷ v ∷ ws) = w ++ (32 ∷ joined (v ∷ ws))
+abbrev pub with_spaces : List (List ℕ) → List ℕ
+with_spaces [] = []
+with_spaces (w ∷ []) = w
+with_spaces (w ∷ v ∷ ws) = w ++ (32 ∷ with_spaces (v ∷ ws))
 
 -- the line of a message that is taken (own)
 abbrev pub take_line : List ℕ → List ℕ
@@ -66,18 +64,27 @@ pub data Outcome : Type 0 where
   Posts : (posts : List Post) → (answer : List ℕ) → Outcome
 
 -- a line comes to what the step of the model is: its answer, and nothing changes; or the messages
--- and the answer of the turn, and then the clearinghouse stands for the house after it (own)
+-- and the answer of the turn, and then the clearinghouse is for the house after it (own)
 abbrev pub IsOutcome : HouseStep → Outcome → (c c' : Clearinghouse) → Type 0
 IsOutcome (Stays answer) (Tells lines) c c' = (lines ≡ answer_said answer ∷ []) × (c' ≡ c)
 IsOutcome (Turns turn) (Posts posts answer) c c' =
-    ArePosts posts turn.posts × ((ns : List ℕ) → answer ≡ answer_said (turn.answer ns)) × StandsHouse c' turn.house
+    ArePosts posts turn.posts × ((ns : List ℕ) → answer ≡ answer_said (turn.answer ns))
+    × StandsHouse c' turn.house
 IsOutcome _ _ c c' = ⊥
 
+-- an answer alone changes nothing (own)
+abbrev pub StaysAt : Outcome → (c c' : Clearinghouse) → Type 0
+StaysAt (Tells lines) c c' = c' ≡ c
+StaysAt (Posts posts answer) c c' = Unit {0}
+
 -- what a line comes to at a clearinghouse, and how that is after it. Whichever house of the model
--- it stands for, and whichever message a `take` stands for, it is that house's step (own)
-pub record ComesTo (c : Clearinghouse) (clock : ℕ) (said : HouseLine) (outcome : Outcome) (c' : Clearinghouse) : Type 0 where
-  pub step : (now : model.House) (m : model.Message) → StandsHouse c now → now.clock ≡ clock → CarriesAt c.house.0 now said m
+-- it is for, and whichever message a `take` is for, it is that house's step (own)
+pub record ComesTo (c : Clearinghouse) (clock : ℕ) (said : HouseLine) (outcome : Outcome)
+    (c' : Clearinghouse) : Type 0 where
+  pub step : (now : model.House) (m : model.Message) → StandsHouse c now → now.clock ≡ clock
+      → CarriesAt c.house.0 now said m
       → IsOutcome (step_at c.house.0 now said m) outcome c c'
+  pub stays : StaysAt outcome c c'
   pub house : c'.house ≡ c.house
   pub node : c'.node ≡ c.node
   pub lawful : IsLawful c → IsLawful c'
@@ -86,101 +93,130 @@ pub record ComesTo (c : Clearinghouse) (clock : ℕ) (said : HouseLine) (outcome
 
 -- a clearinghouse that is new (own)
 abbrev pub new_clearinghouse : HouseNo → (node : ℕ) → Clearinghouse
-new_clearinghouse x node = record { house = x; node = node; floor = record { time = 0 }; dirs = empty; spent = false }
+new_clearinghouse x node =
+    record { house = x; node = node; floor = record { time = 0 }; dirs = empty; spent = false }
 
 -- no turn: these lines, and no record (own)
-abbrev pub telling : (number : ℕ) → List (List ℕ) → Said
-telling number lines = record { text = lines_text number lines; body = None }
+abbrev pub tells_alone : (number : ℕ) → List (List ℕ) → Said
+tells_alone number lines = record { text = lines_text number lines; body = None }
 
--- a house that told something: it has this clearinghouse, and no octets of a message (own)
+-- a house after lines alone: it has this clearinghouse, and no octets of a message (own)
 abbrev pub with_home : House → Option Clearinghouse → House
 with_home h c = record h { home = c; more = [] }
 
--- a turn: its lines; its record, whose image is that of the clearinghouse after it; and the house
--- after it (own)
-pub record IsTurnReply (h : House) (number : ℕ) (line : List ℕ) (posts : List Post) (answer : List ℕ) (c' : Clearinghouse) (said : Said)
+-- a turn: its lines; its record, which is that of the house after it; and that house (own)
+pub record IsTurnReply (h : House) (number : ℕ) (line : List ℕ) (posts : List Post)
+    (answer : List ℕ) (c' : Clearinghouse) (said : Said)
     (h' : House) : Type 0 where
   pub text : said.text ≡ lines_text number (turn_lines posts answer)
-  pub body : said.body ≡ Some (body_of (h.entry + 1) h.clock (turn_text line posts answer) (Some (image_octets (image_of c'))))
+  pub octets : List ℕ
+  pub body : said.body ≡ Some octets
+  pub record_is : IsRecord h' (turn_text line posts answer) octets
   pub after : h' ≡ record h { home = Some c'; entry = h.entry + 1; last = turn_text line posts answer; more = [] }
 
 -- the reply that what a line comes to gives (own)
-abbrev pub IsReply : House → ℕ → (line : List ℕ) → Outcome → (c' : Clearinghouse) → Said → House → Type 0
-IsReply h number line (Tells lines) c' said h' = (said ≡ telling number lines) × (h' ≡ with_home h (Some c'))
-IsReply h number line (Posts posts answer) c' said h' = IsTurnReply h number line posts answer c' said h'
+abbrev pub IsReply : House → ℕ → (line : List ℕ) → Outcome → (c' : Clearinghouse) → Said → House
+    → Type 0
+IsReply h number line (Tells lines) c' said h' =
+    (said ≡ tells_alone number lines) × (h' ≡ with_home h (Some c'))
+IsReply h number line (Posts posts answer) c' said h' =
+    IsTurnReply h number line posts answer c' said h'
 
 -- the reply to a line that asks a clearinghouse for a step (own)
-pub record StepReply (h : House) (c : Clearinghouse) (number : ℕ) (line : List ℕ) (says : HouseLine) (said : Said) (h' : House) : Type 0 where
+pub record StepReply (h : House) (c : Clearinghouse) (number : ℕ) (line : List ℕ) (says : HouseLine)
+    (said : Said) (h' : House) : Type 0 where
   pub outcome : Outcome
   pub c' : Clearinghouse
   pub comes : ComesTo c h.clock says outcome c'
   pub reply : IsReply h number line outcome c' said h'
 
--- these lines alone are told, and the house has no octets of a message (own)
+-- these lines alone are the answer, and the house has no octets of a message (own)
 abbrev pub TellsLines : House → ℕ → List (List ℕ) → Said → House → Type 0
-TellsLines h number lines said h' = (said ≡ telling number lines) × (h' ≡ record h { more = [] })
+TellsLines h number lines said h' = (said ≡ tells_alone number lines) × (h' ≡ record h { more = [] })
 
 -- the reply to a line, unless this refusal comes before (own)
-abbrev pub UnlessRefused : House → (c : Clearinghouse) → ℕ → (line : List ℕ) → HouseLine → Option (List ℕ) → Said → House → Type 0
-UnlessRefused h c number line says (Some refusal) said h' = TellsLines h number (refusal ∷ []) said h'
+abbrev pub UnlessRefused : House → (c : Clearinghouse) → ℕ → (line : List ℕ) → HouseLine
+    → Option (List ℕ) → Said → House → Type 0
+UnlessRefused h c number line says (Some refusal) said h' =
+    TellsLines h number (refusal ∷ []) said h'
 UnlessRefused h c number line says None said h' = StepReply h c number line says said h'
 
--- the same of a line that may be a question (own)
-abbrev pub UnlessAsked : House → (c : Clearinghouse) → ℕ → (line : List ℕ) → HouseLine → Option (List (List ℕ)) → Said → House → Type 0
+-- the reply to a line that may be a question (own)
+abbrev pub UnlessAsked : House → (c : Clearinghouse) → ℕ → (line : List ℕ) → HouseLine
+    → Option (List (List ℕ)) → Said → House → Type 0
 UnlessAsked h c number line says (Some lines) said h' = TellsLines h number lines said h'
-UnlessAsked h c number line says None said h' = UnlessRefused h c number line says (early_refusal c says) said h'
+UnlessAsked h c number line says None said h' =
+    UnlessRefused h c number line says (early_refusal c says) said h'
 
 -- the reply where there is a clearinghouse (own)
-abbrev pub RepliesAt : House → (c : Clearinghouse) → ℕ → (line : List ℕ) → HouseLine → Said → House → Type 0
-RepliesAt h c number line (asks.House x node) said h' = TellsLines h number (refused why.HouseExists ∷ []) said h'
+abbrev pub RepliesAt : House → (c : Clearinghouse) → ℕ → (line : List ℕ) → HouseLine → Said → House
+    → Type 0
+RepliesAt h c number line (asks.House x node) said h' =
+    TellsLines h number (refused why.HouseExists ∷ []) said h'
 RepliesAt h c number line (asks.Clock time) said h' =
-    (said ≡ telling number (answer_line answer.Done ∷ [])) × (h' ≡ record h { clock = time; more = [] })
-RepliesAt h c number line says said h' = UnlessAsked h c number line says (question_said c says) said h'
+    (said ≡ tells_alone number (answer_line answer.Done ∷ []))
+    × (h' ≡ record h { clock = time; more = [] })
+RepliesAt h c number line says said h' =
+    UnlessAsked h c number line says (question_said c says) said h'
 
 -- where there is none: it is made, and that is a turn; all else is refused (own)
 abbrev pub RepliesAnew : House → ℕ → (line : List ℕ) → HouseLine → Said → House → Type 0
 RepliesAnew h number line (asks.House x node) said h' =
-    IsTurnReply (record h { node = node }) number line [] (answer_line answer.Done) (new_clearinghouse x node) said h'
+    IsTurnReply (record h { node = node }) number line [] (answer_line answer.Done)
+    (new_clearinghouse x node) said h'
 RepliesAnew h number line says said h' = TellsLines h number (refused why.NoHouse ∷ []) said h'
 
 -- the reply by what the folder has (own)
-abbrev pub RepliesBy : Option Clearinghouse → House → ℕ → (line : List ℕ) → HouseLine → Said → House → Type 0
+abbrev pub RepliesBy : Option Clearinghouse → House → ℕ → (line : List ℕ) → HouseLine → Said → House
+    → Type 0
 RepliesBy None h number line says said h' = RepliesAnew h number line says said h'
 RepliesBy (Some c) h number line says said h' = RepliesAt h c number line says said h'
 
 -- the reply to octets, by whether they are too many for a message; if not, they are kept (own)
 abbrev pub RepliesMoreIf : (many : Bool) → House → ℕ → (octets : List ℕ) → Said → House → Type 0
-RepliesMoreIf true h number octets said h' = TellsLines h number (codes "refused TooLong" ∷ []) said h'
-RepliesMoreIf false h number octets said h' = (said ≡ telling number (answer_line answer.Done ∷ [])) × (h' ≡ record h { more = octets })
+RepliesMoreIf true h number octets said h' =
+    TellsLines h number (codes "refused TooLong" ∷ []) said h'
+RepliesMoreIf false h number octets said h' =
+    (said ≡ tells_alone number (answer_line answer.Done ∷ [])) × (h' ≡ record h { more = octets })
 
 -- the reply to octets in front of a message: with those that were kept before (own)
 abbrev pub RepliesMore : House → ℕ → (octets : List ℕ) → Said → House → Type 0
 RepliesMore h number octets said h' =
-    RepliesMoreIf (nat_lt MOST_MESSAGE (length (h.more ++ octets))) h number (h.more ++ octets) said h'
+    RepliesMoreIf (nat_lt MOST_MESSAGE (length (h.more ++ octets))) h number (h.more ++ octets)
+    said h'
 
 -- the reply to the octets of a message, by whether they are too many (own)
-abbrev pub RepliesTakeIf : (many : Bool) → House → (c : Clearinghouse) → ℕ → (octets : List ℕ) → Said → House → Type 0
-RepliesTakeIf true h c number octets said h' = TellsLines h number (codes "refused TooLong" ∷ []) said h'
-RepliesTakeIf false h c number octets said h' = RepliesAt h c number (take_line octets) (asks.Take octets) said h'
+abbrev pub RepliesTakeIf : (many : Bool) → House → (c : Clearinghouse) → ℕ → (octets : List ℕ)
+    → Said → House → Type 0
+RepliesTakeIf true h c number octets said h' =
+    TellsLines h number (codes "refused TooLong" ∷ []) said h'
+RepliesTakeIf false h c number octets said h' =
+    RepliesAt h c number (take_line octets) (asks.Take octets) said h'
 
 -- the reply to all octets of a message (own)
-abbrev pub RepliesTake : Option Clearinghouse → House → ℕ → (octets : List ℕ) → Said → House → Type 0
+abbrev pub RepliesTake : Option Clearinghouse → House → ℕ → (octets : List ℕ) → Said → House
+    → Type 0
 RepliesTake None h number octets said h' = TellsLines h number (refused why.NoHouse ∷ []) said h'
-RepliesTake (Some c) h number octets said h' = RepliesTakeIf (nat_lt MOST_MESSAGE (length octets)) h c number octets said h'
+RepliesTake (Some c) h number octets said h' =
+    RepliesTakeIf (nat_lt MOST_MESSAGE (length octets)) h c number octets said h'
 
 -- the reply to a line of these words, which say this (own)
 abbrev pub RepliesTo : House → ℕ → (words : List (List ℕ)) → HouseLine → Said → House → Type 0
 RepliesTo h number words (asks.More octets) said h' = RepliesMore h number octets said h'
-RepliesTo h number words (asks.Take octets) said h' = RepliesTake h.home h number (h.more ++ octets) said h'
-RepliesTo h number words says said h' = RepliesBy h.home h number (joined words) says said h'
+RepliesTo h number words (asks.Take octets) said h' =
+    RepliesTake h.home h number (h.more ++ octets) said h'
+RepliesTo h number words says said h' = RepliesBy h.home h number (with_spaces words) says said h'
 
 -- the reply to a line that says something, nothing, or has a fault (own)
-abbrev pub RepliesIf : House → ℕ → (words : List (List ℕ)) → Result (Option HouseLine) ParseFault → Said → House → Type 0
+abbrev pub RepliesIf : House → ℕ → (words : List (List ℕ)) → Result (Option HouseLine) ParseFault
+    → Said → House → Type 0
 RepliesIf h number words (Ok None) said h' = (said ≡ record { text = []; body = None }) × (h' ≡ h)
 RepliesIf h number words (Ok (Some says)) said h' = RepliesTo h number words says said h'
 RepliesIf h number words (Err fault) said h' =
-    (said ≡ record { text = parse_fault_text number fault; body = None }) × (h' ≡ record h { more = [] })
+    (said ≡ record { text = parse_fault_text number fault; body = None })
+    × (h' ≡ record h { more = [] })
 
 -- the reply of a house to a line (own)
 abbrev pub Responds : House → ℕ → (line : List ℕ) → Said → House → Type 0
-Responds h number line said h' = RepliesIf h number (words_of line) (said_in (words_of line)) said h'
+Responds h number line said h' =
+    RepliesIf h number (words_of line) (said_in (words_of line)) said h'

@@ -1,6 +1,7 @@
-pub mod Texts
+pub mod PostTexts
 pub mod LineSteps
-pub mod LineAnswers
+pub mod HouseAnswers
+pub mod Records
 pub mod HouseReplies
 pub mod Openings
 pub mod PrivateTurns

@@ -1,29 +1,20 @@
 -- How a house goes on from the last record of its folder, the first record of a process, and what
 -- it says first.
 use Rattle.std.specs.Prelude.{◌≡◌, ◌≢◌, All, ℕ, ◌+◌, ◌==◌, ◌||◌, Bool, List, [], ◌∷◌, ◌++◌, length, take, if◌then◌else◌, Option, Some, None, Ok, codes, decimal}
+use Rattle.std.specs.List.{after_first}
 use Rattle.std.specs.Str.{bytes_eq}
 use Rattle.hex.specs.Hex.{encode_lower}
 use Rattle.script_answers.specs.Texts.{node_octets}
-use Rattle.cds_records.specs.RecordOctets.{image_octets}
-use Rattle.clearinghouse.specs.HouseImages.{image_of, start_of_octets}
+use Rattle.clearinghouse.specs.HouseImages.{start_of_octets}
 use Rattle.clearinghouse.specs.declared.house.Clearinghouse.{Clearinghouse}
-use Rattle.house_entries.specs.Bodies.{body_of}
+use Rattle.house_entries.specs.Bodies.{IsBody}
 use Rattle.cell_runs.specs.Entries.{Post}
 use Rattle.house_turns.specs.declared.house.House.{House}
-use Rattle.house_turns.specs.HouseReplies.{turn_lines, turn_text}
+use Rattle.house_turns.specs.HouseReplies.{turn_lines}
 
 -- the house of a folder that has none
 abbrev pub new_house : House
 new_house = record { home = None; node = 0; clock = 0; entry = 0; last = []; more = [] }
-
--- the image of a house, if it was made
-abbrev pub image_in : Option Clearinghouse → Option (List ℕ)
-image_in None = None
-image_in (Some c) = Some (image_octets (image_of c))
-
--- the body of a record of a house as it is
-abbrev pub body_at : House → (text : List ℕ) → List ℕ
-body_at h text = body_of h.entry h.clock text (image_in h.home)
 
 -- ---- what a record gives
 
@@ -32,21 +23,29 @@ abbrev pub begins_with : (front : List ℕ) → List ℕ → Bool
 begins_with front octets = bytes_eq (take (length front) octets) front
 
 -- what comes after the first line of a text
-unfoldable pub after_line : List ℕ → List ℕ
-after_line [] = []
-after_line (b ∷ bs) = if b == 10 then bs else after_line bs
+abbrev pub after_line : List ℕ → List ℕ
+after_line = after_first (λ b. b == 10)
 
--- the text of the last turn in that of a record: after a line that says that a process or a segment
--- begins; or else the whole
+-- a text begins with a line that says that a process or a segment begins
+abbrev pub is_start : List ℕ → Bool
+is_start text = begins_with (codes "start" ++ 10 ∷ []) text || begins_with (codes "segment ") text
+
+-- the text of the last turn in that of a record: after such a line; or else the whole
 abbrev pub turn_in : List ℕ → List ℕ
-turn_in text = if begins_with (codes "start" ++ 10 ∷ []) text || begins_with (codes "segment ") text then after_line text else text
+turn_in text = if is_start text then after_line text else text
+
+-- a house that starts with this clearinghouse, after so many entries, and a last turn of this text
+abbrev pub started_with : Clearinghouse → (entry : ℕ) → (last : List ℕ) → House
+started_with c entry last =
+    record { home = Some c; node = c.node; clock = 0; entry = entry; last = last; more = [] }
 
 -- a house goes on from the body of a record: there is no house yet; or it starts of the image, as
 -- after a crash, with clock 0 (own, after C705, clearinghouses)
-pub data GoesOn : (body : List ℕ) → House → Type 0 where
-  Anew : (clock : ℕ) → GoesOn (body_of 0 clock (codes "new" ++ 10 ∷ []) None) new_house
-  From : (entry clock : ℕ) (text image : List ℕ) (c : Clearinghouse) → start_of_octets image ≡ Ok c → GoesOn (body_of entry clock text (Some image))
-      (record { home = Some c; node = c.node; clock = 0; entry = entry; last = turn_in text; more = [] })
+pub data GoesOn (body : List ℕ) : House → Type 0 where
+  Anew : (clock : ℕ) → IsBody body 0 clock (codes "new" ++ 10 ∷ []) None → GoesOn body new_house
+  From : (entry clock : ℕ) (text image : List ℕ) (c : Clearinghouse)
+      → IsBody body entry clock text (Some image) → start_of_octets image ≡ Ok c
+      → GoesOn body (started_with c entry (turn_in text))
 
 -- ---- the first record of a process, and of the next segment of one
 
@@ -75,11 +74,17 @@ HasNoEnd = All (λ b. b ≢ 10)
 abbrev pub said_again : (line : List ℕ) → List ℕ
 said_again line = if begins_with (codes "take ") line then codes "take" else line
 
--- who the house is
-abbrev pub house_line : House → Clearinghouse → List ℕ
-house_line h c = codes "house " ++ (decimal c.house.0 ++ (32 ∷ encode_lower (node_octets h.node)))
+-- a turn as it is said again: its line, its messages, and its answer
+abbrev pub again_lines : (line : List ℕ) → List Post → (answer : List ℕ) → List (List ℕ)
+again_lines line posts answer = (codes "last " ++ said_again line) ∷ turn_lines posts answer
+
+-- who a house is
+abbrev pub house_said : (house node : ℕ) → List ℕ
+house_said house node = codes "house " ++ (decimal house ++ (32 ∷ encode_lower (node_octets node)))
 
 -- the first lines: that there is no house; or who it is, and its last turn again
-abbrev pub first_lines : House → Option Clearinghouse → (line : List ℕ) → List Post → (answer : List ℕ) → List (List ℕ)
+abbrev pub first_lines : House → Option Clearinghouse → (line : List ℕ) → List Post → (answer : List ℕ)
+    → List (List ℕ)
 first_lines h None line posts answer = codes "new" ∷ []
-first_lines h (Some c) line posts answer = house_line h c ∷ ((codes "last " ++ said_again line) ∷ turn_lines posts answer)
+first_lines h (Some c) line posts answer =
+    house_said c.house.0 h.node ∷ again_lines line posts answer

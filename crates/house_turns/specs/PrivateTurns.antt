@@ -1,5 +1,5 @@
 -- Words of private functions alone: what they come to, by the types that they answer with.
-use Rattle.std.specs.Prelude.{◌≡◌, ℕ, ◌+◌, List, [], ◌∷◌, ◌++◌, map, Option, None, Some, Result, Ok, Err, codes, if◌then◌else◌}
+use Rattle.std.specs.Prelude.{◌≡◌, ℕ, ◌+◌, All, List, [], ◌∷◌, ◌++◌, map, Option, None, Some, Ok, codes, if◌then◌else◌}
 use Rattle.script_answers.specs.Texts.{answer_line, lines_text}
 use Rattle.script_answers.specs.declared.answer.Answer.TheVariants as answer
 use Rattle.script_answers.specs.declared.answer.ScriptRefusal.{ScriptRefusal}
@@ -10,8 +10,10 @@ use Rattle.cds_stamps.specs.declared.numbers.HouseNo.{HouseNo}
 use Rattle.cell_runs.specs.OrderSteps.{then_found}
 use Rattle.cell_runs.specs.Entries.{Post}
 use Rattle.cell_runs.specs.LineAnswers.{refused}
-use Rattle.house_turns.specs.Texts.{piece_lines, pieces_of, post_line}
+use Rattle.house_turns.specs.PostTexts.{piece_lines, pieces_of, post_line}
+use Rattle.record_fields.specs.Decoding.{IsWhole}
 use Rattle.cds_records.specs.RecordOctets.{message_octets}
+use Rattle.cds_records.specs.Records as records
 use Rattle.house_directory.specs.declared.epochs.EpochRefusal.{EpochRefusal}
 use Rattle.house_directory.specs.declared.epochs.EpochRefusal.TheVariants as epoch
 use Rattle.house_directory.specs.declared.posted.Posted.{Posted}
@@ -30,6 +32,7 @@ use Rattle.house_serving.specs.Turns as serving
 use Rattle.cds_stamps.specs.Members.{Member}
 use Rattle.cds_stamps.specs.declared.numbers.DirId.{DirId}
 use Rattle.directory.specs.Updates.{Change}
+use Rattle.cds_messages.specs.Validity.{IsValidMessage}
 use Rattle.cds_messages.specs.declared.message.Message.{Message}
 use Rattle.cell_model.specs.Cells as model
 use Rattle.cell_model.specs.Taking.{CanTake}
@@ -40,14 +43,15 @@ use Rattle.clearinghouse.specs.HouseImages.{start_of_octets}
 use Rattle.clearinghouse.specs.LawfulHouses.{IsLawful}
 use Rattle.clearinghouse.specs.ModelHouses.{StandsHouse}
 use Rattle.house_turns.specs.declared.house.House.{House}
-use Rattle.house_turns.specs.HouseReplies.{ComesTo, IsOutcome, Outcome, Posts, Tells, new_clearinghouse, turn_lines, turn_text}
-use Rattle.house_turns.specs.Openings.{body_at}
-use Rattle.house_turns.specs.LineAnswers.{early_refusal, question_said}
+use Rattle.house_turns.specs.HouseReplies.{ComesTo, IsOutcome, Outcome, Posts, StaysAt, Tells, new_clearinghouse, turn_lines, turn_text}
+use Rattle.house_turns.specs.Records.{IsRecord}
+use Rattle.house_turns.specs.HouseAnswers.{early_refusal, question_said}
 
 -- a message to each of its receivers, if there is one
 abbrev pub posts_of_letters : Option Letters → List Post
 posts_of_letters None = []
-posts_of_letters (Some ls) = map (λ h. record { to = h.0; octets = ls.octets.items }) ls.receivers.items
+posts_of_letters (Some ls) =
+    map (λ h. record { to = h.0; octets = ls.octets.items }) ls.receivers.items
 
 -- the messages that are posted
 abbrev pub posts_in : posts.Posts → List Post
@@ -55,7 +59,8 @@ posts_in ps = posts_of_letters ps.first ++ posts_of_letters ps.second
 
 -- the lines of these octets to each of these houses, in an answer
 abbrev pub letters_text : (number : ℕ) → (octets : List ℕ) → List HouseNo → List ℕ
-letters_text number octets = flat_map (λ h. lines_text number (piece_lines h.0 (pieces_of 2000 octets)))
+letters_text number octets =
+    flat_map (λ h. lines_text number (piece_lines h.0 (pieces_of 2000 octets)))
 
 -- and in a record
 abbrev pub letters_kept : (octets : List ℕ) → List HouseNo → List ℕ
@@ -64,6 +69,16 @@ letters_kept octets = flat_map (λ h. post_line (codes "post ") h.0 octets ++ 10
 -- posted messages as octets
 abbrev pub posts_said : List Posted → List Post
 posts_said = map (λ p. record { to = p.to.0; octets = message_octets p.message })
+
+-- the octets of a posted message are the whole of it, if it is valid
+abbrev pub IsWholeIfValid : Posted → Type 0
+IsWholeIfValid p =
+    IsValidMessage p.message → IsWhole records.message p.message (message_octets p.message)
+
+-- posts are these messages as octets, and each is whole
+pub record ArePostsOf (posts : List Post) (ps : List Posted) : Type 0 where
+  pub octets : posts ≡ posts_said ps
+  pub whole : All IsWholeIfValid ps
 
 -- the epoch in which a directory is held, if it is
 abbrev pub epoch_of : Option DirState → Option EpochNo
@@ -95,87 +110,113 @@ taken_outcome t posts = if is_taken t then Posts posts (taken_line t) else Tells
 -- answer
 abbrev pub Says : (number : ℕ) → said.Said → Outcome → Type 0
 Says number (Told text) (Tells lines) = text.items ≡ lines_text number lines
-Says number (Turned ps octets) (Posts posts answer) = (posts_in ps ≡ posts) × (octets.items ≡ answer)
+Says number (Turned ps octets) (Posts posts answer) =
+    (posts_in ps ≡ posts) × (octets.items ≡ answer)
 Says number _ _ = ⊥
 
 -- a line comes to what is said
-pub record Comes (number : ℕ) (old new : Clearinghouse) (clock : ℕ) (line : HouseLine) (s : said.Said) : Type 0 where
+pub record Comes (number : ℕ) (old new : Clearinghouse) (clock : ℕ) (line : HouseLine)
+    (s : said.Said) : Type 0 where
   pub outcome : Outcome
   pub says : Says number s outcome
   pub comes : ComesTo old clock line outcome new
 
 -- a line is refused before the model is asked
-abbrev pub ComesUnless : Option (List ℕ) → (number : ℕ) → (old new : Clearinghouse) → (clock : ℕ) → HouseLine → said.Said → Type 0
-ComesUnless (Some refusal) number old new clock line s = Says number s (Tells (refusal ∷ [])) × (new ≡ old)
+abbrev pub ComesUnless : Option (List ℕ) → (number : ℕ) → (old new : Clearinghouse) → (clock : ℕ)
+    → HouseLine → said.Said → Type 0
+ComesUnless (Some refusal) number old new clock line s =
+    Says number s (Tells (refusal ∷ [])) × (new ≡ old)
 ComesUnless None number old new clock line s = Comes number old new clock line s
 
 -- what is said to a line at a clearinghouse, which is so before it and so after it
-abbrev pub Does : (number : ℕ) → (old new : Clearinghouse) → (clock : ℕ) → HouseLine → said.Said → Type 0
+abbrev pub Does : (number : ℕ) → (old new : Clearinghouse) → (clock : ℕ) → HouseLine → said.Said
+    → Type 0
 Does number old new clock line s = ComesUnless (early_refusal old line) number old new clock line s
 
--- the same of a question, or another line
-abbrev pub DoesOrTells : Option (List (List ℕ)) → (number : ℕ) → (old new : Clearinghouse) → (clock : ℕ) → HouseLine → said.Said → Type 0
+-- what is said to a question, or to another line
+abbrev pub DoesOrTells : Option (List (List ℕ)) → (number : ℕ) → (old new : Clearinghouse)
+    → (clock : ℕ) → HouseLine → said.Said → Type 0
 DoesOrTells (Some lines) number old new clock line s = Says number s (Tells lines) × (new ≡ old)
 DoesOrTells None number old new clock line s = Does number old new clock line s
 
--- what a message comes to: whichever house of the model the clearinghouse stands for, and whichever
+-- what a message comes to: whichever house of the model the clearinghouse is for, and whichever
 -- message, it is that house's step
-pub record TakesMessage (number : ℕ) (old new : Clearinghouse) (message : Message) (s : said.Said) : Type 0 where
+pub record TakesMessage (number : ℕ) (old new : Clearinghouse) (message : Message)
+    (s : said.Said) : Type 0 where
   pub outcome : Outcome
   pub says : Says number s outcome
-  pub step : (now : model.House) (m : model.Message) → StandsHouse old now → StandsMessage old.house.0 message m → CanTake now m
+  pub step : (now : model.House) (m : model.Message) → StandsHouse old now
+      → StandsMessage old.house.0 message m → CanTake now m
       → IsOutcome (take now m) outcome old new
+  pub stays : StaysAt outcome old new
   pub house : new.house ≡ old.house
   pub node : new.node ≡ old.node
   pub lawful : IsLawful old → IsLawful new
 
 -- what an update comes to that makes a child, and its directory
-pub record MakesChild (number : ℕ) (old new : Clearinghouse) (clock : ℕ) (dir : DirId) (change : Change) (child : DirId) (members : List Member)
+pub record MakesChild (number : ℕ) (old new : Clearinghouse) (clock : ℕ) (dir : DirId)
+    (change : Change) (child : DirId) (members : List Member)
     (s : said.Said) : Type 0 where
   pub outcome : Outcome
   pub says : Says number s outcome
   pub step : (now : model.House) → StandsHouse old now → now.clock ≡ clock
-      → IsOutcome (then_found old.house.0 child.0 members (accept old.house.0 now dir.0 change)) outcome old new
+      → IsOutcome (then_found old.house.0 child.0 members
+      (accept old.house.0 now dir.0 change)) outcome old new
+  pub stays : StaysAt outcome old new
   pub house : new.house ≡ old.house
   pub node : new.node ≡ old.node
   pub lawful : IsLawful old → IsLawful new
 
 -- what is said to a line that the clearinghouse is asked, if there is one, and the house after it
-abbrev pub AsksHome : Option Clearinghouse → (number : ℕ) → (old new : House) → HouseLine → said.Said → Type 0
+abbrev pub AsksHome : Option Clearinghouse → (number : ℕ) → (old new : House) → HouseLine
+    → said.Said → Type 0
 AsksHome None number old new says s = Says number s (Tells (refused why.NoHouse ∷ [])) × (new ≡ old)
 AsksHome (Some c) number old new says s =
-    (c' : Clearinghouse) × DoesOrTells (question_said c says) number c c' old.clock says s × (new ≡ record old { home = Some c' })
+    (c' : Clearinghouse) × DoesOrTells (question_said c says) number c c' old.clock says s
+    × (new ≡ record old { home = Some c' })
 
 -- what is said to a line where there is a clearinghouse, and the house after it
-abbrev pub DoesAt : (c : Clearinghouse) → (number : ℕ) → (old new : House) → HouseLine → said.Said → Type 0
-DoesAt c number old new (asks.House x node) s = Says number s (Tells (refused why.HouseExists ∷ [])) × (new ≡ old)
-DoesAt c number old new (asks.Clock time) s = Says number s (Tells (answer_line answer.Done ∷ [])) × (new ≡ record old { clock = time })
+abbrev pub DoesAt : (c : Clearinghouse) → (number : ℕ) → (old new : House) → HouseLine → said.Said
+    → Type 0
+DoesAt c number old new (asks.House x node) s =
+    Says number s (Tells (refused why.HouseExists ∷ [])) × (new ≡ old)
+DoesAt c number old new (asks.Clock time) s =
+    Says number s (Tells (answer_line answer.Done ∷ [])) × (new ≡ record old { clock = time })
 DoesAt c number old new says s =
-    (c' : Clearinghouse) × DoesOrTells (question_said c says) number c c' old.clock says s × (new ≡ record old { home = Some c' })
+    (c' : Clearinghouse) × DoesOrTells (question_said c says) number c c' old.clock says s
+    × (new ≡ record old { home = Some c' })
 
 -- where there is none
 abbrev pub DoesAnew : (number : ℕ) → (old new : House) → HouseLine → said.Said → Type 0
 DoesAnew number old new (asks.House x node) s =
-    Says number s (Posts [] (answer_line answer.Done)) × (new ≡ record old { home = Some (new_clearinghouse x node); node = node })
+    Says number s (Posts [] (answer_line answer.Done))
+    × (new ≡ record old { home = Some (new_clearinghouse x node); node = node })
 DoesAnew number old new says s = Says number s (Tells (refused why.NoHouse ∷ [])) × (new ≡ old)
 
 -- by what there is
-abbrev pub DoesBy : Option Clearinghouse → (number : ℕ) → (old new : House) → HouseLine → said.Said → Type 0
+abbrev pub DoesBy : Option Clearinghouse → (number : ℕ) → (old new : House) → HouseLine → said.Said
+    → Type 0
 DoesBy None number old new says s = DoesAnew number old new says s
 DoesBy (Some c) number old new says s = DoesAt c number old new says s
 
 -- ---- replies
 
 -- the reply that a turn gives, and the house after it, which did the turn already
-pub record TurnReply (h : House) (number : ℕ) (line : List ℕ) (posts : List Post) (answer : List ℕ) (reply : serving.Said) (h' : House) : Type 0 where
+pub record TurnReply (h : House) (number : ℕ) (line : List ℕ) (posts : List Post) (answer : List ℕ)
+    (reply : serving.Said) (h' : House) : Type 0 where
   pub text : reply.text ≡ lines_text number (turn_lines posts answer)
-  pub body : reply.body ≡ Some (body_at (record h { entry = h.entry + 1 }) (turn_text line posts answer))
+  pub octets : List ℕ
+  pub body : reply.body ≡ Some octets
+  pub record_is : IsRecord h' (turn_text line posts answer) octets
   pub after : h' ≡ record h { entry = h.entry + 1; last = turn_text line posts answer }
 
 -- the reply that what is said gives, and the house after it
-abbrev pub ReplyOf : House → (number : ℕ) → (line : List ℕ) → said.Said → serving.Said → House → Type 0
-ReplyOf h number line (Told text) reply h' = (reply ≡ record { text = text.items; body = None }) × (h' ≡ h)
-ReplyOf h number line (Turned ps octets) reply h' = TurnReply h number line (posts_in ps) octets.items reply h'
+abbrev pub ReplyOf : House → (number : ℕ) → (line : List ℕ) → said.Said → serving.Said → House
+    → Type 0
+ReplyOf h number line (Told text) reply h' =
+    (reply ≡ record { text = text.items; body = None }) × (h' ≡ h)
+ReplyOf h number line (Turned ps octets) reply h' =
+    TurnReply h number line (posts_in ps) octets.items reply h'
 
 -- ---- starts
 

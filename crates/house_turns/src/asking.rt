@@ -5,9 +5,9 @@ ghost use Rattle.cds_records.specs.RecordOctets.{image_octets};
 ghost use Rattle.clearinghouse.specs.HouseImages.{image_of};
 ghost use Rattle.house_directory.specs.DirectoryTakes.{held_in};
 ghost use Rattle.house_turns.specs.HouseReplies.{Tells};
-ghost use Rattle.house_turns.specs.LineAnswers.{dump_said, look_said, values_lines};
+ghost use Rattle.house_turns.specs.HouseAnswers.{dump_said, look_said, values_lines};
 ghost use Rattle.house_turns.specs.PrivateTurns.{Says};
-ghost use Rattle.house_turns.specs.Texts.{octets_lines};
+ghost use Rattle.house_turns.specs.PostTexts.{octets_lines};
 
 use crate::said::{Said, refused, told};
 use crate::texts::{push_all_octets, push_end, push_octets};

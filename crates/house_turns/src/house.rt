@@ -7,11 +7,12 @@ ghost use Rattle.house_serving.specs.Replies.{said_in};
 ghost use Rattle.house_turns.specs.HouseReplies as replies;
 ghost use Rattle.clearinghouse.specs.declared.house.Clearinghouse.{Clearinghouse};
 ghost use Rattle.house_lines.specs.declared.line.HouseLine.TheVariants as lines;
-ghost use Rattle.house_turns.specs.HouseReplies.{RepliesAt, RepliesMore, RepliesTake, RepliesTo, Responds, joined, turn_lines};
-ghost use Rattle.house_turns.specs.Openings.{body_at, image_in, new_house};
+ghost use Rattle.house_turns.specs.HouseReplies.{RepliesAt, RepliesMore, RepliesTake, RepliesTo, Responds, with_spaces, turn_lines};
+ghost use Rattle.house_turns.specs.Openings.{new_house};
+ghost use Rattle.house_turns.specs.Records.{HomeFits, IsRecord, image_in};
 ghost use Rattle.house_turns.specs.PrivateTurns.{AsksHome, DoesBy, DoesOrTells, ReplyOf, TurnReply, posts_in};
-ghost use Rattle.house_turns.specs.LineAnswers.{question_said};
-ghost use Rattle.house_turns.specs.Texts.{octets_line};
+ghost use Rattle.house_turns.specs.HouseAnswers.{question_said};
+ghost use Rattle.house_turns.specs.PostTexts.{octets_line};
 
 use crate::asking::{dump, image, look};
 use crate::founding::{mkdir, root};
@@ -46,7 +47,7 @@ pub struct House {
 
 // The words of a line, with one space between two.
 fn words_joined(alloc: Global, line: &[u8]) -> Result<Vec<u8>, AllocError>
-    ensures { IfOk result (λ v. v.items ≡ joined (words_of line.now)) }
+    ensures { IfOk result (λ v. v.items ≡ with_spaces (words_of line.now)) }
 {
     let mut text = Vec::new(alloc);
     let mut words = Words::of(line);
@@ -88,7 +89,7 @@ fn turn_text(
     Ok(text)
 }
 
-// What is told of a turn: what it posts, and its answer.
+// What is said of a turn: what it posts, and its answer.
 fn turn_told(
     alloc: Global,
     number: u32,
@@ -146,7 +147,8 @@ impl House {
 
     // The image of the house, if it was made.
     fn image(&self, alloc: Global) -> Result<Option<Vec<u8>>, AllocError>
-        ensures { IfOk result (λ o. option_map (λ v. v.items) o ≡ image_in self.now.home) }
+        ensures octets { IfOk result (λ o. option_map (λ v. v.items) o ≡ image_in self.now.home) }
+        ensures fits { OnOk result (HomeFits self.now.home) }
     {
         match &self.home {
             Some(home) => Ok(Some(home.image(alloc)?)),
@@ -156,7 +158,7 @@ impl House {
 
     /// The body of a record with this text, in the house as it is.
     pub(crate) fn body(&self, alloc: Global, text: &[u8]) -> Result<Vec<u8>, AllocError>
-        ensures { IfOk result (λ v. v.items ≡ body_at self.now text.now) }
+        ensures { IfOk result (λ v. IsRecord self.now text.now v.items) }
     {
         if text.len() > u32::MAX as usize {
             return Err(AllocError);

@@ -1,9 +1,11 @@
 //! One house of a clearinghouse program: a line to its turn, its answer and its record.
 #![tactic(auto)]
 
+mod again;
 mod asking;
 mod founding;
 mod house;
+pub mod laws;
 mod lists;
 mod octets;
 mod opening;

@@ -7,7 +7,7 @@ ghost use Rattle.cell_model.specs.Steps as model;
 ghost use Rattle.cell_model.specs.Steps.{sorted_houses};
 ghost use Rattle.cell_script.specs.Listings.{houses_in, secondaries_in};
 ghost use Rattle.house_directory.specs.HouseMessages.{numbers_of};
-ghost use Rattle.house_turns.specs.LineAnswers.{ascend_from, is_given};
+ghost use Rattle.house_turns.specs.HouseAnswers.{ascend_from, is_given};
 ghost use Rattle.house_turns.specs.LineSteps.{listed_houses};
 ghost use Rattle.house_turns.specs.LineSteps as steps;
 

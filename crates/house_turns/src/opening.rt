@@ -4,25 +4,30 @@ ghost use Rattle.script_answers.specs.Texts.{line_text, lines_text};
 ghost use Rattle.cell_runs.specs.Entries.{Post};
 ghost use Rattle.house_turns.specs.HouseReplies.{turn_text};
 ghost use Rattle.house_turns.specs.Openings as openings;
-ghost use Rattle.house_turns.specs.Openings.{GoesOn, HasNoEnd, after_start, body_at, first_lines, new_house, said_again, segment_text, start_text};
+ghost use Rattle.house_turns.specs.Openings.{GoesOn, HasNoEnd, after_start, first_lines, house_said, new_house, segment_text, start_text};
 ghost use Rattle.house_turns.specs.PrivateTurns.{StartsFrom};
+ghost use Rattle.house_turns.specs.Records.{IsRecord};
 
+use crate::again::{cut_at, push_again, push_said};
 use crate::house::House;
 use crate::octets::OctetBuffer;
 use cds_records::whole_image;
-use cds_stamps::AllocOr;
+use cds_stamps::{AllocOr, HouseNo, Node};
 use clearinghouse::Clearinghouse;
 use house_entries::{Body, read_body};
-use script_answers::{push_hex, push_number};
+use script_answers::{begin_line, push_hex, push_number};
 use std::alloc::{AllocError, Global};
 
 // The text of the last turn, out of a record's text; none, if that has no whole line.
 fn turn_in(text: &[u8]) -> Option<&[u8]>
     ensures { IfSome result (λ t. t.now ≡ openings.turn_in text.now) }
 {
-    let end = text.iter().position(|octet| *octet == b'\n')?;
+    if !text.contains(&b'\n') {
+        return None;
+    }
     if text.starts_with(b"start\n") || text.starts_with(b"segment ") {
-        Some(&text[end + 1..])
+        let (_, turn) = cut_at(text, b'\n');
+        Some(turn)
     } else {
         Some(text)
     }
@@ -89,7 +94,7 @@ impl House {
     /// The first record of a process. A start is an entry of its own, where there is a house.
     pub fn start(&mut self, alloc: Global) -> Result<Vec<u8>, AllocError>
         ensures body { IfOk result
-            (λ v. v.items ≡ body_at self.new (start_text self.old.home self.old.last)) }
+            (λ v. IsRecord self.new (start_text self.old.home self.old.last) v.items) }
         ensures after { OnOk result (self.new ≡ after_start self.old self.old.home) }
     {
         if self.home.is_none() {
@@ -103,7 +108,8 @@ impl House {
 
     /// The first record of the next segment of the same process.
     pub fn next_segment(&self, alloc: Global) -> Result<Vec<u8>, AllocError>
-        ensures { IfOk result (λ v. v.items ≡ body_at self.now (segment_text self.now self.now.home)) }
+        ensures { IfOk result
+            (λ v. IsRecord self.now (segment_text self.now self.now.home) v.items) }
     {
         if self.home.is_none() {
             return self.body(alloc, b"new\n");
@@ -122,98 +128,27 @@ impl House {
             → IfOk result (λ v. v.items
             ≡ lines_text 0 (first_lines self.now self.now.home line posts answer)) }
     {
+        let mut text = Vec::new(alloc);
         let Some(home) = &self.home else {
-            return Vec::from_slice(alloc, b"0 new\n");
+            push_said(&mut text, b"new")?;
+            return Ok(text);
         };
-        let mut text = Vec::from_slice(alloc, b"0 house ")?;
-        push_number(&mut text, u64::from(home.number().0))?;
-        text.push(b' ')?;
-        push_hex(&mut text, &self.node.number().to_be_bytes()[2..])?;
-        text.push(b'\n')?;
+        push_house(&mut text, home.number(), self.node)?;
         push_again(&mut text, self.last.list())?;
         Ok(text)
     }
 }
 
-// How many hexadecimal digits a piece has.
-const DIGITS: usize = 4000;
-
-// The line of a turn as it is said again: of `take` the word alone.
-fn push_line(text: &mut Vec<u8>, line: &[u8]) -> Result<(), AllocError>
-    ensures { OnOk result (text.new.items ≡ text.old.items
-        ++ line_text 0 (codes "last " ++ said_again line.now)) }
+// Adds the line that says who a house is.
+fn push_house(text: &mut Vec<u8>, house: HouseNo, node: Node) -> Result<(), AllocError>
+    ensures { OnOk result
+        (text.new.items ≡ text.old.items ++ line_text 0 (house_said house.0 node)) }
 {
-    text.extend_from_slice(b"0 last ")?;
-    if line.starts_with(b"take ") {
-        text.extend_from_slice(b"take")?;
-    } else {
-        text.extend_from_slice(line)?;
-    }
-    text.push(b'\n')?;
-    Ok(())
-}
-
-// A message that was posted, in pieces: the house that it goes to, and its digits.
-fn push_pieces(text: &mut Vec<u8>, to: &[u8], digits: &[u8]) -> Result<(), AllocError> {
-    let mut rest = digits;
-    'pieces: while rest.len() > DIGITS {
-        let (piece, behind) = rest.split_at(DIGITS);
-        push_piece(text, b"0 more ", to, piece)?;
-        rest = behind;
-    }
-    push_piece(text, b"0 post ", to, rest)
-}
-
-// A piece of a message.
-fn push_piece(text: &mut Vec<u8>, word: &[u8], to: &[u8], digits: &[u8]) -> Result<(), AllocError> {
-    text.extend_from_slice(word)?;
-    text.extend_from_slice(to)?;
+    begin_line(text, 0)?;
+    text.extend_from_slice(b"house ")?;
+    push_number(text, u64::from(house.0))?;
     text.push(b' ')?;
-    text.extend_from_slice(digits)?;
+    push_hex(text, &node.number().to_be_bytes()[2..])?;
     text.push(b'\n')?;
-    Ok(())
-}
-
-// Where the first space is, or the end.
-fn space_in(octets: &[u8]) -> usize {
-    octets
-        .iter()
-        .position(|octet| *octet == b' ')
-        .unwrap_or(octets.len())
-}
-
-// A line after the first one of a turn: a message, or the answer.
-fn push_later(text: &mut Vec<u8>, line: &[u8]) -> Result<(), AllocError> {
-    if line.starts_with(b"post ") {
-        let (_, rest) = line.split_at(5);
-        let (to, digits) = rest.split_at(space_in(rest));
-        return match digits.split_first() {
-            Some((_, digits)) => push_pieces(text, to, digits),
-            None => Ok(()),
-        };
-    }
-    text.extend_from_slice(b"0 ")?;
-    text.extend_from_slice(line)?;
-    text.push(b'\n')?;
-    Ok(())
-}
-
-// A turn as it is said again.
-fn push_again(text: &mut Vec<u8>, turn: &[u8]) -> Result<(), AllocError> {
-    let mut rest = turn;
-    let mut first = true;
-    'lines: while let Some(at) = rest.iter().position(|octet| *octet == b'\n') {
-        let (line, behind) = rest.split_at(at);
-        if first {
-            push_line(text, line)?;
-        } else {
-            push_later(text, line)?;
-        }
-        first = false;
-        match behind.split_first() {
-            Some((_, behind)) => rest = behind,
-            None => return Ok(()),
-        }
-    }
     Ok(())
 }

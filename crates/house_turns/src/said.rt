@@ -2,10 +2,10 @@
 ghost use Rattle.std.specs.Prelude.{◌≡◌, ◌∷◌, [], ℕ, None, IfOk};
 ghost use Rattle.script_answers.specs.Texts.{answer_line, answer_lines, answer_text, lines_text};
 ghost use Rattle.script_answers.specs.declared.answer.ScriptRefusal.TheVariants as why;
+ghost use Rattle.cell_runs.specs.LineAnswers as lines;
 ghost use Rattle.cell_runs.specs.LineAnswers.{update_refusal_of};
 ghost use Rattle.house_turns.specs.HouseReplies as replies;
-ghost use Rattle.house_turns.specs.LineAnswers as lines;
-ghost use Rattle.house_turns.specs.LineAnswers.{octets_refusal};
+ghost use Rattle.house_turns.specs.HouseAnswers.{octets_refusal};
 ghost use Rattle.house_turns.specs.PrivateTurns.{Says, posts_in, posts_of_letters};
 
 use cds_records::RecordFault;

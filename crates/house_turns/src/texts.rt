@@ -1,7 +1,7 @@
 // Texts of messages, and of octets in pieces.
 ghost use Rattle.std.specs.Prelude.{◌≡◌, ◌≤◌, ◌∷◌, [], ◌++◌, length, map, codes, OnOk};
 ghost use Rattle.script_answers.specs.Texts.{line_text, lines_text};
-ghost use Rattle.house_turns.specs.Texts.{end_line, octets_line, octets_lines, piece_lines, pieces_of, post_line};
+ghost use Rattle.house_turns.specs.PostTexts.{end_line, octets_line, octets_lines, piece_lines, pieces_of, post_line};
 
 use cds_stamps::HouseNo;
 use script_answers::{begin_line, push_hex, push_number};
@@ -39,7 +39,6 @@ pub(crate) fn push_end(text: &mut Vec<u8>, number: u32, count: usize) -> Result<
 }
 
 // Adds the line of the last piece of octets, if there is one.
-#[tactic(auto, using(crate::proofs::Pieces::pieces_last))]
 fn push_last_octets(text: &mut Vec<u8>, number: u32, octets: &[u8]) -> Result<(), AllocError>
     requires { length octets.now ≤ 2000 }
     ensures { OnOk result (text.new.items ≡ text.old.items

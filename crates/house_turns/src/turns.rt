@@ -3,7 +3,7 @@ ghost use Rattle.std.specs.Prelude.{◌≡◌, ℕ, IfOk, option_copied};
 ghost use Rattle.house_lines.specs.declared.line.HouseLine.TheVariants as line;
 ghost use Rattle.std.specs.FinMap as map;
 ghost use Rattle.clearinghouse.specs.HouseLetters.{posts_at};
-ghost use Rattle.house_turns.specs.PrivateTurns.{Does, epoch_of, epoch_refusal_of, posts_of_letters, posts_said};
+ghost use Rattle.house_turns.specs.PrivateTurns.{ArePostsOf, Does, epoch_of, epoch_refusal_of, posts_of_letters};
 
 use crate::lists::{given_members, house_list};
 use crate::said::{Posts, Said, not_above, refused, turned, update_refused};
@@ -21,8 +21,8 @@ pub(crate) fn letters(
     dir: DirId,
     outgoing: Option<&Outgoing>,
 ) -> Result<Option<Letters>, AllocError>
-    ensures { IfOk result (λ o. posts_of_letters o
-        ≡ posts_said (posts_at home.now dir (option_copied outgoing.entry))) }
+    ensures { IfOk result (λ o. ArePostsOf (posts_of_letters o)
+        (posts_at home.now dir (option_copied outgoing.entry))) }
 {
     match outgoing {
         Some(outgoing) => home.letters(alloc, dir, outgoing),

@@ -17,7 +17,7 @@ returns-in_default g c before bodies at =
 pub returns-in-Err : goal.returns-in-Err
 returns-in-Err g c before bodies at =
     line_kept_open g.R.Responder.responds g.D.Disk before bodies g.met.D.Disk.only_now c.args.number c.args.line.now c.args.house.now c.args.segment.now at
-    c.respond.new.self c.keep.new.segment _ c.in-Err.ending _ _ (c.in-Err.ensures before bodies at)
+    c.respond.new.self c.keep.new.segment (said_in c.in-Ok.reply) c.in-Err.ending _ _ c.in-Ok.ensures (c.in-Err.ensures before bodies at)
 
 pub returns-in-Ok-put_all : goal.returns-in-Ok-put_all
 returns-in-Ok-put_all g c before bodies at =

@@ -1,13 +1,11 @@
-use Rattle.std.proofs.Common.{◌≡◌, ◌∙◌, ◌∷◌, [], ap, refl, sym}
+use Rattle.std.proofs.Common.{◌∙◌, [], ap, refl, sym}
 use Rattle.std.specs.FinMap.{get}
 use Rattle.cds_stamps.specs.Members.{master_of, members_of}
 use Rattle.cell_model.proofs.Terms.{master_new}
 use Rattle.cell_script.specs.Listings.{secondaries_in}
-use Rattle.directory.specs.Updates.{change_of}
 use Rattle.script_answers.specs.declared.answer.ScriptRefusal.TheVariants as why
 use Rattle.clearinghouse.specs.declared.house.Clearinghouse.{Clearinghouse}
 use Rattle.house_directory.specs.HouseMessages.{numbers_of}
-use Rattle.house_lines.specs.declared.line.HouseLine.{HouseLine}
 use Rattle.house_lines.specs.declared.line.HouseLine.TheVariants as line
 use Rattle.cell_runs.specs.LineAnswers.{refused}
 use Rattle.house_turns.specs.LineSteps.{listed_houses}
@@ -22,7 +20,7 @@ returns-then-has c =
 
 pub returns-in_default : goal.returns-in_default
 returns-in_default c =
-    let bad = rw (c.in_default.is, c.number.ensures) at c.in_ok-first_members.ensures in
+    let bad = rw (c.in_default.is, c.number.ensures) at c.in_ok-members.ensures in
     refused_early c.refused-in_default.result c.args.number c.args.home.now c.args.home.now c.args.clock
     (line.Mkdir c.args.dir c.args.name c.args.child c.args.others.now) (refused why.BadMembers)
     (founding_bad c.args.home.now c.args.child c.args.others.now (sym c.has.ensures ∙ c.if-has.false) bad) refl c.refused-in_default.ensures
@@ -32,7 +30,7 @@ make_child-requires-clause-absent c = none_where (get c.args.home.now.dirs c.arg
 
 pub make_child-requires-clause-master : goal.make_child-requires-clause-master
 make_child-requires-clause-master c =
-    let good = rw (c.in-Some.is, c.number.ensures) at c.in_ok-first_members.ensures in
+    let good = rw (c.in-Some.is, c.number.ensures) at c.in_ok-members.ensures in
     ap master_of good.1
     ∙ master_new [] 1 c.args.home.now.house.0 (listed_houses c.args.others.now) (numbers_of (secondaries_in c.args.others.now))
 
@@ -40,8 +38,8 @@ pub returns : goal.returns
 returns c =
     let old : Clearinghouse = c.args.home.now in
     let new : Clearinghouse = c.make_child.new.home in
-    let good = rw (c.in-Some.is, c.number.ensures) at c.in_ok-first_members.ensures in
-    let fits = rw (c.in-Some-house_list.is, c.number-2.ensures, c.houses.ensures) at c.in_ok-house_list.ensures in
+    let good = rw (c.in-Some.is, c.number.ensures) at c.in_ok-members.ensures in
+    let fits = rw (c.in-Some-2.is, c.number-2.ensures, c.houses.ensures) at c.in_ok-houses.ensures in
     asked_model c.make_child.result c.args.number old new c.args.clock (line.Mkdir c.args.dir c.args.name c.args.child c.args.others.now)
     (founding_fine old c.args.child c.args.others.now (sym c.has.ensures ∙ c.if-has.false) good.0)
     (child_comes c.make_child.result c.args.number old new c.args.clock c.args.dir c.args.name c.args.child c.args.others.now _ (members_of c.in-Some.members)

@@ -1,4 +1,4 @@
-use Rattle.std.proofs.Common.{◌≡◌, ◌∙◌, [], Some, ap, refl, sym}
+use Rattle.std.proofs.Common.{◌∙◌, [], Some, ap, refl, sym}
 use Rattle.std.specs.FinMap.{get}
 use Rattle.cds_stamps.specs.Members.{master_of, members_of}
 use Rattle.cell_model.proofs.Terms.{master_new}
@@ -17,7 +17,7 @@ use Rattle.house_lines.specs.declared.line.HouseLine.{HouseLine}
 use Rattle.house_lines.specs.declared.line.HouseLine.TheVariants as line
 use Rattle.house_turns.specs.HouseReplies.{Posts}
 use Rattle.house_turns.specs.PrivateTurns.{posts_in}
-use Rattle.house_turns.proofs.Letters.{maybe_letters}
+use Rattle.house_turns.proofs.Letters.{maybe_letters, same_posts}
 use Rattle.house_turns.proofs.Comes.{asked_model, founding_bad, founding_fine, founding_held, none_where, refused_early, root_comes, said_comes}
 use Rattle.house_turns.proofs.founding.root.Goals as goal
 
@@ -31,7 +31,7 @@ returns-then-has c clock =
 
 pub returns-in_default : goal.returns-in_default
 returns-in_default c clock =
-    let bad = rw (c.in_default.is, c.number.ensures) at c.in_ok-first_members.ensures in
+    let bad = rw (c.in_default.is, c.number.ensures) at c.in_ok-members.ensures in
     refused_early c.refused-in_default.result c.args.number c.args.home.now c.args.home.now clock (line.Root c.args.others.now) (refused why.BadMembers)
     (founding_bad c.args.home.now root_id c.args.others.now (sym c.has.ensures ∙ c.if-has.false) bad) refl c.refused-in_default.ensures
 
@@ -40,7 +40,7 @@ found-requires-clause-absent c = none_where (get c.args.home.now.dirs root_id) (
 
 pub found-requires-clause-master : goal.found-requires-clause-master
 found-requires-clause-master c =
-    let good = rw (c.in-Some.is, c.number.ensures) at c.in_ok-first_members.ensures in
+    let good = rw (c.in-Some.is, c.number.ensures) at c.in_ok-members.ensures in
     ap master_of good.1
     ∙ master_new [] 1 c.args.home.now.house.0 (listed_houses c.args.others.now) (numbers_of (secondaries_in c.args.others.now))
 
@@ -49,11 +49,11 @@ returns c clock =
     let old : Clearinghouse = c.args.home.now in
     let new : Clearinghouse = c.found.new.self in
     let l : HouseLine = line.Root c.args.others.now in
-    let good = rw (c.in-Some.is, c.number.ensures) at c.in_ok-first_members.ensures in
+    let good = rw (c.in-Some.is, c.number.ensures) at c.in_ok-members.ensures in
     asked_model c.turned.result c.args.number old new clock l
     (founding_fine old root_id c.args.others.now (sym c.has.ensures ∙ c.if-has.false) good.0)
     (said_comes c.turned.result c.args.number old new clock l (Posts (posts_in c.one-posts.result) (answer_line answer.Done)) (c.turned.ensures c.args.number)
     (root_comes old new clock c.args.others.now (members_of c.in-Some.members) (posts_at new root_id (Some c.in_ok-outgoing.outgoing)) (posts_in c.one-posts.result)
     c.found.ensures.call.house c.found.ensures.call.node c.found.ensures.kept good.1
-    (c.one-posts.ensures ∙ maybe_letters _ (posts_at new root_id (Some c.in_ok-outgoing.outgoing)) c.in_ok-letters.ensures.posts)
+    (same_posts _ _ _ _ c.one-posts.ensures refl (maybe_letters _ (posts_at new root_id (Some c.in_ok-outgoing.outgoing)) c.in_ok-letters.ensures.posts))
     c.in_ok-outgoing.ensures.step))

@@ -3,8 +3,8 @@ use Rattle.std.specs.FinMap.{get}
 use Rattle.cds_records.specs.RecordOctets.{image_octets}
 use Rattle.clearinghouse.specs.HouseImages.{image_of}
 use Rattle.house_lines.specs.declared.line.HouseLine.TheVariants as line
-use Rattle.house_turns.specs.LineAnswers.{dump_said, look_said}
-use Rattle.house_turns.specs.Texts.{octets_lines}
+use Rattle.house_turns.specs.HouseAnswers.{dump_said, look_said}
+use Rattle.house_turns.specs.PostTexts.{octets_lines}
 use Rattle.house_turns.proofs.Replies.{nothing_comes, told_only}
 use Rattle.house_turns.proofs.house.come_to.Goals as goal
 
@@ -15,7 +15,7 @@ pub returns-in-Mkdir : goal.returns-in-Mkdir
 returns-in-Mkdir c = rw c.in-Mkdir.is c.mkdir.ensures
 
 pub returns-in-Repoint : goal.returns-in-Repoint
-returns-in-Repoint c = rw c.in-Repoint.is c.repoint.ensures
+returns-in-Repoint c = rw c.in-Repoint.is (rw c.list.ensures at c.repoint.ensures)
 
 pub returns-in-Update : goal.returns-in-Update
 returns-in-Update c = rw c.in-Update.is c.update.ensures
@@ -27,7 +27,7 @@ pub returns-in-Epoch : goal.returns-in-Epoch
 returns-in-Epoch c = rw c.in-Epoch.is (c.epoch.ensures c.args.clock)
 
 pub returns-in-Take : goal.returns-in-Take
-returns-in-Take c = rw c.in-Take.is (c.take.ensures c.args.clock)
+returns-in-Take c = rw c.in-Take.is (rw c.list-in-Take.ensures at c.take.ensures c.args.clock)
 
 pub returns-in-Dump : goal.returns-in-Dump
 returns-in-Dump c =
@@ -50,9 +50,9 @@ returns-in-House c =
 pub returns-in-Clock : goal.returns-in-Clock
 returns-in-Clock c =
     rw c.in-Clock.is
-    (nothing_comes c.told.result c.args.number c.args.home.now c.args.clock (line.Clock c.in-Clock.field-0) (λ x now m. refl) c.told.ensures)
+    (nothing_comes c.told-in-Clock.result c.args.number c.args.home.now c.args.clock (line.Clock c.in-Clock.field-0) (λ x now m. refl) c.told-in-Clock.ensures)
 
-pub returns-in-More : goal.returns-in-More
-returns-in-More c =
+pub returns : goal.returns
+returns c =
     rw c.in-More.is
-    (nothing_comes c.told.result c.args.number c.args.home.now c.args.clock (line.More c.in-More.field-0) (λ x now m. refl) c.told.ensures)
+    (nothing_comes c.told-in-More.result c.args.number c.args.home.now c.args.clock (line.More c.in-More.field-0) (λ x now m. refl) c.told-in-More.ensures)

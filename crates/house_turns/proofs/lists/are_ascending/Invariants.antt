@@ -1,6 +1,6 @@
 use Rattle.std.proofs.Common.{◌≡◌, drop}
 use Rattle.house_directory.specs.HouseMessages.{numbers_of}
-use Rattle.house_turns.specs.LineAnswers.{ascend_from}
+use Rattle.house_turns.specs.HouseAnswers.{ascend_from}
 use Rattle.house_turns.proofs.lists.are_ascending.Given as goal
 
 abbrev pub invariant-loop-house : goal.invariant-loop-house

@@ -1,5 +1,5 @@
 use Rattle.std.proofs.Common.{◌≡◌, List, true, false, refl}
-use Rattle.std.specs.Prelude.{Option, Some, None, Result, Ok, Err, is_none}
+use Rattle.std.specs.Prelude.{Option, Some, None, Ok, Err, is_none}
 use Rattle.cds_stamps.specs.declared.members.Member.{Member}
 use Rattle.cds_stamps.specs.declared.members.MembersFault.{MembersFault}
 use Rattle.cds_stamps.specs.Members.{members_fault, members_of}

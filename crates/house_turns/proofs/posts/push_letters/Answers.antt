@@ -8,6 +8,7 @@ use Rattle.house_turns.proofs.posts.push_letters.Goals as goal
 pub returns-in-Some : goal.returns-in-Some
 returns-in-Some c =
     let ls = c.in-Some.letters.now in
-    pushed_same c.push_each.result c.args.text.now.items c.push_each.new.text.items (letters_text c.args.number ls.octets.items ls.receivers.items)
+    rw c.in-Some.is
+    (pushed_same c.push_each.result c.args.text.now.items c.push_each.new.text.items (letters_text c.args.number ls.octets.items ls.receivers.items)
     (lines_text c.args.number (posts_lines (posts_of_letters (Some ls)))) (text_of_letters c.args.number ls.octets.items ls.receivers.items)
-    (rw (c.deref.ensures.value, c.deref-2.ensures.value) at c.push_each.ensures)
+    (rw (c.deref.ensures.value, c.deref-in-Some.ensures.value) at c.push_each.ensures))

@@ -6,7 +6,7 @@ use Rattle.record_fields.specs.Decoding.{Decodes, decode_by}
 use Rattle.record_fields.proofs.OneDecoding.{answers_decoding}
 use Rattle.house_lines.specs.declared.line.HouseLine.TheVariants as line
 use Rattle.cell_runs.specs.LineAnswers.{refused}
-use Rattle.house_turns.specs.LineAnswers.{octets_refusal}
+use Rattle.house_turns.specs.HouseAnswers.{octets_refusal}
 use Rattle.house_turns.proofs.Comes.{asked_model, refused_early, take_comes, take_fault, take_fine, take_trailing}
 use Rattle.house_turns.proofs.taking.take.Goals as goal
 
@@ -26,8 +26,8 @@ returns-then-used-octets c clock =
     (codes "refused Trailing " ++ decimal (c.in-Ok.used + 1))
     (take_trailing c.args.home.now c.args.octets.now c.in-Ok.message c.in-Ok.used said c.if-used-octets.true) refl c.trailing.ensures
 
-pub returns-in-Ok : goal.returns-in-Ok
-returns-in-Ok c clock =
+pub returns-else-used-octets : goal.returns-else-used-octets
+returns-else-used-octets c clock =
     let said : decode_by message c.args.octets.now ≡ Ok (c.in-Ok.message, c.in-Ok.used) = answers_decoding message c.args.octets.now
     (Ok (c.in-Ok.message, c.in-Ok.used)) c.in-Ok.ensures.decodes in
     asked_model c.take_message.result c.args.number c.args.home.now c.take_message.new.home clock (line.Take c.args.octets.now)

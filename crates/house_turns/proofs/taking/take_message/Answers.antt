@@ -1,10 +1,11 @@
-use Rattle.std.proofs.Common.{ap, ◌∙◌}
+use Rattle.std.proofs.Common.{ap}
 use Rattle.cell_model.specs.Turns.{take}
 use Rattle.clearinghouse.specs.declared.house.Clearinghouse.{Clearinghouse}
 use Rattle.clearinghouse.specs.HouseLetters.{posts_at}
 use Rattle.house_directory.specs.declared.taking.Taken.{Taken}
-use Rattle.house_turns.specs.PrivateTurns.{posts_in, posts_said}
-use Rattle.house_turns.proofs.Comes.{message_comes, taken_outcome_is}
+use Rattle.house_turns.specs.PrivateTurns.{posts_in}
+use Rattle.house_turns.proofs.Letters.{same_posts}
+use Rattle.house_turns.proofs.Comes.{message_comes, taken_outcome_is, taken_stays}
 use Rattle.house_turns.proofs.Outcomes.{take_fits}
 use Rattle.house_turns.proofs.taking.take_message.Goals as goal
 
@@ -17,5 +18,6 @@ returns c valid =
     message_comes c.taken_told.result c.args.number old new c.args.message.now t (posts_in c.one-posts.result) c.taken_told.ensures
     (λ now m stands letter can. taken_outcome_is t old new (posts_at new dir c.in_ok-answer.field-0.outgoing) (take now m) (posts_in c.one-posts.result) (take_fits now m)
     (c.in_ok-answer.ensures.step now m stands letter can)
-    (c.one-posts.ensures ∙ c.in_ok-letters.ensures ∙ ap (λ o. posts_said (posts_at new dir o)) c.as_ref.ensures.value))
+    (same_posts _ _ _ _ c.one-posts.ensures (ap (posts_at new dir) c.as_ref.ensures.value) c.in_ok-letters.ensures))
+    (taken_stays t (posts_in c.one-posts.result) old new c.in_ok-answer.field-0.outgoing c.in_ok-answer.ensures.same)
     c.take_message.ensures.call.house c.take_message.ensures.call.node (c.take_message.ensures.kept valid)

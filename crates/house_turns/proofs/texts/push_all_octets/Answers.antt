@@ -1,7 +1,6 @@
-use Rattle.std.proofs.Common.{◌≡◌, ◌∷◌, ◌++◌, [], ℕ, List, length, drop, sym, ◌∙◌, ap, arith}
+use Rattle.std.proofs.Common.{◌∷◌, ℕ, List, length, drop, sym, ◌∙◌, ap, arith}
 use Rattle.std.specs.Prelude.{codes, map}
-use Rattle.script_answers.specs.Texts.{lines_text}
-use Rattle.house_turns.specs.Texts.{end_line, octets_line, pieces_of}
+use Rattle.house_turns.specs.PostTexts.{end_line, octets_line, pieces_of}
 use Rattle.house_turns.proofs.Pieces.{pieces_next, written_last, written_more}
 use Rattle.house_turns.proofs.texts.push_all_octets.Goals as goal
 

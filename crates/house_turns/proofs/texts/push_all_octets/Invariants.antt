@@ -1,7 +1,7 @@
 use Rattle.std.proofs.Common.{◌≡◌, ◌++◌, length}
 use Rattle.std.specs.Prelude.{codes, map}
 use Rattle.script_answers.specs.Texts.{lines_text}
-use Rattle.house_turns.specs.Texts.{octets_line, pieces_of}
+use Rattle.house_turns.specs.PostTexts.{octets_line, pieces_of}
 use Rattle.house_turns.proofs.texts.push_all_octets.Given as goal
 
 abbrev pub invariant-pieces : goal.invariant-pieces

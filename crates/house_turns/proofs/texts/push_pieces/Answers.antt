@@ -1,7 +1,6 @@
-use Rattle.std.proofs.Common.{◌≡◌, ◌∷◌, ◌++◌, [], ℕ, List, drop, sym, ◌∙◌, ap, append-nil}
+use Rattle.std.proofs.Common.{◌∷◌, [], ℕ, List, drop, sym, ◌∙◌, ap, append-nil}
 use Rattle.std.specs.Prelude.{codes}
-use Rattle.script_answers.specs.Texts.{lines_text}
-use Rattle.house_turns.specs.Texts.{piece_lines, pieces_of, post_line}
+use Rattle.house_turns.specs.PostTexts.{piece_lines, pieces_of, post_line}
 use Rattle.house_turns.proofs.Pieces.{last_lines, more_lines, written_more}
 use Rattle.house_turns.proofs.texts.push_pieces.Goals as goal
 

@@ -1,6 +1,6 @@
 use Rattle.std.proofs.Common.{◌≡◌, ◌++◌, length}
 use Rattle.script_answers.specs.Texts.{lines_text}
-use Rattle.house_turns.specs.Texts.{piece_lines, pieces_of}
+use Rattle.house_turns.specs.PostTexts.{piece_lines, pieces_of}
 use Rattle.house_turns.proofs.texts.push_pieces.Given as goal
 
 abbrev pub invariant-pieces : goal.invariant-pieces

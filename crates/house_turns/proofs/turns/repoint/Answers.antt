@@ -7,7 +7,7 @@ use Rattle.house_turns.proofs.turns.repoint.Goals as goal
 
 pub returns-in-Some : goal.returns-in-Some
 returns-in-Some c =
-    let fits = rw c.in-Some.is at c.in_ok-house_list.ensures in
+    let fits = rw c.in-Some.is at c.in_ok-houses.ensures in
     asked_model c.update.result c.args.number c.args.home.now c.update.new.home c.args.clock (line.Repoint c.args.dir c.args.name c.args.master c.args.others.now)
     (repoint_fine c.args.home.now c.args.dir c.args.name c.args.master c.args.others.now fits.0)
     (repoint_comes c.update.result c.args.number c.args.home.now c.update.new.home c.args.clock c.args.dir c.args.name c.args.master c.args.others.now c.in-Some.houses fits.1
@@ -15,6 +15,6 @@ returns-in-Some c =
 
 pub returns-in-None : goal.returns-in-None
 returns-in-None c =
-    let bad = rw c.in-None.is at c.in_ok-house_list.ensures in
+    let bad = rw c.in-None.is at c.in_ok-houses.ensures in
     refused_early c.refused.result c.args.number c.args.home.now c.args.home.now c.args.clock (line.Repoint c.args.dir c.args.name c.args.master c.args.others.now)
     (refused why.BadMembers) (repoint_bad c.args.home.now c.args.dir c.args.name c.args.master c.args.others.now bad) refl c.refused.ensures

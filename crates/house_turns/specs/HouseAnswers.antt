@@ -1,6 +1,6 @@
 -- What a house answers to a line by what it holds: refusals that come before all others, and
 -- questions.
-use Rattle.std.specs.Prelude.{ℕ, ◌+◌, Bool, true, false, not, ◌&&◌, ◌==◌, nat_le, nat_lt, if◌then◌else◌, List, [], ◌∷◌, ◌++◌, length, map, Option, Some, None, Result, Ok, Err, codes, decimal, is_some, is_none}
+use Rattle.std.specs.Prelude.{ℕ, ◌+◌, Bool, true, not, ◌&&◌, ◌==◌, nat_le, nat_lt, if◌then◌else◌, List, [], ◌∷◌, ◌++◌, length, map, Option, Some, None, Result, Ok, Err, codes, decimal, is_some, is_none}
 use Rattle.std.specs.FinMap.{get}
 use Rattle.std.specs.List.{list_all}
 use Rattle.cds_stamps.specs.Members.{members_fault, members_of, master_of, is_listed}
@@ -28,7 +28,7 @@ use Rattle.house_lines.specs.declared.line.HouseLine.{HouseLine}
 use Rattle.house_lines.specs.declared.line.HouseLine.TheVariants as line
 use Rattle.cell_runs.specs.LineAnswers.{refused}
 use Rattle.house_turns.specs.LineSteps.{listed_houses}
-use Rattle.house_turns.specs.Texts.{end_line, octets_line, octets_lines}
+use Rattle.house_turns.specs.PostTexts.{end_line, octets_line, octets_lines}
 
 -- ---- refusals that come before those of the model
 
@@ -49,15 +49,19 @@ ascend_from least (h ∷ hs) = nat_le least h && ascend_from (h + 1) hs
 -- C705, new epochs)
 abbrev pub is_given : (x k : ℕ) → EpochList → Bool
 is_given x k list =
-    (is_none (members_fault (members_of list.members)) && ((master_of (members_of list.members) == x) && list_all (λ m. nat_le m.since k) (members_of list.members)))
-    && (ascend_from 0 (numbers_of list.leaving) && list_all (λ h. not (is_listed h (members_of list.members))) (numbers_of list.leaving))
+    (is_none (members_fault (members_of list.members))
+    && ((master_of (members_of list.members) == x)
+    && list_all (λ m. nat_le m.since k) (members_of list.members)))
+    && (ascend_from 0 (numbers_of list.leaving)
+    && list_all (λ h. not (is_listed h (members_of list.members))) (numbers_of list.leaving))
 
 -- why an epoch is not entered with this list, by what the house has of the directory
 abbrev pub epoch_refusal : (x k : ℕ) → EpochList → Option DirState → Option ScriptRefusal
 epoch_refusal x k list None = Some why.NoReplica
 epoch_refusal x k list (Some (state.Gone e)) = Some why.NoReplica
 epoch_refusal x k list (Some (state.Held h)) =
-    if not (is_given x k list) then Some why.BadMembers else (if nat_le k h.epoch.0 then Some (why.NotAbove h.epoch.0) else None)
+    if not (is_given x k list) then Some why.BadMembers
+    else (if nat_le k h.epoch.0 then Some (why.NotAbove h.epoch.0) else None)
 
 -- why octets are no message; the last two are faults of images
 abbrev pub octets_refusal : RecordFault → ScriptRefusal
@@ -74,7 +78,8 @@ octets_refusal (fault.Trailing place) = why.BadLength place
 -- why so many octets are not one message: they do not begin with one, or more follow
 abbrev pub take_refusal : (count : ℕ) → Result (Message × ℕ) RecordFault → Option (List ℕ)
 take_refusal count (Err f) = Some (refused (octets_refusal f))
-take_refusal count (Ok r) = if nat_lt r.1 count then Some (codes "refused Trailing " ++ decimal (r.1 + 1)) else None
+take_refusal count (Ok r) =
+    if nat_lt r.1 count then Some (codes "refused Trailing " ++ decimal (r.1 + 1)) else None
 
 -- a refusal, if there is one, as it is said
 abbrev pub maybe_refused : Option ScriptRefusal → Option (List ℕ)
@@ -85,8 +90,10 @@ maybe_refused (Some r) = Some (refused r)
 abbrev pub early_refusal : Clearinghouse → HouseLine → Option (List ℕ)
 early_refusal c (line.Root ls) = maybe_refused (founding_refusal c (record { 0 = root_dir }) ls)
 early_refusal c (line.Mkdir d n made ls) = maybe_refused (founding_refusal c made ls)
-early_refusal c (line.Repoint d n h rs) = maybe_refused (if is_bad_list (h.0 ∷ numbers_of rs) then Some why.BadMembers else None)
-early_refusal c (line.Epoch d k list) = maybe_refused (epoch_refusal c.house.0 k.0 list (get c.dirs d))
+early_refusal c (line.Repoint d n h rs) =
+    maybe_refused (if is_bad_list (h.0 ∷ numbers_of rs) then Some why.BadMembers else None)
+early_refusal c (line.Epoch d k list) =
+    maybe_refused (epoch_refusal c.house.0 k.0 list (get c.dirs d))
 early_refusal c (line.Take octets) = take_refusal (length octets) (decode_by records.message octets)
 early_refusal c other = None
 

@@ -1,0 +1,51 @@
+// What holds of the folders of houses that run: the contracts of functions that do nothing.
+ghost use Rattle.std.specs.Prelude.{◌+◌, ◌⊎◌, ℕ, List};
+ghost use Rattle.cds_base.specs.Lines.{lines_so_far};
+ghost use Rattle.cds_base.specs.declared.lines.Lines.{Lines};
+ghost use Rattle.house_journal.specs.Journals.{LeavesOnly};
+ghost use Rattle.house_segments.specs.Segments.{disk_of};
+ghost use Rattle.house_segments.specs.declared.segment.Segment.{Segment};
+ghost use Rattle.house_serving.specs.Serving.{Run, Served};
+ghost use Rattle.house_serving.specs.declared.ending.Ending.{Ending};
+ghost use Rattle.house_turns.specs.HouseReplies.{Responds};
+ghost use Rattle.house_turns.specs.declared.house.House.{House};
+ghost use Rattle.house_runs.specs.Folders.{FolderSegment, HasLines, IsFolder, folder_bodies};
+ghost use Rattle.house_runs.specs.Runs.{AreFolders, AreOfCell};
+ghost use Rattle.house_runs.specs.Tales.{TellHonestHouse, TellNoHouse};
+
+use cell_runs::runs_are_cells;
+use house_journal::Disk;
+
+/// A crash leaves a segment of a folder. Take a run of lines over a segment that has its first
+/// records: at any moment of the run, and after it, each crash leaves these, and then those of
+/// lines, one after the other, as the house replies to them.
+pub fn crashes_leave_lines<D: Disk>()
+    ensures any_moment { (before : List ℕ) (bodies : List (List ℕ)) (house house' : House)
+        (segment segment' : Segment D) (lines lines' : Lines) (run : Run) (ending : Ending)
+        → Served Responds D.Disk before bodies house house' segment segment' lines lines' run ending
+        → LeavesOnly D.Disk (disk_of segment) (disk_of segment')
+        (HasLines before bodies (lines_so_far lines + 1) house) }
+    ensures after { (before : List ℕ) (bodies : List (List ℕ)) (house house' : House)
+        (segment segment' : Segment D) (lines lines' : Lines) (run : Run) (ending : Ending)
+        → Served Responds D.Disk before bodies house house' segment segment' lines lines' run ending
+        → (octets : List ℕ) → D.Disk.may_leave (disk_of segment') octets
+        → HasLines before bodies (lines_so_far lines + 1) house octets }
+{}
+
+/// A house that runs does as the model does. Take a folder as the processes of a house leave it,
+/// with any crashes between: its records tell that the house was made, and its entries, which are
+/// those of an honest house; or that no house was made yet.
+pub fn running_houses_are_honest()
+    ensures { (segments : List FolderSegment) → IsFolder segments
+        → TellNoHouse (folder_bodies segments) ⊎ TellHonestHouse (folder_bodies segments) }
+{}
+
+/// Houses that run are a cell. Take the folders of any houses: their records tell entries. Take
+/// these in any order in which each message that was taken had been posted before, and the console
+/// numbered directories and epochs one after the other. Commands of the model do exactly that: each
+/// house sees its own entries, no command is refused, and the replicas converge.
+pub fn running_houses_are_cells()
+    ensures { (folders : List (List FolderSegment)) → AreFolders folders → AreOfCell folders }
+{
+    runs_are_cells();
+}
