@@ -1,0 +1,7 @@
+use Rattle.std.proofs.Common.{refl, arith, rules}
+use Rattle.house_logs.proofs.ReadingLemmas.{took_turn}
+use Rattle.house_logs.proofs.reader.LogReader.push_turn.Goals as goal
+
+pub returns-clause-read : goal.returns-clause-read
+returns-clause-read c bodies octets has is =
+    took_turn c.args.self.now.made c.args.self.now _ bodies octets c.args.image.now c.args.body.now.text.now c.args.body.now.number c.args.body.now.clock c.args.parts _ has ? ? ? ? refl refl ? ? ? is
