@@ -99,7 +99,9 @@ def test_cell_of_houses_that_die(room, kit):
 
 def test_cell_ends_with_an_interrupt(room, kit):
     command = [CELL, f"{room}/cell", "--program", kit.program]
-    cell = subprocess.Popen(command, stdin=subprocess.PIPE, stdout=subprocess.PIPE, text=True, bufsize=1)
+    # (a test that runs in the background of a shell ignores interrupts, and would hand that on)
+    heeds = lambda: signal.signal(signal.SIGINT, signal.SIG_DFL)  # noqa: E731
+    cell = subprocess.Popen(command, stdin=subprocess.PIPE, stdout=subprocess.PIPE, text=True, bufsize=1, preexec_fn=heeds)
     cell.stdin.write("house 1 00000000000a\nroot 1\ncreate 1 1 a\n")
     cell.stdin.flush()
     said = [cell.stdout.readline() for _ in range(4)]
