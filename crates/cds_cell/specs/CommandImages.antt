@@ -3,6 +3,7 @@
 use Rattle.std.specs.Prelude.{ℕ, ◌+◌, ◌-◌, if◌then◌else◌, List, [], ◌∷◌, ◌++◌, map, length, Option, Some, None}
 use Rattle.std.specs.List.{range_with_len}
 use Rattle.std.specs.Str.{bytes_eq}
+use Rattle.cds_stamps.specs.declared.numbers.HouseNo.{HouseNo}
 use Rattle.cds_records.specs.RecordOctets.{image_octets}
 use Rattle.cell_model.specs.Cells.{Cell, Message}
 use Rattle.cell_model.specs.Commands as command
@@ -34,6 +35,11 @@ actors g (command.Deliver n) = receivers_of (message_at g n)
 actors g (command.Lose n) = []
 actors g (command.Crash h) = []
 actors g (command.Start h) = []
+
+-- the number of a house, if there is one (own)
+abbrev pub one_or_none : Option HouseNo → List ℕ
+one_or_none None = []
+one_or_none (Some h) = h.0 ∷ []
 
 -- the image, as octets, that a command makes of a house, if it is another than before (own)
 abbrev pub image_after : Cell → (h : ℕ) → Command → Option (List ℕ)

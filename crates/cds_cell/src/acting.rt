@@ -19,7 +19,7 @@ ghost use Rattle.cds_cell.specs.ModelCells.{HasRoom, Stands};
 use crate::answers::{begun_in_script, epoch_refusal_in_script, refusal_in_script};
 use crate::cell::Cell;
 use crate::console::Listing;
-use crate::members::{leaving, listing};
+use crate::members::{leaving, member_list};
 use crate::step::Step;
 use cds_stamps::{DirId, EpochNo, HouseNo, Members, Stamp};
 use cell_script::Listeds;
@@ -203,7 +203,7 @@ impl Cell {
         };
         let before = &self.directories[place];
         let epoch = EpochNo(before.epoch.0 + 1);
-        let Some(members) = listing(alloc, before.members.list(), epoch, master, others)? else {
+        let Some(members) = member_list(alloc, before.members.list(), epoch, master, others)? else {
             return Ok(Answer::Refused(ScriptRefusal::BadMembers));
         };
         let left = leaving(alloc, before.members.list(), &members)?;

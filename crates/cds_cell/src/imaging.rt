@@ -19,7 +19,7 @@ ghost use Rattle.cds_cell.specs.ModelCells.{HasRoom, Stands, house_of};
 use crate::cell::Cell;
 use crate::house::CellHouse;
 use crate::making::child_of;
-use crate::members::listing;
+use crate::members::member_list;
 use crate::pointing::house_list;
 use crate::step::{Step, step_lent};
 use cds_stamps::{DirId, EpochNo, HouseNo, SimpleName};
@@ -145,7 +145,7 @@ impl Cell {
             → OnOk result
             (octets_in twin.new.state ≡ octets_at (effect g root).cell twin.old.house.0) }
     {
-        let Some(members) = listing(alloc, &[], EpochNo(1), master, others)? else {
+        let Some(members) = member_list(alloc, &[], EpochNo(1), master, others)? else {
             return Ok(());
         };
         twin.found(alloc, DirId::ROOT, &members)?;
@@ -173,7 +173,7 @@ impl Cell {
             (octets_in twin.new.state ≡ octets_at (effect g mkdir).cell twin.old.house.0) }
     {
         let child = self.next_directory();
-        let Some(members) = listing(alloc, &[], EpochNo(1), master, others)? else {
+        let Some(members) = member_list(alloc, &[], EpochNo(1), master, others)? else {
             return Ok(());
         };
         let Some(update) = child_of(alloc, name.copy(alloc)?, child, master, others.houses())?
@@ -287,7 +287,7 @@ impl Cell {
         };
         let before = &self.directories[place];
         let epoch = EpochNo(before.epoch.0 + 1);
-        let Some(members) = listing(alloc, before.members.list(), epoch, master, others)? else {
+        let Some(members) = member_list(alloc, before.members.list(), epoch, master, others)? else {
             return Ok(());
         };
         let _entered = twin.enter_epoch(alloc, dir, epoch, &members)?;

@@ -2,6 +2,7 @@
 #![tactic(auto)]
 
 mod acting;
+mod actors;
 mod answers;
 mod bag;
 mod cell;
@@ -22,5 +23,7 @@ mod updating;
 pub use answers::refusal_in_script;
 pub use cell::Cell;
 pub use house::HouseState;
+pub use members::{is_bad_list, member_list};
+pub use pointing::house_list;
 pub use reader::CellReader;
 pub use updating::AcceptedAll;

@@ -16,7 +16,7 @@ use crate::answers::refusal_in_script;
 use crate::cell::Cell;
 use crate::console::Listing;
 use crate::house::{CellHouse, HouseState};
-use crate::members::listing;
+use crate::members::member_list;
 use crate::pointing::house_list;
 use cds_stamps::{DirId, EpochNo, HouseNo, Members, Node, SimpleName};
 use cell_names::ChildPointer;
@@ -96,7 +96,7 @@ impl Cell {
             → let root = command.Root master.0 (numbers_of (houses_in others.now)) (numbers_of (secondaries_in others.now)) in
             first_refusal (refusals_of g root) ≡ None → ComesTo result self.new (effect g root) }
     {
-        let Some(members) = listing(alloc, &[], EpochNo(1), master, others)? else {
+        let Some(members) = member_list(alloc, &[], EpochNo(1), master, others)? else {
             return Ok(Answer::Refused(ScriptRefusal::BadMembers));
         };
         let mut serials = Serials::new(alloc);
@@ -171,7 +171,7 @@ impl Cell {
         let Some(at) = self.position(house) else {
             return Ok(Answer::Refused(ScriptRefusal::NoHouse));
         };
-        let Some(members) = listing(alloc, &[], EpochNo(1), master, others)? else {
+        let Some(members) = member_list(alloc, &[], EpochNo(1), master, others)? else {
             return Ok(Answer::Refused(ScriptRefusal::BadMembers));
         };
         let child = self.next_directory();

@@ -12,7 +12,7 @@ use cell_script::{Listed, Listeds};
 use std::alloc::{AllocError, Global};
 
 /// Whether a house is there twice, or there are more than 64. Takes no memory.
-pub(crate) fn is_bad_list(master: HouseNo, others: &[HouseNo]) -> bool
+pub fn is_bad_list(master: HouseNo, others: &[HouseNo]) -> bool
     ensures { result ≡ model.is_bad_list (master.0 ∷ numbers_of others.now) }
 {
     others.len() >= MOST_MEMBERS || others.contains(&master) || stands_twice(others)
@@ -33,9 +33,8 @@ fn stands_twice(houses: &[HouseNo]) -> bool
 }
 
 /// The members of an epoch with this master and these other houses; none, where a house is there
-/// twice or they are more than
-/// 64. Who was a member before keeps the epoch since which.
-pub(crate) fn listing(
+/// twice or they are more than 64. Who was a member before keeps the epoch since which.
+pub fn member_list(
     alloc: Global,
     before: &[Member],
     epoch: EpochNo,

@@ -9,7 +9,7 @@ use cell_names::HouseList;
 use std::alloc::{AllocError, Global};
 
 /// The houses of a directory; none, where one is there twice or they are more than 64.
-pub(crate) fn house_list(
+pub fn house_list(
     alloc: Global,
     master: HouseNo,
     others: &[HouseNo],

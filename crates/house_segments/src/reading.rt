@@ -34,9 +34,9 @@ fn sized_record(octets: &[u8]) -> Option<(&[u8], &[u8])>
     Some(rest.split_at(len as usize))
 }
 
-// The record at the front of octets and what follows it, if the gate there is open.
+/// The record at the front of octets and what follows it, if the gate there is open.
 #[tactic(auto, using(crate::proofs::ReadLemmas::other_none))]
-fn first_record(octets: &[u8]) -> Option<(&[u8], &[u8])>
+pub fn first_record(octets: &[u8]) -> Option<(&[u8], &[u8])>
     ensures some { IfSome result (λ r. images octets.now ≡ r.0.now ∷ images r.1.now) }
     ensures shorter { IfSome result (λ r. length r.1.now < length octets.now) }
     ensures none { IfNone result (images octets.now ≡ []) }

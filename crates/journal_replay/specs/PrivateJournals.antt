@@ -1,6 +1,5 @@
 -- Words of private contracts: the parts of the work on a line of the form `journal`.
 use Rattle.std.specs.Prelude.{◌≡◌, ℕ, ◌≤◌, Bool, true, false, if◌then◌else◌, List, [], ◌∷◌, Option, Some, None, Result, Ok, Err}
-use Rattle.cds_stamps.specs.declared.numbers.HouseNo.{HouseNo}
 use Rattle.house_journal.specs.MemoryDisks.{MemState}
 use Rattle.cell_model.specs.Cells.{Cell}
 use Rattle.cell_model.specs.Sets.{has}
@@ -20,11 +19,6 @@ use Rattle.cell_model.specs.Commands.{Command}
 use Rattle.journal_replay.specs.declared.keeper.Keeper.{Keeper}
 use Rattle.journal_replay.specs.declared.stopping.Stopping.{Stopping}
 use Rattle.journal_replay.specs.declared.stopping.Stopping.TheVariants as stop
-
--- the number of a house, if there is one
-abbrev pub acts : Option HouseNo → List ℕ
-acts None = []
-acts (Some h) = h.0 ∷ []
 
 -- puts were given up under way: memory ran out, or a journal has no room for one of them
 abbrev pub GivesUp : Unkept → List MemState → Lists → List Put → Type 0

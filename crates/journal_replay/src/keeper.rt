@@ -4,7 +4,7 @@ ghost use Rattle.std.specs.Option.{option_map};
 ghost use Rattle.cds_base.specs.declared.scan.TheConstants.{MOST_LINES};
 ghost use Rattle.cell_model.specs.Cells as model;
 ghost use Rattle.cell_model.specs.Sets.{has};
-ghost use Rattle.cds_cell.specs.CommandImages.{octets_at};
+ghost use Rattle.cds_cell.specs.CommandImages.{octets_at, one_or_none};
 ghost use Rattle.cds_cell.specs.ModelCells.{Stands};
 ghost use Rattle.script_answers.specs.declared.answer.Answer.TheVariants as answer;
 ghost use Rattle.cell_script.specs.declared.command.ScriptLine.TheVariants as script;
@@ -16,10 +16,10 @@ ghost use Rattle.journal_replay.specs.CellDisks.{AreKept, AreNew, AreUsable, Hol
 ghost use Rattle.journal_replay.specs.CellJournals.{JournaledCell, Lists, empty_state, lacks_room, puts_of};
 ghost use Rattle.journal_replay.specs.DiskCalls.{LineCalls, OpensJournal, PlainCalls};
 ghost use Rattle.journal_replay.specs.Keeping.{StandsKeeper};
-ghost use Rattle.journal_replay.specs.PrivateJournals.{Does, IsGiven, PutsAll, Replies, Tells, acts};
+ghost use Rattle.journal_replay.specs.PrivateJournals.{Does, IsGiven, PutsAll, Replies, Tells};
 ghost use Rattle.disk_journals.specs.declared.faults.Unkept.TheVariants as why;
 
-use crate::images::{actors_of, image_of};
+use crate::images::image_of;
 use cds_cell::laws::images_stay;
 use cds_stamps::HouseNo;
 use cell_script::{Command, Octets, Question, ScriptLine};
@@ -164,7 +164,7 @@ impl Keeper {
         ensures steps { self.new.replayer.steps ≤ self.old.replayer.steps + 1 }
     {
         images_stay();
-        let (first, second) = actors_of(self.replayer.cell(), &command);
+        let (first, second) = self.replayer.cell().actors(&command);
         let answer = self.replayer.step(alloc, command)?;
         self.keep_both(alloc, first, second)?;
         Ok(answer)
@@ -207,7 +207,7 @@ impl Keeper {
         ensures puts { (g : model.Cell) (lists : Lists) → Stands self.old.replayer.cell g
             → HoldAll self.old.disks.items lists
             → PutsAll result self.new.disks.items lists
-            (puts_of g (acts first ++ acts second) lists) }
+            (puts_of g (one_or_none first ++ one_or_none second) lists) }
     {
         self.keep_one(alloc, first)?;
         self.keep_one(alloc, second)
@@ -222,7 +222,7 @@ impl Keeper {
         ensures full { Tells result self.old.full self.new.full }
         ensures puts { (g : model.Cell) (lists : Lists) → Stands self.old.replayer.cell g
             → HoldAll self.old.disks.items lists
-            → PutsAll result self.new.disks.items lists (puts_of g (acts house) lists) }
+            → PutsAll result self.new.disks.items lists (puts_of g (one_or_none house) lists) }
     {
         let Some(house) = house else {
             return Ok(());
@@ -253,10 +253,11 @@ impl Keeper {
         ensures full { Tells result self.old.full self.new.full }
         ensures puts { (g : model.Cell) (lists : Lists) → octets_at g house.0 ≡ image.items
             → has house.0 g.made ≡ true → HoldAll self.old.disks.items lists
-            → PutsAll result self.new.disks.items lists (puts_of g (acts (Some house)) lists) }
+            → PutsAll result self.new.disks.items lists (puts_of g (one_or_none (Some house)) lists) }
         ensures lacking { (g : model.Cell) (lists : Lists) → octets_at g house.0 ≡ image.items
             → has house.0 g.made ≡ true → HoldAll self.old.disks.items lists
-            → lacks_room lists (puts_of g (acts (Some house)) lists) ≡ true → result ≡ Err why.Full }
+            → lacks_room lists (puts_of g (one_or_none (Some house)) lists) ≡ true
+            → result ≡ Err why.Full }
     {
         let put = keep(alloc, &mut self.houses[at], &mut self.disks[at], image);
         self.full = full_after(&put, self.full);

@@ -6,7 +6,6 @@ ghost use Rattle.cds_cell.specs.ModelCells.{Stands};
 ghost use Rattle.journal_replay.specs.Journaled.{is_only, lacks_message};
 ghost use Rattle.cds_cell.specs.CommandImages.{actors};
 
-use crate::images::actors_of;
 use cds_cell::Cell;
 use cds_stamps::HouseNo;
 use cell_script::Command;
@@ -27,7 +26,7 @@ pub(crate) fn acts_alone(cell: &Cell, house: HouseNo, command: &Command) -> bool
     ensures { (g : model.Cell) → Stands cell.now g
         → result ≡ is_only house.0 (actors g (step_of command.now)) }
 {
-    match actors_of(cell, command) {
+    match cell.actors(command) {
         (Some(actor), None) | (None, Some(actor)) => actor == house,
         (None, None) | (Some(_), Some(_)) => false,
     }

@@ -20,7 +20,7 @@ returns-clause-does c s stands =
     let g = s.cell in
     let next = (outcome g (step_of c.args.command)).cell in
     let here = subst (λ x. Stands x g) (sym c.cell.ensures) stands.cell in
-    let acting = c.actors_of-first.ensures g here in
+    let acting = c.actors-first.ensures g here in
     let done = c.in_ok-answer.ensures.step g stands.cell in
     let puts = c.in_ok-keep_both.ensures.puts next s.lists done.stands stands.disks in
     done_all c.in_ok-answer.answer c.keep_both.new.self s (said_of g (script.Cell c.args.command)) done.answer

@@ -3,7 +3,7 @@ use Rattle.cds_stamps.specs.Members.{members_of}
 use Rattle.cell_script.specs.Listings.{houses_in, secondaries_in}
 use Rattle.house_directory.specs.HouseMessages.{numbers_of}
 use Rattle.cds_cell.proofs.MemberLists.{ListsRest}
-use Rattle.cds_cell.proofs.members.listing.Given as goal
+use Rattle.cds_cell.proofs.members.member_list.Given as goal
 
 abbrev pub invariant-loop-house : goal.invariant-loop-house
 invariant-loop-house l =

@@ -5,7 +5,7 @@ use Rattle.cell_model.specs.Steps.{is_bad_list}
 use Rattle.cell_script.specs.Listings.{houses_in, secondaries_in}
 use Rattle.house_directory.specs.HouseMessages.{numbers_of}
 use Rattle.cds_cell.proofs.MemberLists.{good_listing, lists_end}
-use Rattle.cds_cell.proofs.members.listing.Goals as goal
+use Rattle.cds_cell.proofs.members.member_list.Goals as goal
 
 pub known-requires : goal.known-requires
 known-requires c =
