@@ -248,7 +248,8 @@ fn present<'a>(first: &'a FullName, later: &'a [FullName]) -> &'a FullName
 }
 
 // Whether a full name is this target with these components after it. If it is, they are no more
-// octets than a full name has. Most names differ in their number of components, or in the last one.
+// octets than a full name has. Most names differ in their number of components, or in their last
+// octet.
 fn is_spliced(name: &FullName, target: &FullName, rest: &[SimpleName]) -> bool
     ensures value { result ≡ is_name name.now (target.now ++ rest.now) }
     ensures short { result ≡ true → splice_fault (target.now ++ rest.now) ≡ None }
@@ -264,12 +265,13 @@ fn is_spliced(name: &FullName, target: &FullName, rest: &[SimpleName]) -> bool
     begins_so(all, front, rest)
 }
 
-// Whether names end as these and those after them do, if there are any of both.
+// Whether names end with the octet with which these and those after them do, if there are any of
+// both.
 fn ends_so(all: &[SimpleName], front: &[SimpleName], rest: &[SimpleName]) -> bool
     ensures { is_name all.now (front.now ++ rest.now) ≡ true → result ≡ true }
 {
     match (all.last(), last_of(front, rest)) {
-        (Some(own), Some(last)) => own == last,
+        (Some(own), Some(last)) => own.octets().last() == last.octets().last(),
         (_, _) => true,
     }
 }
