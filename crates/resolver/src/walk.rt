@@ -119,7 +119,7 @@ impl<'a> Walk<'a> {
                 self.done += 1;
                 Ok(None)
             }
-            Move::Follow(target) => self.begin_again(alloc, &target),
+            Move::Follow(target) => self.begin_again(alloc, target),
             Move::Stop(end) => Ok(Some(end)),
         }
     }
@@ -148,12 +148,12 @@ impl<'a> Walk<'a> {
 
     // Begins again at the root directory with the name to which the component at hand, a link,
     // leads; or ends, where the link is not followed.
-    fn begin_again(&mut self, alloc: Global, target: &FullName) -> Result<Option<End>, AllocError>
+    fn begin_again(&mut self, alloc: Global, target: FullName) -> Result<Option<End>, AllocError>
         requires few { self.old.done < 1024 }
         requires within { IsAtComponent self.old }
         ensures step { let w = walker_of self.old in IfOk result (λ end.
             (reader : Reader) → reader.root ≡ Some (pointer_in self.old.root)
-            → walks.follow reader w.links w.came_up (target.now ++ drop (w.done + 1) w.name)
+            → walks.follow reader w.links w.came_up (target ++ drop (w.done + 1) w.name)
             ≡ come_to end (walker_of self.new)) }
         ensures root { self.new.root ≡ self.old.root }
         ensures last { self.new.follow_last ≡ self.old.follow_last }
@@ -162,7 +162,7 @@ impl<'a> Walk<'a> {
         ensures stays { IfOk result (λ end. IfSome end (λ _. self.new ≡ self.old)) }
         ensures lacking { let w = walker_of self.old in OnErr result ((reader : Reader)
             → IsNoRefusal (walks.follow reader w.links w.came_up
-            (target.now ++ drop (w.done + 1) w.name))) }
+            (target ++ drop (w.done + 1) w.name))) }
     {
         match follow(alloc, self.first, &self.later, target, self.done) {
             Ok(next) => {
@@ -315,20 +315,39 @@ fn has_come_up(first: &FullName, later: &[FullName], target: &FullName, rest: &[
     false
 }
 
+// A target with these components after it. Without any it is the target, and no memory is asked
+// for.
+fn splice(
+    alloc: Global,
+    target: FullName,
+    rest: &[SimpleName],
+) -> Result<FullName, AllocOr<SpliceFault>>
+    ensures answer { let all = target ++ rest.now in
+        Answers result (ok_unless (splice_fault all) all) }
+    ensures faulty { IfSome (splice_fault (target ++ rest.now))
+        (λ fault. result ≡ Err (Fault fault)) }
+{
+    if rest.is_empty() {
+        Ok(target)
+    } else {
+        target.splice(alloc, rest)
+    }
+}
+
 // The full name that a link leads to, which is at this place of the last name that came up. No
 // memory is asked for where the link is not followed.
 fn follow(
     alloc: Global,
     first: &FullName,
     later: &[FullName],
-    target: &FullName,
+    target: FullName,
     at: usize,
 ) -> Result<FullName, AllocOr<Refusal>>
     requires { at < length (present_name first.now later.now) }
-    ensures answer { let next = target.now ++ drop (at + 1) (present_name first.now later.now) in
+    ensures answer { let next = target ++ drop (at + 1) (present_name first.now later.now) in
         let refusal = link_refusal (length later.now) (first.now ∷ later.now) next in
         Answers result (ok_unless refusal next) }
-    ensures faulty { let next = target.now ++ drop (at + 1) (present_name first.now later.now) in
+    ensures faulty { let next = target ++ drop (at + 1) (present_name first.now later.now) in
         let refusal = link_refusal (length later.now) (first.now ∷ later.now) next in
         IfSome refusal (λ why. result ≡ Err (Fault why)) }
 {
@@ -336,10 +355,10 @@ fn follow(
         return Err(AllocOr::Fault(Refusal::TooManyLinks));
     }
     let rest = &present(first, later).components()[at + 1..];
-    if has_come_up(first, later, target, rest) {
+    if has_come_up(first, later, &target, rest) {
         return Err(AllocOr::Fault(Refusal::LinkCycle));
     }
-    match target.splice(alloc, rest) {
+    match splice(alloc, target, rest) {
         Ok(next) => Ok(next),
         Err(AllocOr::Fault(SpliceFault::NameTooLong)) => {
             Err(AllocOr::Fault(Refusal::NameTooLong))

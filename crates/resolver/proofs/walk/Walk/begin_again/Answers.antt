@@ -8,7 +8,7 @@ returns-in_ok-push-in-Ok-clause-ahead c = omega (
   arith,
   c.requires.few,
   one_link_less (length c.deref.result.now) (c.args.self.now.first.now ∷ c.deref.result.now)
-      (c.args.target.now ++ drop (c.args.self.now.done + 1) (present_name c.args.self.now.first.now c.deref.result.now)) c.in-Ok.next c.in-Ok.ensures.answer,
+      (c.args.target ++ drop (c.args.self.now.done + 1) (present_name c.args.self.now.first.now c.deref.result.now)) c.in-Ok.next c.in-Ok.ensures.answer,
   ap length c.deref.ensures.value,
   ap length c.in_ok-push-in-Ok.ensures.items,
   length-append c.args.self.now.later.items (c.in-Ok.next ∷ []),
