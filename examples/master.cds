@@ -5,13 +5,13 @@ root 1 2
 deliver 1
 create 1 1 both
 deliver 2
-# House 2 becomes the master alone. House 1 is not told, and goes on accepting updates, which house 2 does not take any more.
+# House 2 becomes the master alone. House 1 does not hear of it, and goes on accepting updates, which house 2 does not take any more.
 epoch 1 2
 create 1 1 alone
 deliver 4
 read 1 high /.:/both A
 skulk 2 1
-# House 1 comes back as a read-only member, in a new term. Once it was told, what it accepted alone is gone, and it can be the
+# House 1 comes back as a read-only member, in a new term. Once it hears of it, what it accepted alone is gone, and it can be the
 # master again.
 epoch 1 2 1
 epoch 1 1 2

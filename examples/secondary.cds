@@ -1,4 +1,4 @@
-# Two houses that both accept updates: house 2 is a secondary member of the root directory, behind the s.
+# Two houses that both accept updates: house 2, with an `s` in front, is a secondary member of the root directory.
 house 1 00000000000a
 house 2 00000000000b
 root 1 s2

@@ -1,8 +1,5 @@
 """The console of a cell: it numbers directories and epochs, and knows the last list of members of each directory."""
 
-# The commands whose numbers it gives.
-NUMBERED = ("root", "mkdir", "epoch")
-
 
 def member_kind(word):
     """The house of a word as `2` or `s3`, and its kind."""

@@ -11,14 +11,10 @@ SIGNATURE = re.compile(rf"(?:(?:abbrev|unfoldable|opaque|pub|data|record)\s+)+({
 
 
 class Definition:
-    """A definition: its crate, its file, its name, and its lines, with the comment above it."""
+    """A definition: its crate, its file, its name, the number of its first line, and its lines, without comments."""
 
     def __init__(self, crate, file, name, number):
-        self.crate, self.file, self.name, self.number, self.comment, self.lines = crate, file, name, number, 0, []
-
-    def length(self):
-        """How many lines a reader has to read."""
-        return self.comment + len(self.lines)
+        self.crate, self.file, self.name, self.number, self.lines = crate, file, name, number, []
 
 
 class File:
@@ -26,39 +22,30 @@ class File:
 
     def __init__(self, crate, path):
         self.crate, self.name, self.definitions, self.known, self.aliases = crate, os.path.basename(path)[:-5], {}, {}, {}
-        self.about = ""
-        comment, last, in_module = 0, None, False
+        last, in_module = None, False
         for number, line in enumerate(sources.text_of(path).split("\n"), 1):
             # What a module of parameters has is two places to the right.
             if line.startswith("module ") or in_module and line[:1] not in ("", " "):
                 in_module = line.startswith("module ")
             elif in_module:
                 line = line[2:]
-            if line.startswith("--"):
-                comment, last = comment + 1, None
-                self.about = self.about or (line[3:] if number == 1 else "")
-            elif line.startswith("use "):
+            if line.startswith("use "):
                 self.take_import(line)
-                comment = 0
-            elif not line.strip():
-                comment, last = 0, None
-            elif line.startswith("module "):
-                comment, last = 0, None
+            elif not line.strip() or line.startswith(("--", "module ")):
+                last = None
+            elif line.lstrip().startswith("--"):
+                # (a comment inside a definition)
+                continue
             elif SIGNATURE.match(line) and "pub mod" not in line:
                 last = Definition(crate, self, SIGNATURE.match(line).group(1), number)
-                last.comment, comment = comment, 0
                 last.lines.append(line)
                 self.definitions[last.name] = last
             elif last:
                 last.lines.append(line)
-            else:
-                # Equations behind a comment or a blank line belong to the definition before.
-                found = list(self.definitions.values())
-                if found and not line.startswith("pub mod"):
-                    last = found[-1]
-                    last.lines.append(line)
-                    last.comment += comment
-                comment = 0
+            elif self.definitions and not line.startswith("pub mod"):
+                # Equations after a comment or a blank line belong to the definition before.
+                last = [*self.definitions.values()][-1]
+                last.lines.append(line)
         for it in list(self.definitions.values()):
             if re.search(r"\bdata\b", it.lines[0].split(":")[0]):
                 for constructor in re.findall(rf"(?m)^  (?:pub )?({WORD}) :", "\n".join(it.lines[1:])):

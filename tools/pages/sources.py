@@ -49,10 +49,6 @@ class Function:
         self.arity = len(parameters) - self.is_method
         self.types = {it.split(":")[0].removeprefix("mut ").strip(): set(re.findall(r"\b[A-Z]\w*", it)) for it in parameters if ":" in it}
 
-    def key(self):
-        """Crate, file and name, as docs/RULES.md has them."""
-        return self.crate, self.file, self.name
-
 
 def inside(text, at):
     """What stands between the bracket at a place and its partner."""

@@ -85,8 +85,6 @@ class Document:
         for begin, _, kind, text in self.blocks:
             if kind.split()[:1] == ["replay"]:
                 yield self.of_pairs(begin, kind.split()[1:], pairs_of(text))
-            elif text.startswith("$ ./cdsreplay run\n"):
-                yield self.of_session(begin, text.split("\n")[1:-1])
         for (begin, end, kind, script), (other, _, _, answers) in zip(self.blocks, self.blocks[1:]):
             if other == end + 1 and kind == "script":
                 yield Run(self.place(begin), ["run"], script.encode(), answers.encode(), status_of(answers.encode()))
@@ -103,13 +101,6 @@ class Document:
             return Excerpt(self.place(at), names[0], pairs)
         script, answers = "".join(f"{line}\n" for line, _ in pairs), "".join(answers for _, answers in pairs).encode()
         return Run(self.place(at), names[1:] or ["run"], script.encode(), answers, status_of(answers))
-
-    def of_session(self, at, lines):
-        """Returns what is typed at a terminal, with the answers among it."""
-        answers = [it for it in lines if re.match(r"\d+ ", it)]
-        script = "".join(f"{it}\n" for it in lines if it not in answers)
-        output = "".join(f"{it}\n" for it in answers).encode()
-        return Run(self.place(at), ["run"], script.encode(), output, status_of(output))
 
     def is_next(self, line, other):
         """Whether no table is between these lines."""

@@ -4,7 +4,7 @@ import random
 from collections import OrderedDict
 
 from running import records
-from running.lone_house import NODE, LoneHouse
+from running.lone_house import LoneHouse
 from running.runs import Limited, Run
 
 UUID = "a0000000-0000-0000-0000-000000000001"

@@ -3,7 +3,6 @@
 A fenced block whose first line begins with `$ ` is a session of a shell: after each command stands what it prints, and after `cat FILE`
 what is in the file. One whose first line begins with `1> ` is a session of the console.
 """
-import os
 import re
 import subprocess
 import sys
