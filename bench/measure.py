@@ -1,7 +1,7 @@
 #!/usr/bin/env python3
 """Measures programs over inputs of generate.py:
 
-    measure.py [--runs K] [--divide D] [--instructions E] [--kinds KIND,KIND] NAME=PROGRAM [NAME=PROGRAM ..]
+    measure.py [--runs K] [--divide D] [--instructions E | --growth] [--kinds KIND,KIND] NAME=PROGRAM [NAME=PROGRAM ..]
 
 Each PROGRAM is run as `PROGRAM FORM`, with the input on its standard input, K times (3); one run at a time. The form is
 `run`, or that of the kind, as `towers`; of `loads` it is `load N`, which reads nothing; of `mends` it is `1` for a program whose
@@ -12,6 +12,10 @@ it says so and ends with status 1. D divides the sizes of the inputs.
 
 With --instructions the instructions are counted too, by valgrind, which a busy machine does not change. That is slow, so the
 inputs are E times smaller for it (20, say). At the end a table has the ratios of the first program to the last.
+
+With --growth each kind is measured at an eighth, a quarter, a half and the whole of its size. A line of a table has the processor times and
+the peaks of memory of a program at these four sizes, and how many times as long the last one takes as the third: 2 where time grows as the
+input does, and 4 where it grows as its square.
 """
 
 import argparse
@@ -141,11 +145,37 @@ def count(kind, size, programs, folder):
     return counts
 
 
+def grow(kind, size, programs, runs, folder):
+    """Prints how each program's time and memory grow from an eighth of an input to all of it, and whether the runs ended well."""
+    sizes, well = [size // it for it in (8, 4, 2, 1)], True
+    found = {name: [] for name, _ in programs}
+    for it in sizes:
+        script, _ = generated(kind, it, folder)
+        for name, program in programs:
+            results = [run_once(program, form_of(kind, it, program), script, os.devnull) for _ in range(runs)]
+            found[name].append((min(result[1] for result in results), max(result[2] for result in results)))
+            well &= all(result[3] == 0 for result in results)
+    for name, points in found.items():
+        times, peaks = (f"{points[i][0]:.2f}" for i in range(4)), (f"{points[i][1] / 1000:,.1f}" for i in range(4))
+        ratio = points[3][0] / max(points[2][0], 0.001)
+        print(f"| `{kind}` | {name} | {size:,} | {', '.join(times)} | {', '.join(peaks)} | {ratio:.1f} |{'' if well else ' a run failed'}", flush=True)
+    return well
+
+
+def grow_all(kinds, divide, programs, runs):
+    """Prints the table of all kinds that have a size, and returns whether all runs ended well."""
+    print("| kind | program | N | seconds at N/8, N/4, N/2, N | MB | the last to the third |\n|---|---|---|---|---|---|")
+    sizes = {kind: SIZES[kind] // divide for kind in kinds}
+    with tempfile.TemporaryDirectory() as folder:
+        return all([grow(kind, size, programs, runs, folder) for kind, size in sizes.items() if size >= 8])
+
+
 def main():
     parser = argparse.ArgumentParser(description=__doc__, formatter_class=argparse.RawDescriptionHelpFormatter)
     parser.add_argument("--runs", type=int, default=3)
     parser.add_argument("--divide", type=int, default=1)
     parser.add_argument("--instructions", type=int, default=0)
+    parser.add_argument("--growth", action="store_true")
     parser.add_argument("--kinds", default=",".join(SIZES))
     parser.add_argument("programs", nargs="+", metavar="NAME=PROGRAM")
     args = parser.parse_args()
@@ -155,6 +185,8 @@ def main():
         if not mark:
             name, path = os.path.basename(word), word
         programs.append((name, os.path.abspath(path)))
+    if args.growth:
+        sys.exit(0 if grow_all(args.kinds.split(","), args.divide, programs, args.runs) else 1)
     print(f"{'input':<10}{'program':<12}{'items':>12}{'seconds':>10}{'items/second':>14}{'MB/s':>8}{'processor':>11}{'peak KiB':>11}")
     all_agreed, rows = True, []
     with tempfile.TemporaryDirectory() as folder:

@@ -16,7 +16,10 @@ const GATE: usize = 1;
 /// The octets in front of a record's text: its number, the clock, the mark of an image, and the length of the text.
 const FIELDS: usize = 21;
 
-type Sum = [u8; SUM];
+pub type Sum = [u8; SUM];
+
+/// The sum before the first record of all.
+pub const NO_SUM: Sum = [0; SUM];
 
 /// Why a record is not put.
 pub enum NotPut {
@@ -114,10 +117,10 @@ impl Segment {
     }
 }
 
-/// What a segment says: its last record and its last sum.
-pub struct Read {
-    pub last: Record,
-    sum: Sum,
+/// The sums before the records of a segment and of its last one.
+pub struct Sums {
+    pub before: Sum,
+    pub last: Sum,
 }
 
 /// The record after an open gate at this place.
@@ -147,20 +150,23 @@ fn was_counted(octets: &[u8], gate: usize, before: &Sum) -> bool {
     is_whole.is_some_and(|record| opened.get(1 + LENGTH + record.len()) == Some(&1))
 }
 
-/// What the octets of segment `number` say; nothing where they are no such segment, or damaged.
-fn read(octets: &[u8], number: u64) -> Option<Read> {
+/// Takes the records in the octets of segment `number`, one or more; nothing where they are no such segment, or damaged.
+pub fn read(octets: &[u8], number: u64, mut take: impl FnMut(Record)) -> Option<Sums> {
     let head = record_at(octets, 0)?;
     let (mut sum, size) = body_of(head, None)?;
     if head[..size - SUM] != *format!("cdshouse journal 1 {number}\n").as_bytes() {
         return None;
     }
-    let (mut gate, mut last) = (1 + LENGTH + head.len(), None);
+    let (before, begin) = (head[size - SUM..size].try_into().ok()?, 1 + LENGTH + head.len());
+    let mut gate = begin;
     while let Some(record) = record_at(octets, gate) {
         let (next, size) = body_of(record, Some(&sum))?;
-        (last, sum) = (Some(Record::read(&record[..size])?), next);
+        take(Record::read(&record[..size])?);
+        sum = next;
         gate += 1 + LENGTH + record.len();
     }
-    if was_counted(octets, gate, &sum) { None } else { Some(Read { last: last?, sum }) }
+    let is_whole = gate > begin && !was_counted(octets, gate, &sum);
+    if is_whole { Some(Sums { before, last: sum }) } else { None }
 }
 
 /// The folder of a house, which no other process has.
@@ -180,7 +186,7 @@ pub enum NotOpened {
 }
 
 /// The greatest number of a segment in a folder, 0 where there is none.
-fn greatest(path: &Path) -> io::Result<u64> {
+pub fn greatest(path: &Path) -> io::Result<u64> {
     let number = |name: &str| name.parse().ok().filter(|number: &u64| *number > 0 && number.to_string() == name);
     let mut most = 0;
     for entry in fs::read_dir(path)? {
@@ -197,7 +203,7 @@ impl Folder {
         let lock = lock.map_err(|_| NotOpened::Unreadable)?;
         lock.try_lock().map_err(|_| NotOpened::Held)?;
         let number = number.max(greatest(path).map_err(|_| NotOpened::Unreadable)?);
-        let mut folder = Folder { path: path.to_path_buf(), number, sum: [0; SUM], _lock: lock };
+        let mut folder = Folder { path: path.to_path_buf(), number, sum: NO_SUM, _lock: lock };
         if number == 0 {
             return Ok((folder, None));
         }
@@ -205,9 +211,9 @@ impl Folder {
         file.sync_all().map_err(|_| NotOpened::Failed)?;
         let mut octets = Vec::new();
         file.read_to_end(&mut octets).map_err(|_| NotOpened::Unreadable)?;
-        let read = read(&octets, number).ok_or(NotOpened::Unreadable)?;
-        folder.sum = read.sum;
-        Ok((folder, Some(read.last)))
+        let mut last = None;
+        folder.sum = read(&octets, number, |record| last = Some(record)).ok_or(NotOpened::Unreadable)?.last;
+        Ok((folder, last))
     }
 
     /// The next segment, which begins with this record, is there after any crash.

@@ -7,8 +7,8 @@ import shutil
 import time
 
 ROOT = os.path.dirname(os.path.dirname(os.path.dirname(os.path.realpath(__file__))))
-# Which are proved and built together: the replayers, and the house, which has crates that no replayer needs.
-GROUPS = (("cdsreplay", "cdsmend"), ("cdshouse",))
+# Which are proved and built together: the replayers, and the house, and what explains houses, which have crates that no replayer needs.
+GROUPS = (("cdsreplay", "cdsmend"), ("cdshouse",), ("cdsexplain",))
 PROGRAMS = tuple(name for group in GROUPS for name in group)
 # What the proof of a crate reads; what says which program it is and what is promised of it; and what rt runs a program on.
 PARTS = ("src", "specs", "proofs")

@@ -1,4 +1,4 @@
-"""Cases of the wrappers ./cdsreplay, ./cdsmend and ./cdshouse, for tools/cases: which words they know, what they say of how a program ends, which
+"""Cases of the wrappers ./cdsreplay, ./cdsmend, ./cdshouse and ./cdsexplain, for tools/cases: which words they know, what they say of how a program ends, which
 program they run, and what a signal does.
 
 They are tried on copies: beside a program that ends as the first word of its input says and writes the other words, and a `tools/build`
@@ -63,6 +63,9 @@ TABLE = (
     ("a house that ends otherwise", "echo 10 | ./cdshouse links", 10, "", ""),
     ("no folder", "./cdshouse 2>&1 | head -n 1", 0, "usage: ./cdshouse FOLDER       is the house that the folder keeps: lines in, answers out\n", ""),
     ("two folders", "./cdshouse links links 2>errors", 2, "", ""),
+    ("journals that are explained", "echo 0 house | ./cdsexplain links", 0, "house\n", ""),
+    ("an entry that is not explained", "echo 3 | ./cdsexplain links crates", 3, "", ""),
+    ("nothing to explain", "./cdsexplain 2>&1 | head -n 1", 0, "usage: ./cdsexplain FOLDER..     writes a script of `cdsreplay run` that explains the journals of these houses\n", ""),
     ("closed ends", "./cdsreplay run <&-", 1, "", "cdsreplay: standard input or standard output is closed\n"),
 )
 
@@ -212,7 +215,7 @@ def handed_over(room, _):
         os.makedirs(f"{other}/crates/{name}/out")
         for file in (f"crates/{name}/out/{name}", f"out/built-{name}"):
             shutil.copy(f"{one}/{file}", f"{other}/{file}")
-    for words in (["./cdsreplay", "run"], ["./cdsmend", "1"], ["./cdshouse", "crates"]) * 2:
+    for words in (["./cdsreplay", "run"], ["./cdsmend", "1"], ["./cdshouse", "crates"], ["./cdsexplain", "crates"]) * 2:
         ran = subprocess.run(words, cwd=other, input="0 1 ok\n", capture_output=True, text=True, env=without_rt(), timeout=SECONDS)
         if (ran.returncode, ran.stdout, ran.stderr) != (0, "1 ok\n", ""):
             return f"{words[0]} ends with {ran.returncode}, {ran.stdout!r} and {ran.stderr!r}"

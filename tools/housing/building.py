@@ -19,9 +19,11 @@ def compiled(source, target, *options, root=ROOT):
 
 
 class Programs:
-    """The house that is tried, the program that replays, and the disk between the house and its folder."""
+    """The house that is tried, the program that replays, the one that explains, if it is tried, too, and the disk between the house and its
+    folder."""
 
-    def __init__(self, house=None, plain=None):
+    def __init__(self, house=None, plain=None, explainer=None):
         self.house = os.path.abspath(house) if house else compiled("bench/house.rs", "out/plain-house")
+        self.explainer = explainer and os.path.abspath(explainer)
         self.plain = os.path.abspath(plain) if plain else compiled("bench/plain.rs", "out/plain")
         self.disk = compiled("tools/housing/disk.rs", "out/house-disk.so", "--crate-type", "cdylib")

@@ -230,6 +230,13 @@ class Explainer:
         return None
 
 
+def script_of(houses):
+    """The script that explains journals, {house: entries}, without the questions that compare it."""
+    explainer = Explainer(houses)
+    explainer.run()
+    return [line for line, _ in explainer.script if not line.startswith("octets ")]
+
+
 def with_asked(house, entries, asked):
     for entry in entries:
         yield entry

@@ -1,5 +1,6 @@
 """Reads the folder of a house (docs/HOUSE.md): its segments, their records, and whether each follows the one before."""
 import hashlib
+import itertools
 import os
 
 HEAD = b"cdshouse journal 1 %d\n"
@@ -104,6 +105,14 @@ class Segment:
         return body
 
 
+def chained(number, before, bodies):
+    """The octets of a segment with records of these bodies after a sum, record by record."""
+    for body in itertools.chain([HEAD % number + before], bodies):
+        before = hashlib.sha256(before + body).digest()
+        yield b"\1" + (len(body) + SUM).to_bytes(8, "big") + body + before
+    yield b"\0"
+
+
 def numbers(folder):
     """The numbers of the segments of a folder."""
     return sorted(int(name) for name in os.listdir(folder) if name.isdigit() and name[0] != "0")
@@ -141,7 +150,7 @@ def entries(folder):
             if found or (record.number, record.clock, record.image, record.lines) != (0, 0, None, ["new"]):
                 raise Damaged(f"{record.place}: no record of a new folder")
             continue
-        if not found and record.kind != "house":
+        if not found and (record.kind != "house" or record.clock):
             raise Damaged(f"{record.place}: does not begin with a house")
         if record.kind in ("start", "segment"):
             check_repeated(record, found[-1], turn)

@@ -3,6 +3,7 @@ import collections
 import os
 import random
 import shutil
+import subprocess
 import time
 
 import explaining
@@ -233,6 +234,8 @@ class Trial:
         explainer = explaining.Explainer(entries, self.asked)
         explainer.run()
         self.replay(explainer)
+        if self.programs.explainer:
+            self.compare_scripts(entries)
         self.count["messages"] += explainer.messages
         self.count["messages taken"] += explainer.taken
         self.count["questions and refusals"] += sum(map(len, self.asked.values()))
@@ -241,6 +244,16 @@ class Trial:
             explainer.run_in_any_order(self.random)
             self.replay(explainer)
             self.explain_beginnings(entries)
+
+    def compare_scripts(self, entries):
+        """`cdsexplain` writes the script that explains the journals."""
+        folders = [house.folder for house in self.houses.values()]
+        ran = subprocess.run([self.programs.explainer, *folders], capture_output=True, text=True, check=False)
+        due, lines = explaining.script_of(entries), ran.stdout.splitlines()
+        if ran.returncode or lines != due:
+            at = next((at for at, line in enumerate(due) if lines[at : at + 1] != [line]), len(due))
+            raise Difference(f"cdsexplain ends with {ran.returncode}; line {at + 1} of its script: {lines[at : at + 1]}, due is {due[at : at + 1]}")
+        self.count["lines of cdsexplain"] += len(lines)
 
     def explain_beginnings(self, entries):
         """The beginnings of all journals are explained, too, as far as no house took what only an entry left out posted."""

@@ -3,11 +3,11 @@ from . import sources
 
 # The bands, highest first.
 BANDS = {
-    "programs, laws, tests": ["cdsreplay", "cdsmend", "cdshouse", "cell_replay", "mend_program", "form_laws", "two_houses", "disk_tests", "service_tests", "house_tests", "line_tests", "net_tests", "run_tests"],
-    "forms": ["script_replay", "clerk_replay", "inquire_replay", "journal_replay", "mend_replay", "line_forms", "reply_buffer", "inquire_forms", "journal_forms", "ns_commands"],
+    "programs, laws, tests": ["cdsreplay", "cdsmend", "cdshouse", "cell_replay", "mend_program", "form_laws", "two_houses", "disk_tests", "service_tests", "house_tests", "line_tests", "net_tests", "run_tests", "cdsexplain"],
+    "forms": ["script_replay", "clerk_replay", "inquire_replay", "journal_replay", "mend_replay", "line_forms", "reply_buffer", "inquire_forms", "journal_forms", "ns_commands", "cds_explain"],
     "cells and houses": ["cds_cell", "clearinghouse", "house_directory", "cell_model", "mend_model", "cell_runs", "house_turns", "house_runs"],
     "names and servers": ["resolver", "clerk_cache", "ns_import", "ns_inquire", "ns_groups", "ns_profiles", "server_entries"],
-    "scripts": ["cell_script", "script_answers", "house_lines"],
+    "scripts": ["cell_script", "script_answers", "house_lines", "house_logs", "entry_lines"],
     "records and disks": ["cds_records", "cds_messages", "record_fields", "image_audit", "house_journal", "disk_journals", "file_disk", "house_segments", "house_entries", "house_serving"],
     "replicas": ["purge_rule", "skulk_core", "directory", "attr_sets"],
     "base": ["cds_stamps", "cell_names", "tower_codec", "compact_map", "cds_base"],

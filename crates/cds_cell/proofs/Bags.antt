@@ -2,10 +2,11 @@
 -- loss.
 use Rattle.std.proofs.Common.{◌≡◌, ◌≢◌, ℕ, zero, suc, ◌+◌, ◌-◌, ◌≤◌, ◌<◌, Bool, true, false, cond, List, [], ◌∷◌, ◌++◌, length, Option, Some, None}
 use Rattle.std.proofs.Common.{Result, Ok, Err, refl, sym, ap, subst, ◌∙◌, append_assoc, append-nil, arith, inl, inr}
-use Rattle.std.specs.Prelude.{◌==◌, ◌||◌, if◌then◌else◌, slice_get, IfSome, ◌⊎◌}
+use Rattle.std.specs.Prelude.{◌==◌, ◌||◌, if◌then◌else◌, slice_get, IfSome, ◌⊎◌, max, min}
 use Rattle.std.specs.Rc.{rc_slice_items}
 use Rattle.std.proofs.lemmas.List.{length-append}
 use Rattle.std.proofs.lemmas.Bool.{cases_lt}
+use Rattle.std.proofs.lemmas.Bool.Decides.{nat_tests}
 use Rattle.std.proofs.lemmas.Option.{slice_get_past}
 use Rattle.cds_stamps.specs.declared.alloc_or.AllocOr.{AllocOr}
 use Rattle.cds_stamps.specs.declared.alloc_or.AllocOr.TheVariants.{Fault}
@@ -39,6 +40,7 @@ use Rattle.cds_cell.specs.declared.bag.Letter.{Letter}
 use Rattle.cds_cell.specs.Bags.{MaybeStandsLetter, StandsBag, StandsLetter, letter_at}
 use Rattle.cds_cell.specs.PrivateActs.{Carries, Posts, SomeCarries, numbers_behind}
 use Rattle.cds_cell.specs.PrivateBags.{IsEmptyBag, PostsOne}
+use Rattle.cds_cell.specs.PrivateMarks.{TakesBack}
 
 -- ---- what is posted
 
@@ -153,7 +155,7 @@ in_second : {X : Type 0} (ps qs : List X) (i : ℕ) → slice_get (ps ++ qs) (le
 in_second [] qs i = let e : 0 + i ≡ i = omega arith in ap (slice_get qs) e
 in_second (p ∷ ps) qs i = let e : suc (length ps) + i ≡ suc (length ps + i) = omega arith in ap (slice_get (p ∷ (ps ++ qs))) e ∙ in_second ps qs i
 
-item_at : {X : Type 0} (xs : List X) (i : ℕ) → i < length xs → (x : X) × (slice_get xs i ≡ Some x)
+pub item_at : {X : Type 0} (xs : List X) (i : ℕ) → i < length xs → (x : X) × (slice_get xs i ≡ Some x)
 item_at [] i lt = absurd (omega arith)
 item_at (x ∷ xs) zero lt = (x, refl)
 item_at (x ∷ xs) (suc i) lt = item_at xs i (omega arith)
@@ -319,6 +321,21 @@ empty_bag b empty = record {
     none n true = tt
     none n false = tt
 
+-- the message of a number in a cell with more messages, told by those that were posted before
+message_read : (g h : model.Cell) (ms : List model.Message) → h.bag ≡ g.bag ++ ms → h.lost ≡ g.lost → (n : ℕ)
+    → message_at h n ≡ (if (n == 0) || has n g.lost then None else slice_get (g.bag ++ ms) (n - 1))
+message_read g h ms bag lost n =
+    ap (λ ls. if (n == 0) || has n ls then None else slice_get h.bag (n - 1)) lost
+    ∙ ap (λ xs. if (n == 0) || has n g.lost then None else slice_get xs (n - 1)) bag
+
+-- those that were posted before are the same
+earlier_message : (g h : model.Cell) (ms : List model.Message) → h.bag ≡ g.bag ++ ms → h.lost ≡ g.lost → (n : ℕ) → n ≤ length g.bag
+    → message_at h n ≡ message_at g n
+earlier_message g h ms bag lost zero le = message_read g h ms bag lost 0
+earlier_message g h ms bag lost (suc k) le =
+    message_read g h ms bag lost (suc k)
+    ∙ ap (λ o. if (suc k == 0) || has (suc k) g.lost then None else o) (in_both g.bag ms (suc k - 1) (omega arith))
+
 module _ (b c : Bag) (g h : model.Cell) (before after : List ℕ) (ps : List Posted) (ms : List model.Message) (stands : StandsBag b g)
     (posts : Posts b c before after ps) (each : StandEach ps ms) (bag : h.bag ≡ g.bag ++ ms) (lost : h.lost ≡ g.lost) where
   count : length h.bag ≡ length g.bag + length ms
@@ -326,15 +343,7 @@ module _ (b c : Bag) (g h : model.Cell) (before after : List ℕ) (ps : List Pos
 
   -- the message of a number, told by what was posted before
   read : (n : ℕ) → message_at h n ≡ (if (n == 0) || has n g.lost then None else slice_get (g.bag ++ ms) (n - 1))
-  read n =
-      ap (λ ls. if (n == 0) || has n ls then None else slice_get h.bag (n - 1)) lost
-      ∙ ap (λ xs. if (n == 0) || has n g.lost then None else slice_get xs (n - 1)) bag
-
-  -- those that were posted before are the same
-  before_same : (n : ℕ) → n ≤ length g.bag → message_at h n ≡ message_at g n
-  before_same zero le = read 0
-  before_same (suc k) le =
-      read (suc k) ∙ ap (λ o. if (suc k == 0) || has (suc k) g.lost then None else o) (in_both g.bag ms (suc k - 1) (omega arith))
+  read n = message_read g h ms bag lost n
 
   -- the next ones are those that were posted now
   now_posted : (i : ℕ) (n : ℕ) → n ≡ length g.bag + i + 1 → message_at h n ≡ slice_get ms i
@@ -369,7 +378,7 @@ module _ (b c : Bag) (g h : model.Cell) (before after : List ℕ) (ps : List Pos
   at n (inl lt) past =
       let x = stands.posted in
       subst (λ o. MaybeStandsLetter o (message_at h n)) (sym (posts.earlier n (omega arith)))
-      (subst (MaybeStandsLetter (letter_at b n)) (sym (before_same n (omega arith))) (stands.letters n))
+      (subst (MaybeStandsLetter (letter_at b n)) (sym (earlier_message g h ms bag lost n (omega arith))) (stands.letters n))
   at n (inr le) (inr within) = at_now n (omega arith) within
   at n (inr le) (inl past) =
       let x = stands.posted in
@@ -464,3 +473,78 @@ module _ (l : Letter) (m : model.Message) (r : Result (Message × ℕ) (AllocOr 
       absurd
       (let own : ◌≡◌ {A = Result (Message × ℕ) RecordFault} (Ok (stands.carried, length (rc_slice_items l.shared))) (Err f) =
       subst (λ x. Answers x (Ok (stands.carried, length (rc_slice_items l.shared)))) is answers in cc)
+
+-- ---- bags that are taken back
+
+-- the messages of numbers above `kept` are gone, up to number n
+pub record AreGone (old now : Bag) (kept n : ℕ) : Type 0 where
+  pub posted : now.posted ≡ old.posted
+  pub few : n ≤ max kept old.posted
+  pub first : (q : ℕ) → q ≤ kept → letter_at now q ≡ letter_at old q
+  pub gone : (q : ℕ) → kept < q → q ≤ n → letter_at now q ≡ None
+  pub others : (q : ℕ) → kept < q → n < q → letter_at now q ≡ letter_at old q
+
+pub none_gone : (b : Bag) (kept : ℕ) → AreGone b b kept kept
+none_gone b kept = record {
+  posted = refl;
+  few = omega arith;
+  first = λ q le. refl;
+  gone = λ q lt le. absurd (omega (arith, lt, le));
+  others = λ q lt past. refl;
+}
+
+-- one more
+pub gone_more : (old now next : Bag) (kept n : ℕ) → AreGone old now kept n → kept ≤ n → n < old.posted → next.posted ≡ now.posted
+    → ((q : ℕ) → letter_at next q ≡ (if q == n + 1 then None else letter_at now q)) → AreGone old next kept (n + 1)
+gone_more old now next kept n are low less posted letters = record {
+  posted = posted ∙ are.posted;
+  few = omega (arith, less);
+  first = λ q le. other q (λ same. absurd (omega (arith, le, low, same))) ∙ are.first q le;
+  gone = λ q lt le. by q lt le (q == n + 1) refl;
+  others = λ q lt past. other q (λ same. absurd (omega (arith, past, same))) ∙ are.others q lt (omega (arith, past));
+}
+  where
+    other : (q : ℕ) → q ≢ n + 1 → letter_at next q ≡ letter_at now q
+    other q apart = letters q ∙ ap (λ t. if t then None else letter_at now q) (other_place q (n + 1) apart)
+
+    by : (q : ℕ) → kept < q → q ≤ n + 1 → (t : Bool) → (q == n + 1) ≡ t → letter_at next q ≡ None
+    by q lt le true on = letters q ∙ ap (λ t. if t then None else letter_at now q) on
+    by q lt le false off =
+        let before : q ≤ n = grind (arith, nat_tests, off, le) in
+        letters q ∙ ap (λ t. if t then None else letter_at now q) off ∙ are.gone q lt before
+
+-- all of them
+pub all_gone : (old now new : Bag) (kept n : ℕ) → AreGone old now kept n → kept ≤ n → old.posted ≤ n → new.posted ≡ min kept now.posted
+    → ((q : ℕ) → letter_at new q ≡ letter_at now q) → TakesBack old new kept
+all_gone old now new kept n are low high posted same = record {
+  posted = posted ∙ ap (min kept) are.posted;
+  first = λ q le. same q ∙ are.first q le;
+  gone = λ q lt le. same q ∙ are.gone q lt (omega (arith, le, high));
+  others = λ q lt past. same q ∙ are.others q lt (let few = are.few in omega (arith, lt, past, few));
+}
+
+-- a bag that is taken back stands for the one before
+pub back_stands : (old new : Bag) (g o : model.Cell) (ms : List model.Message) (kept : ℕ) → kept ≡ length g.bag → TakesBack old new kept → StandsBag old o
+    → o.bag ≡ g.bag ++ ms → o.lost ≡ g.lost → ((n : ℕ) → length g.bag < n → has n g.lost ≡ false) → StandsBag new g
+back_stands old new g o ms kept is back s bag lost unlost = record {
+  posted =
+      let count : length o.bag ≡ length g.bag + length ms = ap length bag ∙ length-append g.bag ms in
+      let were = s.posted in
+      let are = back.posted in
+      omega (arith, count, were, are, is);
+  letters = λ n. by n (cases_lt (length g.bag) n);
+  lost = unlost;
+}
+  where
+    none : (n : ℕ) → length g.bag < n → (old.posted < n) ⊎ (n ≤ old.posted) → letter_at new n ≡ None
+    none n lt (inr le) = back.gone n (omega (arith, lt, is)) le
+    none n lt (inl past) =
+        back.others n (omega (arith, lt, is)) past ∙ no_letter old o n s (let were = s.posted in omega (arith, past, were))
+
+    by : (n : ℕ) → (length g.bag < n) ⊎ (n ≤ length g.bag) → MaybeStandsLetter (letter_at new n) (message_at g n)
+    by n (inr le) =
+        subst (λ l. MaybeStandsLetter l (message_at g n)) (sym (back.first n (omega (arith, le, is))))
+        (subst (MaybeStandsLetter (letter_at old n)) (earlier_message g o ms bag lost n le) (s.letters n))
+    by n (inl lt) =
+        subst (λ l. MaybeStandsLetter l (message_at g n)) (sym (none n lt (cases_lt old.posted n)))
+        (subst (MaybeStandsLetter None) (sym (none_behind g n lt)) tt)

@@ -12,10 +12,11 @@ pub mod Growth
 pub mod HouseActs
 pub mod HouseCalls
 pub mod Houses
-pub mod ImagesAfter
 pub mod ImagesStay
 pub mod KeptImages
 pub mod KeptNodes
+pub mod LoneSteps
+pub mod Listings
 pub mod Losses
 pub mod MadeHouses
 pub mod ManyUpdates
@@ -30,7 +31,7 @@ pub mod Refusals
 pub mod Serials
 pub mod Sorting
 pub mod Told
-pub mod Twins
+pub mod TakenBack
 pub mod UpdateSteps
 pub mod Vecs
 pub mod WalkSights

@@ -1,5 +1,5 @@
 -- Messages that are lost after the first ones, and the commands that lose them.
-use Rattle.std.proofs.Common.{◌≡◌, ◌≢◌, ℕ, ◌+◌, ◌-◌, ◌≤◌, ◌<◌, Bool, true, false, List, [], ◌∷◌, ◌++◌, map, length, refl, sym, ap, subst, ◌∙◌, arith}
+use Rattle.std.proofs.Common.{◌≡◌, ℕ, ◌+◌, ◌-◌, ◌≤◌, ◌<◌, Bool, true, false, List, [], ◌∷◌, ◌++◌, map, length, refl, sym, ap, subst, ◌∙◌, arith}
 use Rattle.std.specs.Prelude.{Option, Some, None, max, if◌then◌else◌, ◌==◌}
 use Rattle.std.specs.List.{range_with_len}
 use Rattle.std.proofs.lemmas.Bool.Decides.{nat_tests}
@@ -7,11 +7,9 @@ use Rattle.std.proofs.lemmas.List.FromFn.{map-range_with_len_more}
 use Rattle.cell_model.specs.Cells as model
 use Rattle.cell_model.specs.Commands as command
 use Rattle.cell_model.specs.Steps.{message_at, outcome, replay_from}
-use Rattle.cell_model.proofs.AtHouses.{Rest}
 use Rattle.cell_model.proofs.Runs.{replay-append}
 use Rattle.cell_model.proofs.Standing.{reached_lem}
 use Rattle.cds_cell.specs.declared.bag.Bag.{Bag}
-use Rattle.cds_cell.specs.declared.bag.Letter.{Letter}
 use Rattle.cds_cell.specs.declared.cell.Cell.{Cell}
 use Rattle.cds_cell.specs.Bags.{MaybeStandsLetter, StandsBag, letter_at}
 use Rattle.cds_cell.specs.CommandImages.{crash_losing, serials_after}

@@ -12,7 +12,7 @@ use Rattle.cell_model.specs.Cells as model
 use Rattle.cell_model.specs.Commands as command
 use Rattle.cell_model.specs.Holdings.{NumbersHold}
 use Rattle.cell_model.specs.Sets.{has}
-use Rattle.cell_model.specs.Steps.{at_house, effect, first_refusal, cell_with_directory, is_bad_list, is_down, is_missing, is_unknown, member_list_of, note_epoch, refusals_of, root, serials_of}
+use Rattle.cell_model.specs.Steps.{at_house, effect, first_refusal, cell_with_directory, is_down, is_missing, is_unknown, member_list_of, note_epoch, refusals_of, root, serials_of}
 use Rattle.cell_model.specs.Turns.{Turns, first_joins, found_directory}
 use Rattle.cell_model.proofs.Numbers.{numbers_lem}
 use Rattle.cell_model.proofs.Standing.{on_reached}
@@ -169,14 +169,6 @@ module _ (c : Cell) (g : model.Cell) (m : ℕ) (rs ss : List ℕ) (s : Stands c 
     up = up_where g m (passed (refusals_of g (command.Root m rs ss)) (is_down g m) command.Down (inr (inr (inr (inl refl)))) none);
     absent = ((on_reached NumbersHold numbers_lem g s.reached).nothing 1 no_root).absent m;
   }
-
-  -- its master can make it
-  pub root_can : CanFound g 1 m
-  root_can = can
-
-  -- its list is not a bad one
-  pub root_listed : is_bad_list (m ∷ rs) ≡ false
-  root_listed = passed (refusals_of g (command.Root m rs ss)) (is_bad_list (m ∷ rs)) command.BadMembers (inr (inr (inl refl))) none
 
   -- the root, whose master holds it
   pub root_comes : (e : Cell) (ms : List Member) (before after : List ℕ) → ms ≡ member_list_of [] 1 m rs ss → before ≡ []

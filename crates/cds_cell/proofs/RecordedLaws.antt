@@ -19,7 +19,6 @@ use Rattle.cds_stamps.specs.declared.numbers.HouseNo.{HouseNo}
 use Rattle.directory.specs.Histories.{Mark, entry_of}
 use Rattle.directory.specs.declared.entry.Fragment.{Fragment}
 use Rattle.purge_rule.specs.Replicas.{IsFragmentOf}
-use Rattle.purge_rule.specs.declared.replica.Replica.{Replica}
 use Rattle.record_fields.specs.Decoding.{Decodes, IsWhole, decode_by, with_memory}
 use Rattle.cds_messages.specs.Dirs.{dir_cmp, dir_exact, dir_total}
 use Rattle.cds_records.specs.RecordOctets.{image_octets, message_octets}
@@ -44,8 +43,13 @@ use Rattle.house_directory.specs.declared.states.DirState.{DirState}
 use Rattle.house_directory.specs.declared.states.DirState.TheVariants as state
 use Rattle.house_directory.specs.declared.states.Held.{Held}
 use Rattle.clearinghouse.proofs.Starting.{got_kept}
+use Rattle.std.proofs.Math.ListN.{get_or}
 use Rattle.cds_cell.specs.Bags.{MaybeStandsLetter, StandsLetter, letter_at}
 use Rattle.cds_cell.specs.CellHouses.{StandsState, StandsUp}
+use Rattle.cds_cell.specs.CommandImages.{octets_at}
+use Rattle.cds_cell.specs.Marks.{IsImageOf}
+use Rattle.cds_cell.specs.PrivateHouses.{octets_in}
+use Rattle.cds_cell.specs.PrivateSteps.{IsPlaceOf}
 use Rattle.cds_cell.specs.Recorded.{body_of, declared_members, first_dirs, image_at, kept_in, message_of, octets_of, update_body}
 use Rattle.cds_cell.specs.ModelCells.{MaybeStandsHouse, Stands, house_of}
 use Rattle.cds_cell.specs.declared.bag.Letter.{Letter}
@@ -53,7 +57,7 @@ use Rattle.cds_cell.specs.declared.cell.Cell.{Cell}
 use Rattle.cds_cell.specs.declared.house.CellHouse.{CellHouse}
 use Rattle.cds_cell.specs.declared.house.HouseState.{HouseState}
 use Rattle.cds_cell.specs.declared.house.HouseState.TheVariants as house_state
-use Rattle.cds_cell.proofs.Houses.{has_number}
+use Rattle.cds_cell.proofs.Houses.{has_number, house_there}
 
 -- ---- members
 
@@ -173,7 +177,7 @@ module _ (g : model.Cell) (numbers : NumbersHold g) (x : ℕ) where
 -- ---- cells
 
 -- the house that is found has its number
-found_number : (hs : List CellHouse) (x : ℕ) (h : CellHouse) → house_of hs x ≡ Some h → h.house.0 ≡ x
+pub found_number : (hs : List CellHouse) (x : ℕ) (h : CellHouse) → house_of hs x ≡ Some h → h.house.0 ≡ x
 found_number [] x h is = absurd (cc (is))
 found_number (k ∷ hs) x h is = by_test (k.house.0 == x) refl is (found_number hs x h)
   where
@@ -279,3 +283,24 @@ module _ (c : Cell) (g : model.Cell) (stands : Stands c g) where
   pub house_starts : (x : ℕ) (octets : List ℕ) → option_map (λ h. h.state) (house_of c.houses.items x) ≡ Some (house_state.Down octets)
       → (home : Clearinghouse) × (start_of_octets octets ≡ Ok home)
   house_starts x octets is = let house = house_recorded x (house_state.Down octets) is in (house.stands.1.0, house.stands.1.1.starts)
+
+-- ---- octets
+
+-- the octets of the image of what there is of a house are those of the model's house
+octets_stand : (g : model.Cell) (x : ℕ) (number : HouseNo) (s : HouseState) → NumbersHold g → number.0 ≡ x → StandsState number s (g.house x)
+    → octets_in s ≡ octets_at g x
+octets_stand g x number (house_state.Up c) numbers is stands = ap image_octets (image_recorded g numbers x number c is stands.1)
+octets_stand g x number (house_state.Down octets) numbers is stands = image_kept g numbers x number octets is stands
+
+-- so are those of the house at a place
+pub placed_octets : (c : Cell) (g : model.Cell) (x at : ℕ) (h : CellHouse) → Stands c g → IsPlaceOf c.houses.items x at → h ≡ get_or c.houses.items at h
+    → octets_in h.state ≡ octets_at g x
+placed_octets c g x at h s place here =
+    let there = house_there c.houses.items x at h place here in
+    octets_stand g x h.house h.state (numbers_stand c g s) there.1
+    (subst (λ o. MaybeStandsHouse o (g.house x)) there.0 (s.stands.houses x)).state
+
+-- so are octets that are an image
+pub image_octets_in : (octets : List ℕ) (s : HouseState) → IsImageOf octets s → octets ≡ octets_in s
+image_octets_in octets (house_state.Up c) image = image.0
+image_octets_in octets (house_state.Down kept) image = image

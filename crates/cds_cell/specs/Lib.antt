@@ -8,8 +8,10 @@ pub mod CommandImages
 pub mod PrivateActs
 pub mod PrivateBags
 pub mod PrivateHouses
+pub mod PrivateMarks
 pub mod PrivateSteps
 pub mod PrivateTelling
+pub mod Marks
 pub mod Readings
 pub mod Recorded
 pub mod Scripted

@@ -1,7 +1,6 @@
 -- Words of private functions alone: what a house of a cell does, and what is posted for it.
-use Rattle.std.specs.Prelude.{◌≡◌, ℕ, ◌+◌, ◌≤◌, ◌<◌, max, Bool, true, false, List, [], ◌∷◌, ◌++◌, length, Option, Some, None, slice_get, slice_set}
+use Rattle.std.specs.Prelude.{◌≡◌, ℕ, ◌+◌, ◌≤◌, ◌<◌, max, true, List, [], ◌∷◌, ◌++◌, length, Option, Some, None, slice_get, slice_set}
 use Rattle.std.specs.Rc.{rc_slice_items}
-use Rattle.cds_stamps.specs.declared.numbers.HouseNo.{HouseNo}
 use Rattle.cds_stamps.specs.Members.{Member, master_of}
 use Rattle.directory.specs.Updates.{Change}
 use Rattle.record_fields.specs.Decoding.{IsWhole}
@@ -20,7 +19,6 @@ use Rattle.cds_cell.specs.declared.bag.Bag.{Bag}
 use Rattle.cds_cell.specs.declared.bag.Letter.{Letter}
 use Rattle.cds_cell.specs.declared.cell.Cell.{Cell}
 use Rattle.cds_cell.specs.declared.house.CellHouse.{CellHouse}
-use Rattle.cds_cell.specs.Accepting.{IsStamped}
 use Rattle.cds_cell.specs.Bags.{letter_at}
 use Rattle.cds_cell.specs.CellHouses.{StandsAtHouse}
 use Rattle.cds_cell.specs.PrivateHouses.{Asks, IsSameHouse}
@@ -126,10 +124,3 @@ abbrev pub child_outcome : model.Cell → (h d : ℕ) → Change → (child : �
 child_outcome g h d u child ms =
     let o : Outcome = at_house g h (accept h (g.house h) d u) in
     with_directory o child (master_of ms) ms o.answer
-
--- a house of the cell, by itself, is as in this outcome of an update, which was accepted or not
-pub record IsAfter (h : CellHouse) (x : HouseNo) (o : Outcome) (accepted : Bool) : Type 0 where
-  pub house : h.house ≡ x
-  pub stands : StandsAtHouse h (o.cell.house x.0)
-  pub stamped : accepted ≡ true → IsStamped o.answer
-  pub refused : accepted ≡ false → IsStamped o.answer → ⊥

@@ -6,6 +6,7 @@ ghost use Rattle.clearinghouse.specs.HouseLetters.{AreLetters};
 ghost use Rattle.cds_cell.specs.Bags.{letter_at};
 ghost use Rattle.cds_cell.specs.PrivateActs.{Posts};
 ghost use Rattle.cds_cell.specs.PrivateBags.{IsEmptyBag, PostsOne};
+ghost use Rattle.cds_cell.specs.PrivateMarks.{TakesBack};
 
 use cds_stamps::HouseNo;
 use clearinghouse::Letters;
@@ -101,5 +102,15 @@ impl Bag {
             ≡ (if n == serial then None else letter_at self.old n) }
     {
         self.letters.swap_remove(&serial);
+    }
+
+    /// All messages but the first ones, so many, were never posted.
+    pub(crate) fn take_back(&mut self, kept: u64)
+        ensures { TakesBack self.old self.new kept }
+    {
+        'messages: for lost in kept..self.posted {
+            self.lose(lost + 1);
+        }
+        self.posted = kept.min(self.posted);
     }
 }

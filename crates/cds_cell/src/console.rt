@@ -4,6 +4,7 @@ ghost use Rattle.cds_stamps.specs.Members.{members_of};
 ghost use Rattle.cell_model.specs.Cells as model;
 ghost use Rattle.cds_cell.specs.ConsoleLists.{IsListed};
 ghost use Rattle.cds_cell.specs.ModelCells.{Stands};
+ghost use Rattle.cds_cell.specs.PrivateMarks.{listed_again, relisted};
 
 use crate::cell::Cell;
 use cds_stamps::{DirId, EpochNo, Members};
@@ -13,6 +14,33 @@ use cds_stamps::{DirId, EpochNo, Members};
 pub(crate) struct Listing {
     pub(crate) epoch: EpochNo,
     pub(crate) members: Members,
+}
+
+/// The console lists so many directories as at first, and that of a place as it did before an
+/// epoch.
+pub(crate) fn list_again(
+    directories: &mut Vec<Listing>,
+    count: usize,
+    replaced: Option<(usize, Listing)>,
+)
+    ensures { directories.new.items ≡ listed_again count replaced directories.old.items }
+{
+    directories.truncate(count);
+    if let Some((place, listing)) = replaced {
+        relist(directories, place, listing);
+    }
+}
+
+// The listing of a place is this one again, if it is of an earlier epoch.
+fn relist(directories: &mut Vec<Listing>, place: usize, listing: Listing)
+    ensures { directories.new.items ≡ relisted place listing directories.old.items }
+{
+    let Some(now) = directories.get(place) else {
+        return;
+    };
+    if listing.epoch.0 < now.epoch.0 {
+        directories[place] = listing;
+    }
 }
 
 impl Cell {

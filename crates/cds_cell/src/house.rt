@@ -14,6 +14,7 @@ ghost use Rattle.clearinghouse.specs.HouseImages.{start_of_octets};
 ghost use Rattle.clearinghouse.specs.HouseLetters.{AreLetters};
 ghost use Rattle.house_directory.specs.DirectorySteps.{IsStampAnswer, IsBegunAnswer, IsEpochAnswer, IsTakeAnswer, UnlessTaken};
 ghost use Rattle.cds_cell.specs.CellHouses.{StandsAtHouse};
+ghost use Rattle.cds_cell.specs.Marks.{IsImageOf};
 ghost use Rattle.cds_cell.specs.PrivateHouses.{Asks, IsNewEpoch, IsSameHouse, IsTurnAt, epoch_posted_by, leaves_by, octets_in, posted_at};
 
 use cds_messages::Message;
@@ -256,41 +257,16 @@ impl CellHouse {
         }
         Ok(())
     }
-
-    /// This house once more.
-    pub fn copy(&self, alloc: Global) -> Result<CellHouse, AllocError>
-        ensures { IfOk result (λ h. h ≡ self.now) }
-    {
-        Ok(CellHouse {
-            house: self.house,
-            node: self.node,
-            clock: self.clock,
-            state: self.state.copy(alloc)?,
-        })
-    }
-
-    /// The octets of its image, up or down.
-    pub fn image(&self, alloc: Global) -> Result<Vec<u8>, AllocError>
-        ensures { IfOk result (λ v. v.items ≡ octets_in self.now.state) }
-    {
-        match &self.state {
-            HouseState::Up(home) => home.image(alloc),
-            HouseState::Down(octets) => Vec::from_slice(alloc, octets.list()),
-        }
-    }
 }
 
 impl HouseState {
-    /// A copy of it.
-    fn copy(&self, alloc: Global) -> Result<HouseState, AllocError>
-        ensures { IfOk result (λ s. s ≡ self.now) }
+    /// The octets of its image, up or down.
+    pub(crate) fn image(&self, alloc: Global) -> Result<Vec<u8>, AllocError>
+        ensures { IfOk result (λ v. IsImageOf v.items self.now) }
     {
         match self {
-            HouseState::Up(home) => Ok(HouseState::Up(home.copy(alloc)?)),
-            HouseState::Down(octets) => {
-                let octets = Vec::from_slice(alloc, octets.list())?;
-                Ok(HouseState::Down(Octets::of(octets)))
-            }
+            HouseState::Up(home) => home.image(alloc),
+            HouseState::Down(octets) => Vec::from_slice(alloc, octets.list()),
         }
     }
 }

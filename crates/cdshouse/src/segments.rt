@@ -3,13 +3,12 @@ ghost use Rattle.std.specs.Prelude.{◌≡◌, ◌+◌, ℕ, List, [], ◌∷◌
 ghost use Rattle.std.specs.Io.KnownBytes.{Appends};
 ghost use Rattle.cds_base.specs.Lines.{fault_of_lines};
 ghost use Rattle.script_answers.specs.Texts.{lines_text};
-ghost use Rattle.cell_runs.specs.Entries.{Post};
 ghost use Rattle.house_journal.specs.Disks.{Only};
 ghost use Rattle.house_segments.specs.Chains.{last_digest};
 ghost use Rattle.house_segments.specs.Segments.{IsAt};
 ghost use Rattle.house_serving.specs.Serving.{Served, run_of};
-ghost use Rattle.house_turns.specs.HouseReplies.{Responds, turn_text};
-ghost use Rattle.house_turns.specs.Openings.{GoesOn, HasNoEnd, first_lines, new_house};
+ghost use Rattle.house_turns.specs.HouseReplies.{Responds};
+ghost use Rattle.house_turns.specs.Openings.{GoesOn, HasTurn, first_lines, new_house};
 ghost use Rattle.house_serving.specs.declared.ending.Ending.TheVariants.{Grown};
 ghost use Rattle.cdshouse.specs.Folders.{IsDigestOf, IsLastSegment, first_bodies};
 
@@ -130,10 +129,9 @@ fn begin<D: Disk + Drop>(alloc: Global, disk: D, next: &Next) -> Result<Segment<
 
 // What the house says first.
 fn say_first<K: Sink>(alloc: Global, house: &House, sink: &mut K) -> Result<(), Status>
-    ensures { (line : List ℕ) (posts : List Post) (answer : List ℕ)
-        → house.now.last ≡ turn_text line posts answer → HasNoEnd line → HasNoEnd answer
+    ensures { (turn : HasTurn house.now.home house.now.last)
         → OnOk result (Appends (K.written sink.old) (K.written sink.new)
-        (lines_text 0 (first_lines house.now house.now.home line posts answer))) }
+        (lines_text 0 (first_lines house.now house.now.home turn))) }
 {
     let text = house.first_words(alloc)?;
     match put_all(sink, &text) {
@@ -161,11 +159,13 @@ fn serve_segment<S: Source, K: Sink, D: Disk>(
     requires ready { (before : List ℕ) × (bodies : List (List ℕ))
         × IsAt D.Disk segment.old before bodies }
     requires unbroken { fault_of_lines lines.old ≡ None }
-    ensures served { (before : List ℕ) (bodies : List (List ℕ)) → IsAt D.Disk segment.old before bodies
+    ensures served { (before : List ℕ) (bodies : List (List ℕ))
+        → IsAt D.Disk segment.old before bodies
         → Served Responds D.Disk before bodies house.old house.new segment.old segment.new
         lines.old lines.new (run_of S.left S.faults K.written K.faults source.old source.new
         sink.old sink.new) result.ending }
-    ensures digest { (before : List ℕ) (bodies : List (List ℕ)) → IsAt D.Disk segment.new before bodies
+    ensures digest { (before : List ℕ) (bodies : List (List ℕ))
+        → IsAt D.Disk segment.new before bodies
         → result.digest ≡ last_digest before bodies }
 {
     let most = segment.size().saturating_mul(8).max(MOST_SEGMENT);
@@ -191,7 +191,8 @@ pub(crate) fn serve_on<S: Source, K: Sink, D: Disk + Drop>(
     requires empty { D.Disk.reads disk ≡ [] }
     requires only { Only (D.Disk.reads disk) (D.Disk.may_leave disk) }
     requires unbroken { fault_of_lines lines.old ≡ None }
-    ensures unbroken { IfOk result (λ left. left.ending ≡ Grown → fault_of_lines lines.new ≡ None) }
+    ensures unbroken { IfOk result
+        (λ left. left.ending ≡ Grown → fault_of_lines lines.new ≡ None) }
     ensures digest { IfOk result
         (λ left. left.ending ≡ Grown → IsDigestOf next.now left.digest) }
 {

@@ -23,7 +23,7 @@ use Rattle.script_replay.specs.Replies.{run_dialogue}
 use Rattle.cell_replay.specs.Checking.{check_rule, counts}
 use Rattle.cell_replay.specs.FormReadings.{spelling_rule}
 use Rattle.cell_replay.specs.declared.forms.Form.TheVariants as form
-use Rattle.cell_replay.specs.Forms.{form_of}
+use Rattle.cell_replay.specs.FormWords.{form_of}
 use Rattle.directory.specs.declared.entry.Kind.TheVariants.{Object}
 use Rattle.record_fields.specs.declared.fault.RecordFault.TheVariants.{Trailing}
 use Rattle.image_audit.specs.declared.fact.Fact.TheVariants.{Birth, Value}

@@ -2,6 +2,7 @@ pub mod NewDisks
 pub mod Streams
 pub mod TowerTurns
 pub mod TowerLaws
+mod WholeReads
 pub mod WholeTurns
 pub mod AllForms
 pub mod RoundTrip

@@ -12,7 +12,8 @@ use Rattle.cell_replay.specs.declared.towers.StreamFault.{StreamFault}
 use Rattle.cell_replay.specs.declared.towers.StreamFault.TheVariants as stream
 use Rattle.reply_buffer.specs.TowerTexts.{tower_text}
 use Rattle.cell_replay.specs.TowerDemand.{in_sight, BeginsWithTower, ShowsFault, EndsWithin, Rest, Nothing, AtFault, PartOf, IsRest, AreTowers}
-use Rattle.cell_replay.specs.TowerDemand.{rest_demand, towers_demand, TowersDemand, stream_fault_text}
+use Rattle.cell_replay.specs.StreamTexts.{stream_fault_text}
+use Rattle.cell_replay.specs.TowerDemand.{rest_demand, towers_demand, TowersDemand}
 use Rattle.line_forms.specs.Demand.{Demand, Faulty, with_front}
 use Rattle.line_forms.specs.Runs.{IsFront}
 use Rattle.cell_replay.proofs.Streams.{le_or_lt, tower_or_fault, one_fault, sight_whole}

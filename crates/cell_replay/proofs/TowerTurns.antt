@@ -17,7 +17,8 @@ use Rattle.cell_replay.specs.declared.towers.StreamFault.TheVariants as stream
 use Rattle.line_forms.specs.declared.endings.Status.{Status}
 use Rattle.line_forms.specs.declared.endings.Status.TheVariants.{Ok as AllRead, BadInput, ReadFault, WriteFault, OutOfMemory}
 use Rattle.reply_buffer.specs.TowerTexts.{tower_text}
-use Rattle.cell_replay.specs.TowerDemand.{IsTaken, Nothing, AtFault, PartOf, TowersDemand, stream_fault_text}
+use Rattle.cell_replay.specs.StreamTexts.{stream_fault_text}
+use Rattle.cell_replay.specs.TowerDemand.{IsTaken, Nothing, AtFault, PartOf, TowersDemand}
 use Rattle.line_forms.specs.Demand.{Demand, IsUnbroken, whole, with_front, faulty_with, ends_with, cut_short_with}
 use Rattle.cell_replay.specs.FormReadings.{by_towers}
 use Rattle.cell_replay.specs.PrivateSights.{TellsFault, IsUnended}
@@ -35,8 +36,8 @@ BehindTowers number r d = TowersDemand number r d
 pub towers_stop : (number : ℕ) → StopsHere (BehindTowers number)
 towers_stop number = record { demand = ends_with []; behind = ([], Nothing, refl, refl); none = refl; unbroken = tt }
 
--- the towers so far were told; nothing follows what is held where the input has ended; and no call
--- failed
+-- the towers so far were answered; nothing follows what is held where the input has ended; and no
+-- call failed
 pub record IsAmong (first left old new : Option (List ℕ)) (reads reads' writes writes' : ℕ) (window : WindowOctets) (number : ℕ) (ended : Bool)
     (waits : List ℕ) : Type 0 where
   pub reached : Reached by_towers first left old new window.octets waits (BehindTowers number)

@@ -35,30 +35,18 @@ verdict_said dir (verdict.Differ image f) = codes "differ " ++ (decimal dir ++ (
 abbrev pub verdict_text : (dir : ℕ) → Verdict → List ℕ
 verdict_text dir v = verdict_said dir v ++ 10 ∷ []
 
--- the names of faults of records
-abbrev pub fault_name : RecordFault → List ℕ
-fault_name (fault.Short place) = codes "Short"
-fault_name (fault.BadTag place) = codes "BadTag"
-fault_name (fault.BadLength place) = codes "BadLength"
-fault_name (fault.BadName place) = codes "BadName"
-fault_name (fault.OutOfOrder place) = codes "OutOfOrder"
-fault_name (fault.BadFlag place) = codes "BadFlag"
-fault_name (fault.NotAbove place) = codes "NotAbove"
-fault_name (fault.BadHeld place) = codes "BadHeld"
-fault_name (fault.Trailing place) = codes "Trailing"
-
--- where they are
-abbrev pub fault_place : RecordFault → ℕ
-fault_place (fault.Short place) = place
-fault_place (fault.BadTag place) = place
-fault_place (fault.BadLength place) = place
-fault_place (fault.BadName place) = place
-fault_place (fault.OutOfOrder place) = place
-fault_place (fault.BadFlag place) = place
-fault_place (fault.NotAbove place) = place
-fault_place (fault.BadHeld place) = place
-fault_place (fault.Trailing place) = place
+-- the name of a fault of a record, and where it is
+abbrev pub fault_said : RecordFault → List ℕ × ℕ
+fault_said (fault.Short place) = (codes "Short", place)
+fault_said (fault.BadTag place) = (codes "BadTag", place)
+fault_said (fault.BadLength place) = (codes "BadLength", place)
+fault_said (fault.BadName place) = (codes "BadName", place)
+fault_said (fault.OutOfOrder place) = (codes "OutOfOrder", place)
+fault_said (fault.BadFlag place) = (codes "BadFlag", place)
+fault_said (fault.NotAbove place) = (codes "NotAbove", place)
+fault_said (fault.BadHeld place) = (codes "BadHeld", place)
+fault_said (fault.Trailing place) = (codes "Trailing", place)
 
 -- the line of the fault of one of two images
 abbrev pub pair_fault_text : PairFault → List ℕ
-pair_fault_text f = fault_text f.image (fault_name f.fault) (fault_place f.fault)
+pair_fault_text f = fault_text f.image (fault_said f.fault).0 (fault_said f.fault).1

@@ -1,9 +1,6 @@
 -- The forms of the program, and how each reads its input.
-use Rattle.std.specs.Prelude.{ℕ, if◌then◌else◌, List, [], ◌∷◌, codes, Option, Some, None}
-use Rattle.std.specs.Option.{option_map}
-use Rattle.std.specs.Str.{bytes_eq}
+use Rattle.std.specs.Prelude.{Option, Some}
 use Rattle.cell_model.specs.Cells.{empty_cell}
-use Rattle.cell_script.specs.Words.{number_to}
 use Rattle.line_forms.specs.Readings.{Reading, by_lines}
 use Rattle.line_forms.specs.Runs.{Run}
 use Rattle.line_forms.specs.declared.endings.Status.{Status}
@@ -20,7 +17,6 @@ use Rattle.cell_replay.specs.FormReadings.{HasReadFew, by_towers, by_whole, spel
 use Rattle.cell_replay.specs.WholeDemand.{Migrating, Auditing}
 use Rattle.cell_replay.specs.declared.forms.Form.{Form}
 use Rattle.cell_replay.specs.declared.forms.Form.TheVariants as form
-use Rattle.cell_replay.specs.declared.limits.TheConstants.{LAST_DIR, MOST_KEPT, MOST_ROUNDS}
 
 -- how each reads, and what an input demands of it, from its start: a script is replayed on a cell
 -- without houses, by a clerk that keeps so many answers, or with empty journals; a script is
@@ -63,29 +59,3 @@ IsCalmEnding ReadFault = ⊥
 IsCalmEnding WriteFault = ⊥
 IsCalmEnding OutOfMemory = Unit {0}
 IsCalmEnding JournalFull = ⊥
-
--- the form that a word names
-abbrev pub form_named : List ℕ → Option Form
-form_named word =
-    if bytes_eq word (codes "run") then Some form.Run
-    else (if bytes_eq word (codes "check") then Some form.Check
-    else (if bytes_eq word (codes "towers") then Some form.Towers
-    else (if bytes_eq word (codes "untowers") then Some form.Untowers
-    else (if bytes_eq word (codes "migrate") then Some form.Migrate
-    else (if bytes_eq word (codes "inquire") then Some form.Inquire
-    else (if bytes_eq word (codes "journal") then Some form.Journal else None))))))
-
--- the form that a word and a number name, which is at least one: `load` and how many rounds,
--- `clerk` and its room, or `audit` and a directory
-abbrev pub form_numbered : (word number : List ℕ) → Option Form
-form_numbered word number =
-    if bytes_eq word (codes "load") then option_map form.Load (number_to MOST_ROUNDS number)
-    else (if bytes_eq word (codes "clerk") then option_map form.Clerk (number_to MOST_KEPT number)
-    else (if bytes_eq word (codes "audit") then option_map form.Audit (number_to LAST_DIR number) else None))
-
--- the form that the words of the command line name
-abbrev pub form_of : List (List ℕ) → Option Form
-form_of [] = None
-form_of (word ∷ []) = form_named word
-form_of (word ∷ number ∷ []) = form_numbered word number
-form_of (word ∷ number ∷ third ∷ words) = None

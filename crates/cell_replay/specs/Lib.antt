@@ -1,5 +1,6 @@
 pub mod Checking
 pub mod PrivateChecks
+pub mod StreamTexts
 pub mod TowerDemand
 pub mod AuditTexts
 pub mod WholeDemand
@@ -7,6 +8,7 @@ pub mod PrivateSights
 pub mod Fillings
 pub mod FormReadings
 pub mod Forms
+pub mod FormWords
 pub mod PrivateForms
 pub mod PrivateWholes
 pub mod JournalRuns

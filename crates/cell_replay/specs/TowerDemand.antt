@@ -1,13 +1,13 @@
 -- What an input demands of `towers`: whole towers, and what is after the last of them.
-use Rattle.std.specs.Prelude.{◌≡◌, ℕ, ◌+◌, ◌≤◌, ◌<◌, List, [], ◌∷◌, ◌++◌, length, take, codes}
+use Rattle.std.specs.Prelude.{◌≡◌, ℕ, ◌+◌, ◌≤◌, ◌<◌, List, [], ◌∷◌, ◌++◌, length, take}
 use Rattle.tower_codec.specs.declared.fault.TowerFault.{TowerFault}
-use Rattle.tower_codec.specs.declared.fault.TowerFault.TheVariants.{ShortCount, ShortLength, ShortPart, EmptyLeft}
+use Rattle.tower_codec.specs.declared.fault.TowerFault.TheVariants.{EmptyLeft}
 use Rattle.tower_codec.specs.Tower.{Floor, IsTower, IsFault}
 use Rattle.reply_buffer.specs.declared.limits.TheConstants.{LONGEST_TOWER}
 use Rattle.cell_replay.specs.declared.limits.TheConstants.{MOST_TOWERS, TOWER_SIGHT}
 use Rattle.cell_replay.specs.declared.towers.StreamFault.{StreamFault}
 use Rattle.cell_replay.specs.declared.towers.StreamFault.TheVariants as stream
-use Rattle.script_answers.specs.Texts.{fault_text}
+use Rattle.cell_replay.specs.StreamTexts.{stream_fault_text}
 use Rattle.reply_buffer.specs.TowerTexts.{tower_text}
 use Rattle.line_forms.specs.Demand.{Demand, faulty_with, ends_with, cut_short_with, with_front}
 
@@ -27,9 +27,7 @@ BeginsWithTower number octets = (floors : List Floor) × (front : List ℕ) × (
 -- part is empty; or there is neither that nor a whole tower before octet 1,025
 abbrev pub ShowsFault : ℕ → List ℕ → StreamFault → Type 0
 ShowsFault number octets (stream.Tower (EmptyLeft place)) = (number ≤ MOST_TOWERS) × IsFault (in_sight octets) (EmptyLeft place)
-ShowsFault number octets (stream.Tower (ShortCount place)) = ⊥
-ShowsFault number octets (stream.Tower (ShortLength place)) = ⊥
-ShowsFault number octets (stream.Tower (ShortPart place)) = ⊥
+ShowsFault number octets (stream.Tower fault) = ⊥
 ShowsFault number octets stream.TooLong =
     (number ≤ MOST_TOWERS) × (LONGEST_TOWER < length octets) × ¬ (BeginsWithTower number (in_sight octets))
     × ((place : ℕ) → ¬ (IsFault (in_sight octets) (EmptyLeft place)))
@@ -58,16 +56,7 @@ AreTowers number octets [] rest = IsRest number octets rest
 AreTowers number octets (floors ∷ towers) rest =
     (front : List ℕ) × (behind : List ℕ) × (octets ≡ front ++ behind) × IsTaken number floors front × AreTowers (number + 1) behind towers rest
 
--- ---- the texts
-
--- the line of a fault: its name and its place, which counts the octets of the tower at fault
-abbrev pub stream_fault_text : ℕ → StreamFault → List ℕ
-stream_fault_text number (stream.Tower (ShortCount place)) = fault_text number (codes "ShortCount") place
-stream_fault_text number (stream.Tower (ShortLength place)) = fault_text number (codes "ShortLength") place
-stream_fault_text number (stream.Tower (ShortPart place)) = fault_text number (codes "ShortPart") place
-stream_fault_text number (stream.Tower (EmptyLeft place)) = fault_text number (codes "EmptyLeft") place
-stream_fault_text number stream.TooLong = fault_text number (codes "TooLong") TOWER_SIGHT
-stream_fault_text number stream.TooManyTowers = fault_text number (codes "TooManyTowers") 1
+-- ---- what is due
 
 -- what is due after the last tower
 abbrev pub rest_demand : ℕ → Rest → Demand

@@ -1,10 +1,8 @@
 -- What an input demands of a form that reads it whole and then says one thing.
 use Rattle.std.specs.Prelude.{ℕ, nat_lt, if◌then◌else◌, List, [], length, codes, Ok, Err, Result}
-use Rattle.record_fields.specs.declared.fault.RecordFault.{RecordFault}
+use Rattle.std.specs.Result.{result_map_both}
 use Rattle.cds_records.specs.Migration.{migrated_image}
 use Rattle.script_answers.specs.Texts.{fault_text}
-use Rattle.image_audit.specs.declared.pair.PairFault.{PairFault}
-use Rattle.image_audit.specs.declared.verdict.Verdict.{Verdict}
 use Rattle.image_audit.specs.Pairs.{audit_verdict}
 use Rattle.cell_replay.specs.AuditTexts.{verdict_text, pair_fault_text}
 use Rattle.cell_replay.specs.declared.limits.TheConstants.{MOST_WHOLE, WHOLE_SIGHT}
@@ -22,20 +20,12 @@ abbrev pub too_long_text : WholeTask → List ℕ
 too_long_text Migrating = []
 too_long_text (Auditing dir) = fault_text 1 (codes "TooLong") WHOLE_SIGHT
 
--- the octets of an image are the text; octets at fault have none
-abbrev pub image_said : Result (List ℕ) RecordFault → Result (List ℕ) (List ℕ)
-image_said (Ok octets) = Ok octets
-image_said (Err fault) = Err []
-
--- the line that an audit has, or that of the fault of an image
-abbrev pub audit_said : (dir : ℕ) → Result Verdict PairFault → Result (List ℕ) (List ℕ)
-audit_said dir (Ok verdict) = Ok (verdict_text dir verdict)
-audit_said dir (Err fault) = Err (pair_fault_text fault)
-
--- the text that is said of an input, or that of its fault
+-- the text that is said of an input, or that of its fault: the octets of an image, whose fault has
+-- none; or the line that an audit has, or that of the fault of an image
 abbrev pub said_of : WholeTask → List ℕ → Result (List ℕ) (List ℕ)
-said_of Migrating octets = image_said (migrated_image octets)
-said_of (Auditing dir) octets = audit_said dir (audit_verdict octets (record { 0 = dir }))
+said_of Migrating octets = result_map_both (λ image. image) (λ fault. []) (migrated_image octets)
+said_of (Auditing dir) octets =
+    result_map_both (verdict_text dir) pair_fault_text (audit_verdict octets (record { 0 = dir }))
 
 -- either is due where the input ends
 abbrev pub told_whole : Result (List ℕ) (List ℕ) → Demand

@@ -1,6 +1,6 @@
 // What is said of an audit.
 ghost use Rattle.std.specs.Prelude.{◌≡◌, ◌++◌, IfOk, OnOk};
-ghost use Rattle.cell_replay.specs.AuditTexts.{place_text, present_text, fact_text, verdict_said, verdict_text, fault_name, fault_place, pair_fault_text};
+ghost use Rattle.cell_replay.specs.AuditTexts.{place_text, present_text, fact_text, verdict_said, verdict_text, fault_said, pair_fault_text};
 
 use attr_sets::Value;
 use cds_records::RecordFault;
@@ -90,7 +90,7 @@ pub(crate) fn print_verdict(
 
 // The name of a fault.
 fn name_of(fault: RecordFault) -> &'static str
-    ensures { result.now ≡ fault_name fault }
+    ensures { result.now ≡ (fault_said fault).0 }
 {
     match fault {
         RecordFault::Short(_) => "Short",
@@ -107,7 +107,7 @@ fn name_of(fault: RecordFault) -> &'static str
 
 // Where it is.
 fn place_of(fault: RecordFault) -> usize
-    ensures { result ≡ fault_place fault }
+    ensures { result ≡ (fault_said fault).1 }
 {
     match fault {
         RecordFault::Short(place)

@@ -1,7 +1,7 @@
 // The forms of the program.
 ghost use Rattle.std.specs.Prelude.{◌≡◌, ◌≤◌, IfSome, map, string_bytes};
 ghost use Rattle.cell_script.specs.Words.{number_to};
-ghost use Rattle.cell_replay.specs.Forms.{form_named, form_numbered, form_of};
+ghost use Rattle.cell_replay.specs.FormWords.{form_named, form_numbered, form_of};
 ghost use Rattle.cell_replay.specs.PrivateForms.{IsForm};
 
 use crate::limits::{LAST_DIR, MOST_KEPT, MOST_ROUNDS};

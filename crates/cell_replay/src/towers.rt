@@ -4,7 +4,7 @@ ghost use Rattle.std.specs.Io.KnownBytes.{IsAtEnd};
 ghost use Rattle.hex.specs.Hex.{IsBytes};
 ghost use Rattle.cds_base.specs.Counts.{HasCause};
 ghost use Rattle.cds_base.specs.SourceReading.{GrowsByReading};
-ghost use Rattle.cell_replay.specs.TowerDemand.{stream_fault_text};
+ghost use Rattle.cell_replay.specs.StreamTexts.{stream_fault_text};
 ghost use Rattle.cell_replay.specs.FormReadings.{by_towers};
 ghost use Rattle.line_forms.specs.Runs.{Ended, run_of};
 ghost use Rattle.line_forms.specs.Endings.{StopsWith, side_of};

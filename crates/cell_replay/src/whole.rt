@@ -1,20 +1,26 @@
 // The forms that read their whole input and then say one thing.
-ghost use Rattle.std.specs.Prelude.{◌≡◌, [], IfOk, Err};
+ghost use Rattle.std.specs.Prelude.{◌≡◌, [], IfOk, IfErr, OnOk, Err};
+ghost use Rattle.cell_replay.specs.declared.limits.TheConstants.{WHOLE_SIGHT};
 ghost use Rattle.cell_replay.specs.FormReadings.{HasReadFew, by_whole};
 ghost use Rattle.cell_replay.specs.WholeDemand.{Migrating, Auditing, said_of, too_long_text};
 ghost use Rattle.line_forms.specs.Runs.{Ended, run_of};
 ghost use Rattle.line_forms.specs.Endings.{Finishes, side_of};
-ghost use Rattle.cell_replay.specs.PrivateWholes.{IsSaid, SaysEnd, task_of};
+ghost use Rattle.cell_replay.specs.PrivateWholes.{IsPartRead, IsSaid, SaysEnd, StopsWithin, task_of};
 
 use crate::audits::{print_pair_fault, print_verdict};
 use crate::limits::WHOLE_SIGHT;
-use cds_base::{Sink, Source, Window, put_all};
+use cds_base::{Failed, Sink, Source, Window, put_all};
 use cds_records::migrate_image;
 use cds_stamps::{AllocOr, DirId};
 use image_audit::audit_octets;
 use line_forms::Status;
 use script_answers::print_fault;
 use std::alloc::{AllocError, Global};
+
+// The octets that are read at once, and how often: together as many as are read at most.
+const PART: usize = 24_929;
+
+const PARTS: u32 = 673;
 
 /// What is made of a whole input.
 #[derive(Clone, Copy, Debug, PartialEq, Eq)]
@@ -96,26 +102,49 @@ fn end_saying<K: Sink>(said: Result<Said, AllocError>, sink: &mut K) -> Status
     }
 }
 
-// Reads the whole input, up to one octet more than it may have.
-fn read_whole<S: Source, K: Sink>(
-    alloc: Global,
-    whole: Whole,
-    mut window: Window,
+// Reads one part more of the input into an empty window, and puts it after the octets held. Answers
+// whether the input ended.
+fn read_part<S: Source>(
+    window: &mut Window,
+    held: &mut Vec<u8>,
     source: &mut S,
-    sink: &mut K,
-) -> Status
-    requires empty { window.octets ≡ [] }
-    requires room { window.room ≡ WHOLE_SIGHT }
-    ensures ends { Ended (by_whole (task_of whole))
-        (run_of S.left S.faults K.written K.faults source.old source.new sink.old sink.new) result }
-    ensures few { HasReadFew
-        (run_of S.left S.faults K.written K.faults source.old source.new sink.old sink.new) }
+) -> Result<bool, AllocOr<Failed>>
+    requires { window.old.octets ≡ [] }
+    ensures part { IfOk result (IsPartRead window.old.room
+        (S.left source.old) (S.left source.new) held.old.items held.new.items) }
+    ensures calm { OnOk result (S.faults source.new ≡ S.faults source.old) }
+    ensures empty { OnOk result (window.new.octets ≡ []) }
+    ensures room { OnOk result (window.new.room ≡ window.old.room) }
+    ensures err { IfErr result (StopsWithin window.old.room
+        (side_of S.left S.faults source.old) (side_of S.left S.faults source.new)) }
 {
-    match window.fill(source) {
-        Ok(true) => end_saying(say(alloc, whole, window.octets()), sink),
-        Ok(false) => end_saying(too_long(alloc, whole), sink),
-        Err(_) => Status::ReadFault,
+    let ended = window.fill(source).map_err(AllocOr::Fault)?;
+    let read = window.octets().len();
+    held.extend_from_slice(window.octets())?;
+    window.consume(read);
+    Ok(ended)
+}
+
+// Reads the whole input after the octets held, up to one octet more than it may have. Answers
+// whether it ended before.
+fn read_whole<S: Source>(
+    alloc: Global,
+    held: &mut Vec<u8>,
+    source: &mut S,
+) -> Result<bool, AllocOr<Failed>>
+    ensures part { IfOk result (IsPartRead WHOLE_SIGHT
+        (S.left source.old) (S.left source.new) held.old.items held.new.items) }
+    ensures calm { OnOk result (S.faults source.new ≡ S.faults source.old) }
+    ensures err { IfErr result (StopsWithin WHOLE_SIGHT
+        (side_of S.left S.faults source.old) (side_of S.left S.faults source.new)) }
+{
+    let mut window = Window::new(alloc, PART)?;
+    for _ in 0..PARTS {
+        if read_part(&mut window, held, source)? {
+            return Ok(true);
+        }
     }
+    Ok(false)
 }
 
 /// The whole of such a form.
@@ -130,8 +159,11 @@ pub(crate) fn say_whole<S: Source, K: Sink>(
     ensures few { HasReadFew
         (run_of S.left S.faults K.written K.faults source.old source.new sink.old sink.new) }
 {
-    match Window::new(alloc, WHOLE_SIGHT) {
-        Ok(window) => read_whole(alloc, whole, window, source, sink),
-        Err(AllocError) => Status::OutOfMemory,
+    let mut held = Vec::new(alloc);
+    match read_whole(alloc, &mut held, source) {
+        Ok(true) => end_saying(say(alloc, whole, &held), sink),
+        Ok(false) => end_saying(too_long(alloc, whole), sink),
+        Err(AllocOr::Fault(_)) => Status::ReadFault,
+        Err(AllocOr::OutOfMemory) => Status::OutOfMemory,
     }
 }

@@ -40,8 +40,7 @@ start room = record { cell = model.empty_cell; clerk = new_clerk room (record { 
 -- values that are answered; or that the house that is asked now does not show the entry to which a
 -- kept answer led, or that none answers (own)
 abbrev pub values_or_vanished : Option (List (List ℕ)) → Answer
-values_or_vanished None = answer.Refused why.Vanished
-values_or_vanished (Some vs) = answer.Values vs
+values_or_vanished values = option_map_or answer.Values values (answer.Refused why.Vanished)
 
 -- what is answered of the values of an attribute of an entry, and the clerk then (own)
 abbrev pub values_told : (now : ℕ) → Reader → Pointer → (name attr : List ℕ) → Clerk → Answer × Clerk
@@ -71,16 +70,12 @@ abbrev pub low_read : ScriptLine → Option LowRead
 low_read (line.Question (question.Read h false name attr)) = Some (record { house = h; name = name; attr = attr })
 low_read other = None
 
--- the clerk prefers a house from now on (own)
-abbrev pub prefer_house : HouseNo → Clerk → Clerk
-prefer_house h c = record c { prefer = h }
-
--- what such a `read` is answered, and the clerk then: a house that is not there is no house to
--- prefer (own)
+-- what such a `read` is answered, and the clerk then: from now on it prefers that house, if it is
+-- there (own)
 abbrev pub read_at : (number : ℕ) → Clerked → LowRead → Answer × Clerk
 read_at number s q =
     if has q.house.0 s.cell.made
-    then read_by_clerk number (cell_reader s.cell (Some q.house.0) false) q.name q.attr (prefer_house q.house s.clerk)
+    then read_by_clerk number (cell_reader s.cell (Some q.house.0) false) q.name q.attr (record s.clerk { prefer = q.house })
     else (answer.Refused why.NoHouse, s.clerk)
 
 -- what a line is answered, and the clerk then: only `read` at low confidence touches the clerk

@@ -16,7 +16,7 @@ use Rattle.clerk_cache.specs.declared.query.Kept.{Kept}
 use Rattle.clerk_cache.specs.declared.query.Query.{Query}
 use Rattle.script_replay.specs.Dialogues.{Dialogue, NumberedOf}
 use Rattle.script_replay.specs.Replies.{Numbered, cell_after, run_dialogue}
-use Rattle.clerk_replay.specs.Clerking.{Clerked, LowRead, clerked_after, clerk_dialogue, low_read, prefer_house, read_by_clerk, reply_at, start}
+use Rattle.clerk_replay.specs.Clerking.{Clerked, LowRead, clerked_after, clerk_dialogue, low_read, read_by_clerk, reply_at, start}
 use Rattle.form_laws.specs.Honesty.{IsHonest, Tells, cell_after_lines, dialogue_state}
 use Rattle.form_laws.proofs.Keeping.{all_keeps}
 
@@ -34,11 +34,11 @@ WasOrIsNoted number s l e = Contains s.clerk.kept.entries e ⊎ IsNotedAt number
 
 -- by whether the house is there
 read_keeps : (number : ℕ) (s : Clerked) (l : ScriptLine) (q : LowRead) → low_read l ≡ Some q → (e : Query × Kept) → (made : Bool)
-    → Contains (if made then read_by_clerk number (cell_reader s.cell (Some q.house.0) false) q.name q.attr (prefer_house q.house s.clerk)
+    → Contains (if made then read_by_clerk number (cell_reader s.cell (Some q.house.0) false) q.name q.attr (record s.clerk { prefer = q.house })
     else (answer.Refused why.NoHouse, s.clerk)).1.kept.entries e → WasOrIsNoted number s l e
 read_keeps number s l q asked e true kept =
     let r = cell_reader s.cell (Some q.house.0) false in
-    elim ((all_keeps number r q.name q.attr (prefer_house q.house s.clerk)).kept e kept) [
+    elim ((all_keeps number r q.name q.attr (record s.clerk { prefer = q.house })).kept e kept) [
       | inl before ↦ inl before
       | inr noted ↦ inr (record {
         line = sym noted.line;

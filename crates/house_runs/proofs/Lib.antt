@@ -3,6 +3,7 @@ mod Turns
 mod Lines
 mod Waits
 mod Segments
+mod LastTurns
 mod Cells
 mod Crashes
 mod Examples

@@ -21,8 +21,9 @@ use Rattle.cell_runs.specs.HonestRuns.{HasGoodList, at_clock}
 use Rattle.cell_runs.specs.OrderSteps.{Carries, order_step}
 use Rattle.house_turns.specs.declared.house.House.{House}
 use Rattle.house_turns.specs.declared.house.TheConstants.{MOST_MESSAGE}
-use Rattle.house_turns.specs.HouseReplies.{ComesTo, IsReply, IsTurnReply, Outcome, Posts, RepliesAt, RepliesBy, RepliesIf, RepliesMoreIf, RepliesTake}
-use Rattle.house_turns.specs.HouseReplies.{RepliesTakeIf, RepliesTo, Responds, Tells, TellsLines, UnlessAsked, UnlessRefused, with_spaces, take_line, turn_text}
+use Rattle.house_turns.specs.LineOutcomes.{ComesTo, Outcome, Posts, Tells}
+use Rattle.house_turns.specs.HouseReplies.{IsReply, IsTurnReply, RepliesAt, RepliesBy, RepliesIf, RepliesMoreIf, RepliesTake}
+use Rattle.house_turns.specs.HouseReplies.{RepliesTakeIf, RepliesTo, Responds, TellsLines, UnlessAsked, UnlessRefused, with_spaces, take_line, turn_text}
 use Rattle.house_turns.specs.HouseAnswers.{early_refusal}
 use Rattle.house_turns.specs.LineSteps.{order_of}
 use Rattle.house_turns.specs.Records.{HomeFits, IsRecord, image_in}

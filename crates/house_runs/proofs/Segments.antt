@@ -117,7 +117,7 @@ opens_image last c opened kept lawful fits (From entry clock text image c' is st
     (one_value (start_of_octets image) c' (house_after_restart c) starts (ap start_of_octets own ∙ image_starts c lawful fits))
 
 -- a start leaves what a house has
-start_home : (h : House) (o : Option Clearinghouse) → (after_start h o).home ≡ h.home
+pub start_home : (h : House) (o : Option Clearinghouse) → (after_start h o).home ≡ h.home
 start_home h None = refl
 start_home h (Some c) = refl
 
@@ -206,12 +206,12 @@ module _ (rest : List (List ℕ)) (at : House) where
           (turns_go makes.number.0 rest at ts (number + 1) body talk.0 (new_clearinghouse makes.number makes.node) makes.runs talk.2 (goes' makes.number.0)))
 
 -- the last record has no house, if there is one
-abbrev MaybeNew : Option (List ℕ) → Type 0
+abbrev pub MaybeNew : Option (List ℕ) → Type 0
 MaybeNew None = Unit {0}
 MaybeNew (Some body) = IsNewBody body
 
 -- a house that goes on from no house is none
-opens_new : (last : Option (List ℕ)) (opened : House) → MaybeNew last → OpensFrom last opened → opened.home ≡ None
+pub opens_new : (last : Option (List ℕ)) (opened : House) → MaybeNew last → OpensFrom last opened → opened.home ≡ None
 opens_new None opened new is = ap (λ (k : House). k.home) is
 opens_new (Some body) opened new is = by opened is
   where
@@ -222,7 +222,7 @@ opens_new (Some body) opened new is = by opened is
         absurd (let none : Some image ≡ None = same.3 in cc (none))
 
 -- how a segment begins
-begins_new : (b : Beginning) (last : Option (List ℕ)) (h : House) (first : List ℕ) (begun : House) → h.home ≡ None → MaybeNew last
+pub begins_new : (b : Beginning) (last : Option (List ℕ)) (h : House) (first : List ℕ) (begun : House) → h.home ≡ None → MaybeNew last
     → BeginsWith b last h first begun → (begun.home ≡ None) × IsNewBody first
 begins_new ProcessBegins last h first begun home new is =
     let opened : House = is.0 in

@@ -18,7 +18,7 @@ use Rattle.house_lines.specs.declared.line.HouseLine.TheVariants as line
 use Rattle.cell_runs.specs.Entries.{Order, TurnEntry, Post}
 use Rattle.cell_runs.specs.HonestRuns.{HasGoodList, IsImageOf, IsTurnOf, at_clock}
 use Rattle.cell_runs.specs.OrderSteps.{Carries, order_step}
-use Rattle.house_turns.specs.HouseReplies.{ComesTo, IsOutcome, Posts}
+use Rattle.house_turns.specs.LineOutcomes.{ComesTo, IsOutcome, Posts}
 use Rattle.house_turns.specs.HouseAnswers.{early_refusal, maybe_refused}
 use Rattle.house_turns.specs.LineSteps.{CarriesIn, listed_houses, order_of, step_of}
 

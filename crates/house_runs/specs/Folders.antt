@@ -57,6 +57,11 @@ AreSegments last house (s ∷ ss) =
     × Dialogue Responds s.number begun s.turns at
     × AreSegments (Some (last_body s.first (bodies_of s.turns))) at ss
 
+-- the last record of segments that follow this one, if there is one
+abbrev pub last_record : (last : Option (List ℕ)) → List FolderSegment → Option (List ℕ)
+last_record last [] = last
+last_record last (s ∷ ss) = last_record (Some (last_body s.first (bodies_of s.turns))) ss
+
 -- the segments of a folder, from its first one on
 abbrev pub IsFolder : List FolderSegment → Type 0
 IsFolder segments = AreSegments None new_house segments

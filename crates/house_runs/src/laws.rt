@@ -1,5 +1,5 @@
 // What holds of the folders of houses that run: the contracts of functions that do nothing.
-ghost use Rattle.std.specs.Prelude.{◌+◌, ◌⊎◌, ℕ, List};
+ghost use Rattle.std.specs.Prelude.{◌+◌, ◌⊎◌, ℕ, List, None};
 ghost use Rattle.cds_base.specs.Lines.{lines_so_far};
 ghost use Rattle.cds_base.specs.declared.lines.Lines.{Lines};
 ghost use Rattle.house_journal.specs.Journals.{LeavesOnly};
@@ -8,8 +8,9 @@ ghost use Rattle.house_segments.specs.declared.segment.Segment.{Segment};
 ghost use Rattle.house_serving.specs.Serving.{Run, Served};
 ghost use Rattle.house_serving.specs.declared.ending.Ending.{Ending};
 ghost use Rattle.house_turns.specs.HouseReplies.{Responds};
+ghost use Rattle.house_turns.specs.Openings.{HasTurn, after_start};
 ghost use Rattle.house_turns.specs.declared.house.House.{House};
-ghost use Rattle.house_runs.specs.Folders.{FolderSegment, HasLines, IsFolder, folder_bodies};
+ghost use Rattle.house_runs.specs.Folders.{FolderSegment, HasLines, IsFolder, OpensFrom, folder_bodies, last_record};
 ghost use Rattle.house_runs.specs.Runs.{AreFolders, AreOfCell};
 ghost use Rattle.house_runs.specs.Tales.{TellHonestHouse, TellNoHouse};
 
@@ -38,6 +39,15 @@ pub fn crashes_leave_lines<D: Disk>()
 pub fn running_houses_are_honest()
     ensures { (segments : List FolderSegment) → IsFolder segments
         → TellNoHouse (folder_bodies segments) ⊎ TellHonestHouse (folder_bodies segments) }
+{}
+
+/// A house that starts can say its last turn again. Take a folder as the processes of a house leave
+/// it, with any crashes between, and a process that goes on from its last record: if a house was
+/// made, it has a last turn then, and the line and the answer of that are one line each.
+pub fn each_start_has_a_turn()
+    ensures { (segments : List FolderSegment) (opened : House)
+        → IsFolder segments → OpensFrom (last_record None segments) opened
+        → HasTurn (after_start opened opened.home).home (after_start opened opened.home).last }
 {}
 
 /// Houses that run are a cell. Take the folders of any houses: their records tell entries. Take

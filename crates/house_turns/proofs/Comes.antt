@@ -54,13 +54,15 @@ use Rattle.house_lines.specs.declared.line.EpochList.{EpochList}
 use Rattle.house_lines.specs.declared.line.HouseLine.{HouseLine}
 use Rattle.cell_runs.specs.Entries.{Post}
 use Rattle.cell_runs.specs.OrderSteps.{IsLetterOf, then_found}
-use Rattle.cell_runs.specs.LineAnswers.{refused, update_refusal_of}
+use Rattle.cds_cell.specs.Scripted.{update_refusal_of}
+use Rattle.cell_runs.specs.LineAnswers.{refused}
 use Rattle.house_turns.specs.declared.said.Said.{Said}
-use Rattle.house_turns.specs.HouseReplies.{ComesTo, IsOutcome, Outcome, Posts, StaysAt, Tells}
+use Rattle.house_turns.specs.LineOutcomes.{ComesTo, HasNoEnd, IsOutcome, Outcome, Posts, StaysAt, Tells}
 use Rattle.house_turns.specs.HouseAnswers.{ascend_from, early_refusal, epoch_refusal, founding_refusal, is_given, maybe_refused, octets_refusal, take_refusal}
 use Rattle.house_turns.specs.LineSteps.{CarriesAt, first_members, listed_houses, step_at}
 use Rattle.house_turns.specs.PrivateTurns.{ArePostsOf, Comes, ComesUnless, Does, MakesChild, Says, TakesMessage, epoch_of, posts_of_letters, taken_line, taken_outcome}
 use Rattle.house_turns.proofs.Letters.{letters_posts, maybe_letters, posts_both, posts_stand}
+use Rattle.house_turns.proofs.PlainTexts.{done_ends_nowhere, made_ends_nowhere, taken_is_one_line}
 use Rattle.house_turns.proofs.Outcomes.{Fits, Reads, accept_fits, child_posts, child_tells, posts_outcome, refused_reads, taken_reads, tells_outcome, untaken_reads}
 
 -- ---- letters
@@ -117,17 +119,19 @@ module _ (Answers : command.Answer → Type 0) (said : List ℕ) (c c' : Clearin
     step = λ now m stands ticks carries.
         tells_outcome Answers said c c' posted (step_at c.house.0 now l m) (fits now m) reads (step now m stands ticks carries);
     stays = same;
+    one_line = tt;
     house = house;
     node = node;
     lawful = lawful;
   }
 
   -- a call that is one
-  pub comes_posts : (posts : List Post) → Reads Answers true said → ArePostsOf posts posted → ComesTo c clock l (Posts posts said) c'
-  comes_posts posts reads are = record {
+  pub comes_posts : (posts : List Post) → Reads Answers true said → HasNoEnd said → ArePostsOf posts posted → ComesTo c clock l (Posts posts said) c'
+  comes_posts posts reads one_line are = record {
     step = λ now m stands ticks carries.
         posts_outcome Answers said c c' posted (step_at c.house.0 now l m) posts (fits now m) reads are (step now m stands ticks carries);
     stays = tt;
+    one_line = one_line;
     house = house;
     node = node;
     lawful = lawful;
@@ -202,6 +206,7 @@ repoint_comes (Ok s) number c c' clock d n h rs houses is does = record {
         subst (λ (k : Houses). IsOutcome (accept c.house.0 now d.0 (change.Repoint n k.master k.others)) does.outcome c c') is
         (does.comes.step now m stands ticks tt);
     stays = does.comes.stays;
+    one_line = does.comes.one_line;
     house = does.comes.house;
     node = does.comes.node;
     lawful = does.comes.lawful;
@@ -267,6 +272,7 @@ root_comes c c' clock ls ms posted posts house node lawful is are turns = record
       let done = subst (λ (ms : List Member). IsTurn (found_directory c.house.0 now root_dir ms) c' posted) is (turns now stands) in
       (posts_stand posts posted t.posts are done.each, λ ns. refl, done.stands);
   stays = tt;
+  one_line = done_ends_nowhere;
   house = house;
   node = node;
   lawful = lawful;
@@ -288,6 +294,7 @@ child_comes (Ok s) number c c' clock d n made ls u ms child is makes = record {
         (subst (λ (u : Change). IsOutcome (then_found c.house.0 made.0 ms (accept c.house.0 now d.0 u)) makes.outcome c c') child
         (makes.step now stands ticks));
     stays = makes.stays;
+    one_line = makes.one_line;
     house = makes.house;
     node = makes.node;
     lawful = makes.lawful;
@@ -312,6 +319,7 @@ module _ (r : Result Said AllocError) (number : ℕ) (c c' : Clearinghouse) (clo
             (tells_outcome (IsStampAnswer (Err why)) (refused (update_refusal_of why)) c c' posted (accept c.house.0 now d.0 u)
             (accept_fits c.house.0 now d.0 u) (refused_reads why) (step now stands ticks));
         stays = same;
+        one_line = tt;
         house = house;
         node = node;
         lawful = lawful;
@@ -335,6 +343,7 @@ module _ (r : Result Said AllocError) (number : ℕ) (c c' : Clearinghouse) (clo
             child_posts c.house.0 made.0 ms c (accept c.house.0 now d.0 u) stamp mid c' ps qs posts (accept_fits c.house.0 now d.0 u)
             (step now stands ticks) founds are;
         stays = tt;
+        one_line = made_ends_nowhere made stamp;
         house = house;
         node = node;
         lawful = lawful;
@@ -369,7 +378,16 @@ pub message_comes : (r : Result Said AllocError) (number : ℕ) (c c' : Clearing
     → StaysAt (taken_outcome t posts) c c' → c'.house ≡ c.house → c'.node ≡ c.node → (IsLawful c → IsLawful c') → IfOk r (TakesMessage number c c' message)
 message_comes (Err e) number c c' message t posts says step stays house node lawful = tt
 message_comes (Ok s) number c c' message t posts says step stays house node lawful =
-    record { outcome = taken_outcome t posts; says = says; step = step; stays = stays; house = house; node = node; lawful = lawful }
+    record {
+      outcome = taken_outcome t posts;
+      says = says;
+      step = step;
+      stays = stays;
+      one_line = taken_is_one_line t posts;
+      house = house;
+      node = node;
+      lawful = lawful;
+    }
 
 -- the message that was decoded, or else this one
 abbrev message_in : Message → Result (Message × ℕ) RecordFault → Message
@@ -384,7 +402,7 @@ take_comes (Err e) number c c' clock octets message used decodes takes = tt
 take_comes (Ok s) number c c' clock octets message used decodes takes = record {
   outcome = takes.outcome;
   says = takes.says;
-  comes = record { step = step; stays = takes.stays; house = takes.house; node = takes.node; lawful = takes.lawful };
+  comes = record { step = step; stays = takes.stays; one_line = takes.one_line; house = takes.house; node = takes.node; lawful = takes.lawful };
 }
   where
     step : (now : model.House) (m : model.Message) → StandsHouse c now → now.clock ≡ clock → CarriesAt c.house.0 now (line.Take octets) m

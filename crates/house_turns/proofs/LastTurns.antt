@@ -1,45 +1,207 @@
--- The last turn, out of a record that a house goes on from.
-use Rattle.std.proofs.Common.{◌≡◌, ◌≢◌, ℕ, false, List, [], ◌∷◌, ◌++◌, sym, ap, ◌∙◌, refl, arith}
-use Rattle.std.specs.Prelude.{Some, None, codes, decimal, if◌then◌else◌}
-use Rattle.std.proofs.lemmas.List.Elements.{All-append, All-from_recursion}
+-- The last turn: out of a record that a house goes on from, and after each line.
+use Rattle.std.proofs.Common.{◌≡◌, ◌≢◌, ℕ, Bool, true, false, List, [], ◌∷◌, ◌++◌, length, refl, sym, ap, subst, ◌∙◌}
+use Rattle.std.specs.Prelude.{Option, Some, None, Result, Ok, Err, codes, decimal, nat_lt, if◌then◌else◌}
+use Rattle.std.proofs.lemmas.List.Elements.{All-append}
 use Rattle.cds_records.specs.RecordOctets.{image_octets}
+use Rattle.cell_script.specs.Words.{words_of}
+use Rattle.cell_script.specs.declared.fault.ParseFault.{ParseFault}
+use Rattle.script_answers.specs.Texts.{answer_line}
+use Rattle.script_answers.specs.declared.answer.Answer.TheVariants as answer
+use Rattle.script_answers.specs.declared.answer.ScriptRefusal.TheVariants as why
 use Rattle.clearinghouse.specs.HouseImages.{image_of}
 use Rattle.clearinghouse.specs.declared.house.Clearinghouse.{Clearinghouse}
 use Rattle.house_entries.proofs.BodyLemmas.{one_record}
+use Rattle.house_lines.specs.LineRows.{said_in}
+use Rattle.house_lines.specs.declared.line.HouseLine.{HouseLine}
+use Rattle.house_lines.specs.declared.line.HouseLine.TheVariants as asks
+use Rattle.house_serving.specs.Turns.{Said}
+use Rattle.cell_runs.specs.Entries.{Post}
+use Rattle.cell_runs.specs.LineAnswers.{refused}
 use Rattle.house_turns.specs.declared.house.House.{House}
-use Rattle.house_turns.specs.Openings.{Anew, From, GoesOn, after_line, is_start, segment_text, start_text, turn_in}
+use Rattle.house_turns.specs.declared.house.TheConstants.{MOST_MESSAGE}
+use Rattle.house_turns.specs.LineOutcomes.{ComesTo, HasNoEnd, Outcome, Posts, Tells}
+use Rattle.house_turns.specs.HouseReplies.{IsReply, IsTurnReply, RepliesAnew, RepliesAt, RepliesBy, RepliesIf, RepliesMoreIf, RepliesTake, RepliesTakeIf, RepliesTo}
+use Rattle.house_turns.specs.HouseReplies.{Responds, TellsLines, UnlessAsked, UnlessRefused, new_clearinghouse, posts_text, take_line, turn_text, with_spaces}
+use Rattle.house_turns.specs.HouseAnswers.{early_refusal, question_said}
+use Rattle.house_turns.specs.Openings.{Anew, From, GoesOn, HasTurn, IsTurnText, after_line, is_start, segment_text, start_text, turn_in}
 use Rattle.house_turns.specs.Records.{IsRecord, image_in}
 use Rattle.house_turns.proofs.Cuts.{cut_after}
 use Rattle.house_turns.proofs.SaidAgain.{decimal_ends_nowhere}
+use Rattle.house_turns.proofs.PlainTexts.{done_ends_nowhere, text_ends_nowhere}
+use Rattle.house_turns.proofs.PlainLines.{BeginsTurn, line_begins, take_begins}
 
--- the text that is in the record
-last_in : (h o : House) (c : Clearinghouse) (text octets : List ℕ) → h.home ≡ Some c → IsRecord h text octets → GoesOn octets o → o.last ≡ turn_in text
+-- ---- records
+
+-- a house was made, and has this last turn
+pub record HasLast (last : List ℕ) (o : House) : Type 0 where
+  pub last_is : o.last ≡ last
+  pub home : Clearinghouse
+  pub made : o.home ≡ Some home
+
+-- the turn that is in the record of a house that was made
+last_in : (h o : House) (c : Clearinghouse) (text octets : List ℕ) → h.home ≡ Some c → IsRecord h text octets → GoesOn octets o → HasLast (turn_in text) o
 last_in h _ c text octets made is (Anew clock body) =
     let none = (one_record octets h.entry h.clock text (image_in h.home) 0 clock (codes "new" ++ 10 ∷ []) None is.body body).3 in
     let some : image_in h.home ≡ Some (image_octets (image_of c)) = ap image_in made in
     absurd (cc (none, some))
 last_in h _ c text octets made is (From entry clock text' image c' body starts) =
-    ap turn_in (sym (one_record octets h.entry h.clock text (image_in h.home) entry clock text' (Some image) is.body body).2)
+    record {
+      last_is = ap turn_in (sym (one_record octets h.entry h.clock text (image_in h.home) entry clock text' (Some image) is.body body).2);
+      home = c';
+      made = refl;
+    }
+
+last_with : (h o : House) (c : Clearinghouse) (text last octets : List ℕ) → h.home ≡ Some c → IsRecord h text octets → turn_in text ≡ last
+    → GoesOn octets o → HasLast last o
+last_with h o c text last octets made is turn goes =
+    let has = last_in h o c text octets made is goes in
+    record { last_is = has.last_is ∙ turn; home = has.home; made = has.made }
 
 -- that of a turn
+pub turn_goes_on : (h o : House) (c : Clearinghouse) (text octets : List ℕ) → h.home ≡ Some c → is_start text ≡ false → IsRecord h text octets
+    → GoesOn octets o → HasLast text o
+turn_goes_on h o c text octets made none is goes =
+    last_with h o c text text octets made is (ap (λ b. if b then after_line text else text) none) goes
+
 pub last_of_turn : (h o : House) (c : Clearinghouse) (text octets : List ℕ) → h.home ≡ Some c → is_start text ≡ false → IsRecord h text octets
     → GoesOn octets o → o.last ≡ text
-last_of_turn h o c text octets made none is goes =
-    last_in h o c text octets made is goes ∙ ap (λ b. if b then after_line text else text) none
+last_of_turn h o c text octets made none is goes = (turn_goes_on h o c text octets made none is goes).last_is
 
 -- the one before a start
+pub start_goes_on : (h o : House) (c : Clearinghouse) (last octets : List ℕ) → h.home ≡ Some c → IsRecord h (start_text (Some c) last) octets
+    → GoesOn octets o → HasLast last o
+start_goes_on h o c last octets made is goes = last_with h o c (start_text (Some c) last) last octets made is refl goes
+
 pub last_of_start : (h o : House) (c : Clearinghouse) (last octets : List ℕ) → h.home ≡ Some c → IsRecord h (start_text (Some c) last) octets
     → GoesOn octets o → o.last ≡ last
-last_of_start h o c last octets made is goes = last_in h o c (start_text (Some c) last) octets made is goes
+last_of_start h o c last octets made is goes = (start_goes_on h o c last octets made is goes).last_is
 
 -- the one before a next segment
+after_segment : (h : House) (c : Clearinghouse) → after_line (segment_text h (Some c)) ≡ h.last
+after_segment h c =
+    cut_after 10 (segment_text h (Some c)) (codes "segment " ++ decimal h.entry) h.last (after_line (segment_text h (Some c))) refl
+    (All-append (λ (b : ℕ). b ≢ 10) (codes "segment ") (decimal h.entry) (text_ends_nowhere (codes "segment ") refl) (decimal_ends_nowhere h.entry))
+    refl
+
+pub segment_goes_on : (h o : House) (c : Clearinghouse) (octets : List ℕ) → h.home ≡ Some c → IsRecord h (segment_text h (Some c)) octets
+    → GoesOn octets o → HasLast h.last o
+segment_goes_on h o c octets made is goes = last_with h o c (segment_text h (Some c)) h.last octets made is (after_segment h c) goes
+
 pub last_of_segment : (h o : House) (c : Clearinghouse) (octets : List ℕ) → h.home ≡ Some c → IsRecord h (segment_text h (Some c)) octets
     → GoesOn octets o → o.last ≡ h.last
-last_of_segment h o c octets made is goes =
-    last_in h o c (segment_text h (Some c)) octets made is goes
-    ∙ cut_after 10 (segment_text h (Some c)) (codes "segment " ++ decimal h.entry) h.last (after_line (segment_text h (Some c))) refl
-    (All-append (λ (b : ℕ). b ≢ 10) (codes "segment ") (decimal h.entry)
-    (All-from_recursion (λ (b : ℕ). b ≢ 10) (codes "segment ")
-    (omega arith, (omega arith, (omega arith, (omega arith, (omega arith, (omega arith, (omega arith, (omega arith, tt)))))))))
-    (decimal_ends_nowhere h.entry))
-    refl
+last_of_segment h o c octets made is goes = (segment_goes_on h o c octets made is goes).last_is
+
+-- ---- lines
+
+-- a line gives no record, and leaves the last turn; or its record is that of a turn, which is the
+-- last one then
+pub data LineKept (h : House) (said : Said) (h' : House) : Type 0 where
+  NoTurn : said.body ≡ None → h'.home ≡ h.home → h'.last ≡ h.last → LineKept h said h'
+  OneTurn : (octets : List ℕ) (c : Clearinghouse) → said.body ≡ Some octets → h'.home ≡ Some c → IsTurnText h'.last
+      → ((o : House) → GoesOn octets o → HasLast h'.last o) → LineKept h said h'
+
+module _ (h : House) (number : ℕ) (said : Said) (h' : House) where
+  lines_kept : (lines : List (List ℕ)) → TellsLines h number lines said h' → LineKept h said h'
+  lines_kept lines told =
+      NoTurn (ap (λ (s : Said). s.body) told.0) (ap (λ (k : House). k.home) told.1) (ap (λ (k : House). k.last) told.1)
+
+  -- a turn of a house that may have got its node in it
+  turn_kept : (g : House) (line : List ℕ) → BeginsTurn line → (posts : List Post) (answer : List ℕ) → HasNoEnd answer → (c' : Clearinghouse)
+      → IsTurnReply g number line posts answer c' said h' → LineKept h said h'
+  turn_kept g line begins posts answer one_line c' reply =
+      let text : List ℕ = turn_text line posts answer in
+      let home : h'.home ≡ Some c' = ap (λ (k : House). k.home) reply.after in
+      let last : h'.last ≡ text = ap (λ (k : House). k.last) reply.after in
+      OneTurn reply.octets c' reply.body home
+      (record { line = line; posts = posts; answer = answer; is = last; line_ends_nowhere = begins.plain; answer_ends_nowhere = one_line })
+      (λ o goes.
+      subst (λ (l : List ℕ). HasLast l o) (sym last)
+      (turn_goes_on h' o c' text reply.octets home (begins.no_start (10 ∷ (posts_text posts ++ (answer ++ 10 ∷ [])))) reply.record_is goes))
+
+  module _ (c : Clearinghouse) (home : h.home ≡ Some c) (line : List ℕ) (begins : BeginsTurn line) where
+    outcome_kept : (says : HouseLine) (o : Outcome) (c' : Clearinghouse) → ComesTo c h.clock says o c' → IsReply h number line o c' said h'
+        → LineKept h said h'
+    outcome_kept says (Tells lines) c' comes reply =
+        NoTurn (ap (λ (s : Said). s.body) reply.0)
+        (ap (λ (k : House). k.home) reply.1 ∙ ap (λ (d : Clearinghouse). Some d) comes.stays ∙ sym home) (ap (λ (k : House). k.last) reply.1)
+    outcome_kept says (Posts posts answer) c' comes reply = turn_kept h line begins posts answer comes.one_line c' reply
+
+    refusal_kept : (says : HouseLine) (r : Option (List ℕ)) → UnlessRefused h c number line says r said h' → LineKept h said h'
+    refusal_kept says (Some refusal) reply = lines_kept (refusal ∷ []) reply
+    refusal_kept says None reply = outcome_kept says reply.outcome reply.c' reply.comes reply.reply
+
+    question_kept : (says : HouseLine) (q : Option (List (List ℕ))) → UnlessAsked h c number line says q said h' → LineKept h said h'
+    question_kept says (Some lines) reply = lines_kept lines reply
+    question_kept says None reply = refusal_kept says (early_refusal c says) reply
+
+    at_kept : (says : HouseLine) → RepliesAt h c number line says said h' → LineKept h said h'
+    at_kept (asks.House x node) reply = lines_kept (refused why.HouseExists ∷ []) reply
+    at_kept (asks.Clock time) reply =
+        NoTurn (ap (λ (s : Said). s.body) reply.0) (ap (λ (k : House). k.home) reply.1) (ap (λ (k : House). k.last) reply.1)
+    at_kept says reply = question_kept says (question_said c says) reply
+
+  anew_kept : (line : List ℕ) → BeginsTurn line → (says : HouseLine) → RepliesAnew h number line says said h' → LineKept h said h'
+  anew_kept line begins (asks.House x node) reply =
+      turn_kept (record h { node = node }) line begins [] (answer_line answer.Done) done_ends_nowhere (new_clearinghouse x node) reply
+  anew_kept line begins says reply = lines_kept (refused why.NoHouse ∷ []) reply
+
+  home_kept : (line : List ℕ) → BeginsTurn line → (says : HouseLine) (o : Option Clearinghouse) → h.home ≡ o → RepliesBy o h number line says said h'
+      → LineKept h said h'
+  home_kept line begins says None home reply = anew_kept line begins says reply
+  home_kept line begins says (Some c) home reply = at_kept c home line begins says reply
+
+  more_kept : (many : Bool) (octets : List ℕ) → RepliesMoreIf many h number octets said h' → LineKept h said h'
+  more_kept true octets reply = lines_kept (codes "refused TooLong" ∷ []) reply
+  more_kept false octets reply =
+      NoTurn (ap (λ (s : Said). s.body) reply.0) (ap (λ (k : House). k.home) reply.1) (ap (λ (k : House). k.last) reply.1)
+
+  message_kept : (c : Clearinghouse) → h.home ≡ Some c → (many : Bool) (octets : List ℕ) → RepliesTakeIf many h c number octets said h'
+      → LineKept h said h'
+  message_kept c home true octets reply = lines_kept (codes "refused TooLong" ∷ []) reply
+  message_kept c home false octets reply = at_kept c home (take_line octets) (take_begins octets) (asks.Take octets) reply
+
+  take_kept : (o : Option Clearinghouse) → h.home ≡ o → (octets : List ℕ) → RepliesTake o h number octets said h' → LineKept h said h'
+  take_kept None home octets reply = lines_kept (refused why.NoHouse ∷ []) reply
+  take_kept (Some c) home octets reply = message_kept c home (nat_lt MOST_MESSAGE (length octets)) octets reply
+
+  words_kept : (words : List (List ℕ)) (says : HouseLine) → said_in words ≡ Ok (Some says) → RepliesTo h number words says said h' → LineKept h said h'
+  words_kept words (asks.More octets) is reply = more_kept (nat_lt MOST_MESSAGE (length (h.more ++ octets))) (h.more ++ octets) reply
+  words_kept words (asks.Take octets) is reply = take_kept h.home refl (h.more ++ octets) reply
+  words_kept words says is reply = home_kept (with_spaces words) (line_begins words says is) says h.home refl reply
+
+  pub line_kept : (line : List ℕ) → Responds h number line said h' → LineKept h said h'
+  line_kept line reply = by (said_in (words_of line)) refl reply
+    where
+      by : (r : Result (Option HouseLine) ParseFault) → said_in (words_of line) ≡ r → RepliesIf h number (words_of line) r said h' → LineKept h said h'
+      by (Ok None) is reply =
+          NoTurn (ap (λ (s : Said). s.body) reply.0) (ap (λ (k : House). k.home) reply.1) (ap (λ (k : House). k.last) reply.1)
+      by (Ok (Some says)) is reply = words_kept (words_of line) says is reply
+      by (Err fault) is reply =
+          NoTurn (ap (λ (s : Said). s.body) reply.0) (ap (λ (k : House). k.home) reply.1) (ap (λ (k : House). k.last) reply.1)
+
+-- a record that a line gives is that of the last turn
+pub last_of_reply : (h h' o : House) (number : ℕ) (line octets : List ℕ) (said : Said) → Responds h number line said h' → said.body ≡ Some octets
+    → GoesOn octets o → o.last ≡ h'.last
+last_of_reply h h' o number line octets said reply some goes = by (line_kept h number said h' line reply)
+  where
+    by : LineKept h said h' → o.last ≡ h'.last
+    by (NoTurn none home last) = absurd (cc (none, some))
+    by (OneTurn others c is home turn keeps) =
+        let same : octets ≡ others = cc (some, is) in
+        (keeps o (subst (λ (b : List ℕ). GoesOn b o) same goes)).last_is
+
+-- ---- what can be said again
+
+-- a house has a turn, whether it was made or not
+pub has_turn : (o : Option Clearinghouse) (last : List ℕ) → IsTurnText last → HasTurn o last
+has_turn None last turn = tt
+has_turn (Some c) last turn = turn
+
+pub turn_after : (h h' : House) (number : ℕ) (line : List ℕ) (said : Said) → Responds h number line said h' → HasTurn h.home h.last
+    → HasTurn h'.home h'.last
+turn_after h h' number line said reply turn = by (line_kept h number said h' line reply)
+  where
+    by : LineKept h said h' → HasTurn h'.home h'.last
+    by (NoTurn none home last) =
+        subst (λ (o : Option Clearinghouse). HasTurn o h'.last) (sym home) (subst (λ (l : List ℕ). HasTurn h.home l) (sym last) turn)
+    by (OneTurn octets c is home text keeps) = has_turn h'.home h'.last text

@@ -1,7 +1,10 @@
 mod Pieces
 mod Cuts
 mod SaidAgain
-mod LastTurns
+mod PlainTexts
+mod PlainWords
+mod PlainLines
+pub mod LastTurns
 mod Letters
 mod Outcomes
 mod Comes

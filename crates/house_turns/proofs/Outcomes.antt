@@ -29,8 +29,9 @@ use Rattle.clearinghouse.specs.HouseSteps.{IsStep, IsTurn}
 use Rattle.clearinghouse.specs.ModelHouses.{StandsHouse}
 use Rattle.cell_runs.specs.OrderSteps.{then_found, with_number}
 use Rattle.cell_runs.specs.Entries.{Post}
-use Rattle.cell_runs.specs.LineAnswers.{answer_said, refused, update_refusal_of}
-use Rattle.house_turns.specs.HouseReplies.{IsOutcome, Posts, Tells}
+use Rattle.cds_cell.specs.Scripted.{update_refusal_of}
+use Rattle.cell_runs.specs.LineAnswers.{answer_said, refused}
+use Rattle.house_turns.specs.LineOutcomes.{IsOutcome, Posts, Tells}
 use Rattle.house_turns.specs.PrivateTurns.{ArePostsOf, epoch_refusal_of, taken_line}
 use Rattle.house_turns.proofs.Letters.{posts_stand}
 

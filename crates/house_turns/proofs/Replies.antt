@@ -25,8 +25,9 @@ use Rattle.cell_model.specs.Turns.{HouseStep, Stays}
 use Rattle.script_answers.specs.Texts.{parse_fault_text}
 use Rattle.script_answers.specs.declared.answer.ScriptRefusal.TheVariants as why
 use Rattle.house_turns.specs.declared.said.Said.TheVariants.{Told, Turned}
-use Rattle.house_turns.specs.HouseReplies.{IsOutcome, IsReply, Outcome, Posts, RepliesAnew, RepliesAt, RepliesBy, RepliesIf, RepliesMore, RepliesMoreIf, RepliesTake, RepliesTakeIf, RepliesTo, Responds}
-use Rattle.house_turns.specs.HouseReplies.{Tells, TellsLines, UnlessAsked, UnlessRefused, with_spaces, new_clearinghouse, take_line, tells_alone, turn_text}
+use Rattle.house_turns.specs.LineOutcomes.{IsOutcome, Outcome, Posts, Tells}
+use Rattle.house_turns.specs.HouseReplies.{IsReply, RepliesAnew, RepliesAt, RepliesBy, RepliesIf, RepliesMore, RepliesMoreIf, RepliesTake, RepliesTakeIf, RepliesTo, Responds}
+use Rattle.house_turns.specs.HouseReplies.{TellsLines, UnlessAsked, UnlessRefused, with_spaces, new_clearinghouse, take_line, tells_alone, turn_text}
 use Rattle.house_turns.specs.HouseAnswers.{early_refusal, question_said}
 use Rattle.house_turns.specs.LineSteps.{step_at}
 use Rattle.house_turns.specs.PrivateTurns.{AsksHome, Comes, ComesUnless, Does, DoesAnew, DoesAt, DoesBy, DoesOrTells, ReplyOf, Says, TurnReply}
@@ -98,6 +99,7 @@ nothing_comes (Ok s) number c clock l nothing says = record {
     step = λ now m stands ticks carries.
         subst (λ (k : HouseStep). IsOutcome k (Tells (answer_line answer.Done ∷ [])) c c) (sym (nothing c.house.0 now m)) (refl, refl);
     stays = refl;
+    one_line = tt;
     house = refl;
     node = refl;
     lawful = λ lawful. lawful;

@@ -11,8 +11,9 @@ use Rattle.hex.specs.Hex.{encode_lower, encode_with, lower_digits}
 use Rattle.hex.proofs.HexLemmas.{length-encode_with}
 use Rattle.script_answers.specs.Texts.{line_text, lines_text}
 use Rattle.cell_runs.specs.Entries.{Post}
+use Rattle.house_turns.specs.LineOutcomes.{HasNoEnd}
 use Rattle.house_turns.specs.HouseReplies.{posts_lines, posts_text, turn_lines}
-use Rattle.house_turns.specs.Openings.{HasNoEnd, again_lines, said_again}
+use Rattle.house_turns.specs.Openings.{again_lines, said_again}
 use Rattle.house_turns.specs.PostTexts.{piece_lines, pieces_of, post_line}
 use Rattle.house_turns.proofs.Cuts.{cut_after, cut_before}
 use Rattle.house_turns.proofs.Pieces.{last_lines, more_lines, written_more}
@@ -186,6 +187,10 @@ no_end b is = is.0
 -- no line ends in a decimal number
 pub decimal_ends_nowhere : (n : ℕ) → HasNoEnd (decimal n)
 decimal_ends_nowhere n = All-weaker IsDigit (λ (b : ℕ). b ≢ 10) no_end (decimal n) (decimal_digits n)
+
+-- nor in hexadecimal digits
+pub hex_ends_nowhere : (octets : List ℕ) → HasNoEnd (encode_lower octets)
+hex_ends_nowhere octets = All-weaker IsDigit (λ (b : ℕ). b ≢ 10) no_end (encode_lower octets) (hex_digits octets)
 
 -- what comes after its word
 pub message_cut : (p : Post) (line message : List ℕ) → line ≡ post_line (codes "post ") p.to p.octets → message ≡ after_first (λ b. eqb b 32) line

@@ -3,28 +3,23 @@
 use Rattle.std.specs.Prelude.{◌≡◌, ℕ, ◌+◌, nat_lt, Bool, true, false, List, [], ◌∷◌, ◌++◌, length, Option, Some, None, Result, Ok, Err, codes}
 use Rattle.std.specs.FinMap.{empty}
 use Rattle.std.specs.List.{flat_map}
-use Rattle.cell_model.specs.Cells as model
-use Rattle.cell_model.specs.Turns.{HouseStep, Stays, Turns}
 use Rattle.cds_stamps.specs.declared.numbers.HouseNo.{HouseNo}
 use Rattle.cell_script.specs.Words.{words_of}
 use Rattle.cell_script.specs.declared.fault.ParseFault.{ParseFault}
 use Rattle.script_answers.specs.Texts.{answer_line, lines_text, parse_fault_text}
 use Rattle.script_answers.specs.declared.answer.Answer.TheVariants as answer
 use Rattle.script_answers.specs.declared.answer.ScriptRefusal.TheVariants as why
-use Rattle.clearinghouse.specs.LawfulHouses.{IsLawful}
-use Rattle.clearinghouse.specs.ModelHouses.{StandsHouse}
 use Rattle.clearinghouse.specs.declared.house.Clearinghouse.{Clearinghouse}
 use Rattle.house_lines.specs.LineRows.{said_in}
 use Rattle.house_lines.specs.declared.line.HouseLine.{HouseLine}
 use Rattle.house_lines.specs.declared.line.HouseLine.TheVariants as asks
 use Rattle.house_serving.specs.Turns.{Said}
 use Rattle.cell_runs.specs.Entries.{Post}
-use Rattle.cell_runs.specs.LineAnswers.{answer_said, refused}
-use Rattle.cell_runs.specs.OrderSteps.{ArePosts}
+use Rattle.cell_runs.specs.LineAnswers.{refused}
 use Rattle.house_turns.specs.declared.house.House.{House}
 use Rattle.house_turns.specs.declared.house.TheConstants.{MOST_MESSAGE}
-use Rattle.house_turns.specs.LineSteps.{CarriesAt, step_at}
 use Rattle.house_turns.specs.HouseAnswers.{early_refusal, question_said}
+use Rattle.house_turns.specs.LineOutcomes.{ComesTo, Outcome, Posts, Tells}
 use Rattle.house_turns.specs.Records.{IsRecord}
 use Rattle.house_turns.specs.PostTexts.{octets_line, piece_lines, pieces_of, post_line}
 
@@ -56,39 +51,6 @@ with_spaces (w ∷ v ∷ ws) = w ++ (32 ∷ with_spaces (v ∷ ws))
 abbrev pub take_line : List ℕ → List ℕ
 take_line octets = octets_line (codes "take ") octets
 
--- ---- what a line comes to
-
--- no turn: an answer alone; or a turn: what it posts, and its answer (own)
-pub data Outcome : Type 0 where
-  Tells : (lines : List (List ℕ)) → Outcome
-  Posts : (posts : List Post) → (answer : List ℕ) → Outcome
-
--- a line comes to what the step of the model is: its answer, and nothing changes; or the messages
--- and the answer of the turn, and then the clearinghouse is for the house after it (own)
-abbrev pub IsOutcome : HouseStep → Outcome → (c c' : Clearinghouse) → Type 0
-IsOutcome (Stays answer) (Tells lines) c c' = (lines ≡ answer_said answer ∷ []) × (c' ≡ c)
-IsOutcome (Turns turn) (Posts posts answer) c c' =
-    ArePosts posts turn.posts × ((ns : List ℕ) → answer ≡ answer_said (turn.answer ns))
-    × StandsHouse c' turn.house
-IsOutcome _ _ c c' = ⊥
-
--- an answer alone changes nothing (own)
-abbrev pub StaysAt : Outcome → (c c' : Clearinghouse) → Type 0
-StaysAt (Tells lines) c c' = c' ≡ c
-StaysAt (Posts posts answer) c c' = Unit {0}
-
--- what a line comes to at a clearinghouse, and how that is after it. Whichever house of the model
--- it is for, and whichever message a `take` is for, it is that house's step (own)
-pub record ComesTo (c : Clearinghouse) (clock : ℕ) (said : HouseLine) (outcome : Outcome)
-    (c' : Clearinghouse) : Type 0 where
-  pub step : (now : model.House) (m : model.Message) → StandsHouse c now → now.clock ≡ clock
-      → CarriesAt c.house.0 now said m
-      → IsOutcome (step_at c.house.0 now said m) outcome c c'
-  pub stays : StaysAt outcome c c'
-  pub house : c'.house ≡ c.house
-  pub node : c'.node ≡ c.node
-  pub lawful : IsLawful c → IsLawful c'
-
 -- ---- replies
 
 -- a clearinghouse that is new (own)
@@ -104,6 +66,10 @@ tells_alone number lines = record { text = lines_text number lines; body = None 
 abbrev pub with_home : House → Option Clearinghouse → House
 with_home h c = record h { home = c; more = [] }
 
+-- a house after a turn: it has this clearinghouse, one entry more, and this last turn (own)
+abbrev pub after_turn : House → Clearinghouse → (turn : List ℕ) → House
+after_turn h c turn = record h { home = Some c; entry = h.entry + 1; last = turn; more = [] }
+
 -- a turn: its lines; its record, which is that of the house after it; and that house (own)
 pub record IsTurnReply (h : House) (number : ℕ) (line : List ℕ) (posts : List Post)
     (answer : List ℕ) (c' : Clearinghouse) (said : Said)
@@ -112,7 +78,7 @@ pub record IsTurnReply (h : House) (number : ℕ) (line : List ℕ) (posts : Lis
   pub octets : List ℕ
   pub body : said.body ≡ Some octets
   pub record_is : IsRecord h' (turn_text line posts answer) octets
-  pub after : h' ≡ record h { home = Some c'; entry = h.entry + 1; last = turn_text line posts answer; more = [] }
+  pub after : h' ≡ after_turn h c' (turn_text line posts answer)
 
 -- the reply that what a line comes to gives (own)
 abbrev pub IsReply : House → ℕ → (line : List ℕ) → Outcome → (c' : Clearinghouse) → Said → House
@@ -132,7 +98,8 @@ pub record StepReply (h : House) (c : Clearinghouse) (number : ℕ) (line : List
 
 -- these lines alone are the answer, and the house has no octets of a message (own)
 abbrev pub TellsLines : House → ℕ → List (List ℕ) → Said → House → Type 0
-TellsLines h number lines said h' = (said ≡ tells_alone number lines) × (h' ≡ record h { more = [] })
+TellsLines h number lines said h' =
+    (said ≡ tells_alone number lines) × (h' ≡ record h { more = [] })
 
 -- the reply to a line, unless this refusal comes before (own)
 abbrev pub UnlessRefused : House → (c : Clearinghouse) → ℕ → (line : List ℕ) → HouseLine

@@ -1,6 +1,6 @@
 -- How a house goes on from the last record of its folder, the first record of a process, and what
 -- it says first.
-use Rattle.std.specs.Prelude.{◌≡◌, ◌≢◌, All, ℕ, ◌+◌, ◌==◌, ◌||◌, Bool, List, [], ◌∷◌, ◌++◌, length, take, if◌then◌else◌, Option, Some, None, Ok, codes, decimal}
+use Rattle.std.specs.Prelude.{◌≡◌, ℕ, ◌+◌, ◌==◌, ◌||◌, Bool, List, [], ◌∷◌, ◌++◌, length, take, if◌then◌else◌, Option, Some, None, Ok, codes, decimal}
 use Rattle.std.specs.List.{after_first}
 use Rattle.std.specs.Str.{bytes_eq}
 use Rattle.hex.specs.Hex.{encode_lower}
@@ -10,7 +10,8 @@ use Rattle.clearinghouse.specs.declared.house.Clearinghouse.{Clearinghouse}
 use Rattle.house_entries.specs.Bodies.{IsBody}
 use Rattle.cell_runs.specs.Entries.{Post}
 use Rattle.house_turns.specs.declared.house.House.{House}
-use Rattle.house_turns.specs.HouseReplies.{turn_lines}
+use Rattle.house_turns.specs.LineOutcomes.{HasNoEnd}
+use Rattle.house_turns.specs.HouseReplies.{turn_lines, turn_text}
 
 -- the house of a folder that has none
 abbrev pub new_house : House
@@ -66,10 +67,6 @@ segment_text h (Some c) = codes "segment " ++ (decimal h.entry ++ (10 ∷ h.last
 
 -- ---- what a house says first
 
--- no line ends among octets
-abbrev pub HasNoEnd : List ℕ → Type 0
-HasNoEnd = All (λ b. b ≢ 10)
-
 -- the line of a turn as it is said again: of `take` the word alone
 abbrev pub said_again : (line : List ℕ) → List ℕ
 said_again line = if begins_with (codes "take ") line then codes "take" else line
@@ -82,9 +79,23 @@ again_lines line posts answer = (codes "last " ++ said_again line) ∷ turn_line
 abbrev pub house_said : (house node : ℕ) → List ℕ
 house_said house node = codes "house " ++ (decimal house ++ (32 ∷ encode_lower (node_octets node)))
 
+-- a text is that of a turn whose line and whose answer are one line each
+pub record IsTurnText (text : List ℕ) : Type 0 where
+  pub line : List ℕ
+  pub posts : List Post
+  pub answer : List ℕ
+  pub is : text ≡ turn_text line posts answer
+  pub line_ends_nowhere : HasNoEnd line
+  pub answer_ends_nowhere : HasNoEnd answer
+
+-- a house that was made has a last turn
+abbrev pub HasTurn : Option Clearinghouse → (last : List ℕ) → Type 0
+HasTurn None last = Unit {0}
+HasTurn (Some c) last = IsTurnText last
+
 -- the first lines: that there is no house; or who it is, and its last turn again
-abbrev pub first_lines : House → Option Clearinghouse → (line : List ℕ) → List Post → (answer : List ℕ)
+abbrev pub first_lines : (h : House) → (home : Option Clearinghouse) → HasTurn home h.last
     → List (List ℕ)
-first_lines h None line posts answer = codes "new" ∷ []
-first_lines h (Some c) line posts answer =
-    house_said c.house.0 h.node ∷ again_lines line posts answer
+first_lines h None turn = codes "new" ∷ []
+first_lines h (Some c) turn =
+    house_said c.house.0 h.node ∷ again_lines turn.line turn.posts turn.answer

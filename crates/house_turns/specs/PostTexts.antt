@@ -23,7 +23,8 @@ end_line count = codes "end " ++ decimal count
 
 -- octets in pieces of 2,000, and how many they are
 abbrev pub octets_lines : List ℕ → List (List ℕ)
-octets_lines octets = map (octets_line (codes "octets ")) (pieces_of 2000 octets) ++ end_line (length octets) ∷ []
+octets_lines octets =
+    map (octets_line (codes "octets ")) (pieces_of 2000 octets) ++ end_line (length octets) ∷ []
 
 -- a line of a message to a house: a word with a space, the house, and octets in hexadecimal digits
 abbrev pub post_line : (word : List ℕ) → (to : ℕ) → (octets : List ℕ) → List ℕ

@@ -43,7 +43,9 @@ use Rattle.clearinghouse.specs.HouseImages.{start_of_octets}
 use Rattle.clearinghouse.specs.LawfulHouses.{IsLawful}
 use Rattle.clearinghouse.specs.ModelHouses.{StandsHouse}
 use Rattle.house_turns.specs.declared.house.House.{House}
-use Rattle.house_turns.specs.HouseReplies.{ComesTo, IsOutcome, Outcome, Posts, StaysAt, Tells, new_clearinghouse, turn_lines, turn_text}
+use Rattle.house_turns.specs.LineOutcomes.{ComesTo, IsOneLine, IsOutcome, Outcome, Posts, StaysAt, Tells}
+use Rattle.house_turns.specs.HouseReplies.{new_clearinghouse, turn_lines, turn_text}
+use Rattle.house_turns.specs.Openings.{started_with}
 use Rattle.house_turns.specs.Records.{IsRecord}
 use Rattle.house_turns.specs.HouseAnswers.{early_refusal, question_said}
 
@@ -149,6 +151,7 @@ pub record TakesMessage (number : ℕ) (old new : Clearinghouse) (message : Mess
       → StandsMessage old.house.0 message m → CanTake now m
       → IsOutcome (take now m) outcome old new
   pub stays : StaysAt outcome old new
+  pub one_line : IsOneLine outcome
   pub house : new.house ≡ old.house
   pub node : new.node ≡ old.node
   pub lawful : IsLawful old → IsLawful new
@@ -163,6 +166,7 @@ pub record MakesChild (number : ℕ) (old new : Clearinghouse) (clock : ℕ) (di
       → IsOutcome (then_found old.house.0 child.0 members
       (accept old.house.0 now dir.0 change)) outcome old new
   pub stays : StaysAt outcome old new
+  pub one_line : IsOneLine outcome
   pub house : new.house ≡ old.house
   pub node : new.node ≡ old.node
   pub lawful : IsLawful old → IsLawful new
@@ -224,4 +228,4 @@ ReplyOf h number line (Turned ps octets) reply h' =
 pub record StartsFrom (entry : ℕ) (turn image : List ℕ) (h : House) : Type 0 where
   pub home : Clearinghouse
   pub starts : start_of_octets image ≡ Ok home
-  pub is : h ≡ record { home = Some home; node = home.node; clock = 0; entry = entry; last = turn; more = [] }
+  pub is : h ≡ started_with home entry turn

@@ -4,9 +4,10 @@ ghost use Rattle.std.specs.List.{after_first, before_first, position};
 ghost use Rattle.hex.specs.Hex.{encode_lower};
 ghost use Rattle.script_answers.specs.Texts.{line_text, lines_text};
 ghost use Rattle.cell_runs.specs.Entries.{Post};
+ghost use Rattle.house_turns.specs.LineOutcomes.{HasNoEnd};
 ghost use Rattle.house_turns.specs.HouseReplies.{posts_text, turn_lines, turn_text};
 ghost use Rattle.house_turns.specs.Openings as openings;
-ghost use Rattle.house_turns.specs.Openings.{HasNoEnd, again_lines};
+ghost use Rattle.house_turns.specs.Openings.{again_lines};
 ghost use Rattle.house_turns.specs.PostTexts.{piece_lines, pieces_of, post_line};
 
 use script_answers::begin_line;

@@ -4,7 +4,7 @@ ghost use Rattle.std.specs.FinMap as map;
 ghost use Rattle.cds_records.specs.RecordOctets.{image_octets};
 ghost use Rattle.clearinghouse.specs.HouseImages.{image_of};
 ghost use Rattle.house_directory.specs.DirectoryTakes.{held_in};
-ghost use Rattle.house_turns.specs.HouseReplies.{Tells};
+ghost use Rattle.house_turns.specs.LineOutcomes.{Tells};
 ghost use Rattle.house_turns.specs.HouseAnswers.{dump_said, look_said, values_lines};
 ghost use Rattle.house_turns.specs.PrivateTurns.{Says};
 ghost use Rattle.house_turns.specs.PostTexts.{octets_lines};

@@ -6,9 +6,10 @@ ghost use Rattle.directory.specs.Updates.{change_of};
 ghost use Rattle.house_lines.specs.declared.line.HouseLine.TheVariants as line;
 ghost use Rattle.house_turns.specs.PrivateTurns.{Does, MakesChild};
 
-use crate::lists::{first_members, house_list};
-use crate::said::{Posts, Said, refused, turned, update_refused};
+use crate::lists::first_members;
+use crate::said::{Posts, Said, refused, turned};
 use crate::turns::letters;
+use cds_cell::{house_list, refusal_in_script};
 use cds_stamps::{DirId, Members, SimpleName};
 use cell_names::ChildPointer;
 use cell_script::Listeds;
@@ -97,6 +98,6 @@ fn make_child(
             let answer = Answer::Made(child, stamp, Serials::new(alloc));
             turned(alloc, Posts { first, second }, &answer)
         }
-        Err(refusal) => refused(alloc, number, update_refused(alloc, refusal)),
+        Err(refusal) => refused(alloc, number, refusal_in_script(alloc, refusal)),
     }
 }

@@ -133,8 +133,8 @@ impl House {
     fn gather(&mut self, octets: &[u8]) -> Result<bool, AllocError>
         ensures fits { IfOk result
             (λ b. b ≡ not (nat_lt MOST_MESSAGE (length (self.old.more ++ octets.now)))) }
-        ensures after { IfOk result
-            (λ b. self.new ≡ record self.old { more = if b then self.old.more ++ octets.now else [] }) }
+        ensures after { IfOk result (λ b. self.new
+            ≡ record self.old { more = if b then self.old.more ++ octets.now else [] }) }
     {
         let count = self.more.list().len();
         if octets.len() > MOST_MESSAGE || count > MOST_MESSAGE - octets.len() {
@@ -176,8 +176,8 @@ impl House {
         posts: &Posts,
         answer: &[u8],
     ) -> Result<Reply, AllocError>
-        ensures { IfOk result (λ r.
-            TurnReply self.old number line.now (posts_in posts.now) answer.now (said_in r) self.new) }
+        ensures { IfOk result (λ r. TurnReply self.old number line.now (posts_in posts.now)
+            answer.now (said_in r) self.new) }
     {
         let kept = turn_text(alloc, line, posts, answer)?;
         self.entry = self.entry.checked_add(1).ok_or(AllocError)?;

@@ -1,87 +1,18 @@
 // Lists of houses, as lines name them.
-ghost use Rattle.std.specs.Prelude.{◌≡◌, ◌∷◌, [], true, false, not, nat_le, is_none, IfOk, MatchOption};
+ghost use Rattle.std.specs.Prelude.{◌≡◌, ◌∷◌, true, false, not, nat_le, is_none, IfOk, MatchOption};
 ghost use Rattle.std.specs.List.{list_all};
 ghost use Rattle.cds_stamps.specs.Members.{is_listed, master_of, members_fault, members_of};
-ghost use Rattle.cell_model.specs.Sets.{has};
 ghost use Rattle.cell_model.specs.Steps as model;
-ghost use Rattle.cell_model.specs.Steps.{sorted_houses};
-ghost use Rattle.cell_script.specs.Listings.{houses_in, secondaries_in};
 ghost use Rattle.house_directory.specs.HouseMessages.{numbers_of};
 ghost use Rattle.house_turns.specs.HouseAnswers.{ascend_from, is_given};
 ghost use Rattle.house_turns.specs.LineSteps.{listed_houses};
 ghost use Rattle.house_turns.specs.LineSteps as steps;
 
-use cds_stamps::{AllocOr, EpochNo, HouseNo, MOST_MEMBERS, Member, MemberKind, Members};
-use cell_names::HouseList;
-use cell_script::{Listed, Listeds};
+use cds_cell::member_list;
+use cds_stamps::{AllocOr, EpochNo, HouseNo, Member, Members};
+use cell_script::Listeds;
 use house_lines::EpochList;
 use std::alloc::{AllocError, Global};
-
-/// Whether a house is named twice, or there are more than 64. It takes no memory.
-pub(crate) fn is_bad_list(master: HouseNo, others: &[HouseNo]) -> bool
-    ensures { result ≡ model.is_bad_list (master.0 ∷ numbers_of others.now) }
-{
-    others.len() >= MOST_MEMBERS || others.contains(&master) || is_twice_in(others)
-}
-
-// Whether a house is named twice.
-fn is_twice_in(houses: &[HouseNo]) -> bool
-    ensures { result ≡ model.stands_twice (numbers_of houses.now) }
-{
-    let mut rest = houses;
-    while let Some((first, behind)) = rest.split_first() {
-        if behind.contains(first) {
-            return true;
-        }
-        rest = behind;
-    }
-    false
-}
-
-// The houses in ascending order.
-fn in_order(mut houses: Vec<HouseNo>) -> Vec<HouseNo>
-    ensures { numbers_of result.items ≡ sorted_houses (numbers_of houses.items) }
-{
-    houses.sort_unstable();
-    houses
-}
-
-// The master and the others, in ascending order.
-fn all_in_order(
-    alloc: Global,
-    master: HouseNo,
-    others: &[HouseNo],
-) -> Result<Vec<HouseNo>, AllocError>
-    ensures { IfOk result
-        (λ v. numbers_of v.items ≡ sorted_houses (master.0 ∷ numbers_of others.now)) }
-{
-    let mut all = Vec::new(alloc);
-    all.push(master)?;
-    all.extend_from_slice(others)?;
-    Ok(in_order(all))
-}
-
-// Whether a list has the house as a secondary one.
-fn is_secondary(others: &[Listed], house: HouseNo) -> bool
-    ensures { result ≡ has house.0 (numbers_of (secondaries_in others.now)) }
-{
-    others
-        .iter()
-        .any(|listed| listed.secondary && listed.house == house)
-}
-
-// What a house is, by the master and the secondary houses of its list.
-fn kind_among(master: HouseNo, others: &[Listed], house: HouseNo) -> MemberKind
-    ensures { result ≡ model.kind_among master.0 (numbers_of (secondaries_in others.now)) house.0 }
-{
-    if house == master {
-        MemberKind::Master
-    } else if is_secondary(others, house) {
-        MemberKind::Secondary
-    } else {
-        MemberKind::ReadOnly
-    }
-}
 
 /// The members of a new directory with this master; none, if a house is named twice or they are
 /// more than 64.
@@ -95,37 +26,7 @@ pub(crate) fn first_members(
         (λ ms. (model.is_bad_list (master.0 ∷ listed_houses others.now) ≡ false)
         × (members_of ms ≡ steps.first_members master.0 others.now))) }
 {
-    if is_bad_list(master, others.houses()) {
-        return Ok(None);
-    }
-    let mut list = Vec::new(alloc);
-    for house in &all_in_order(alloc, master, others.houses())? {
-        list.push(Member {
-            house: *house,
-            since: EpochNo(1),
-            kind: kind_among(master, others.list(), *house),
-        })?;
-    }
-    Ok(Some(Members::known(alloc, &list)?))
-}
-
-/// The houses of a child; none, if one is named twice or they are more than 64.
-pub(crate) fn house_list(
-    alloc: Global,
-    master: HouseNo,
-    others: &[HouseNo],
-) -> Result<Option<HouseList>, AllocError>
-    ensures { IfOk result
-        (λ o. MatchOption o (model.is_bad_list (master.0 ∷ numbers_of others.now) ≡ true)
-        (λ h. (model.is_bad_list (master.0 ∷ numbers_of others.now) ≡ false)
-        × (h ≡ record { master = master.0; others = sorted_houses (numbers_of others.now) }))) }
-{
-    let others = in_order(Vec::from_slice(alloc, others)?);
-    match HouseList::new(alloc, master, &others) {
-        Ok(houses) => Ok(Some(houses)),
-        Err(AllocOr::Fault(_)) => Ok(None),
-        Err(AllocOr::OutOfMemory) => Err(AllocError),
-    }
+    member_list(alloc, &[], EpochNo(1), master, others)
 }
 
 // Whether houses ascend.

@@ -1,10 +1,8 @@
 // How a house goes on from the last record of its folder, and what it says first.
-ghost use Rattle.std.specs.Prelude.{◌≡◌, ℕ, List, [], ◌∷◌, ◌++◌, codes, IfOk, IfSome, OnOk, OnSome};
+ghost use Rattle.std.specs.Prelude.{◌≡◌, [], ◌∷◌, ◌++◌, codes, IfOk, IfSome, OnOk, OnSome};
 ghost use Rattle.script_answers.specs.Texts.{line_text, lines_text};
-ghost use Rattle.cell_runs.specs.Entries.{Post};
-ghost use Rattle.house_turns.specs.HouseReplies.{turn_text};
 ghost use Rattle.house_turns.specs.Openings as openings;
-ghost use Rattle.house_turns.specs.Openings.{GoesOn, HasNoEnd, after_start, first_lines, house_said, new_house, segment_text, start_text};
+ghost use Rattle.house_turns.specs.Openings.{GoesOn, HasTurn, after_start, first_lines, house_said, new_house, segment_text, start_text};
 ghost use Rattle.house_turns.specs.PrivateTurns.{StartsFrom};
 ghost use Rattle.house_turns.specs.Records.{IsRecord};
 
@@ -123,10 +121,8 @@ impl House {
 
     /// What the house says first: that there is none; or who it is, and its last turn again.
     pub fn first_words(&self, alloc: Global) -> Result<Vec<u8>, AllocError>
-        ensures { (line : List ℕ) (posts : List Post) (answer : List ℕ)
-            → self.now.last ≡ turn_text line posts answer → HasNoEnd line → HasNoEnd answer
-            → IfOk result (λ v. v.items
-            ≡ lines_text 0 (first_lines self.now self.now.home line posts answer)) }
+        ensures { (turn : HasTurn self.now.home self.now.last) → IfOk result
+            (λ v. v.items ≡ lines_text 0 (first_lines self.now self.now.home turn)) }
     {
         let mut text = Vec::new(alloc);
         let Some(home) = &self.home else {

@@ -1,18 +1,16 @@
 // What a line comes to, and the texts of that.
-ghost use Rattle.std.specs.Prelude.{◌≡◌, ◌∷◌, [], ℕ, None, IfOk};
+ghost use Rattle.std.specs.Prelude.{◌≡◌, ◌∷◌, [], ℕ, IfOk};
 ghost use Rattle.script_answers.specs.Texts.{answer_line, answer_lines, answer_text, lines_text};
 ghost use Rattle.script_answers.specs.declared.answer.ScriptRefusal.TheVariants as why;
 ghost use Rattle.cell_runs.specs.LineAnswers as lines;
-ghost use Rattle.cell_runs.specs.LineAnswers.{update_refusal_of};
-ghost use Rattle.house_turns.specs.HouseReplies as replies;
+ghost use Rattle.house_turns.specs.LineOutcomes as outcomes;
 ghost use Rattle.house_turns.specs.HouseAnswers.{octets_refusal};
 ghost use Rattle.house_turns.specs.PrivateTurns.{Says, posts_in, posts_of_letters};
 
 use cds_records::RecordFault;
 use cds_stamps::EpochNo;
 use clearinghouse::Letters;
-use directory::UpdateRefusal;
-use script_answers::{Answer, ScriptRefusal, Serials, append_answer, begin_line};
+use script_answers::{Answer, ScriptRefusal, append_answer, begin_line};
 use std::alloc::{AllocError, Global};
 
 /// The messages that a turn posts: one to some houses, and then another to some houses.
@@ -55,7 +53,7 @@ pub(crate) enum Said {
 
 /// No turn, with this answer.
 pub(crate) fn told(alloc: Global, number: u32, answer: &Answer) -> Result<Said, AllocError>
-    ensures { IfOk result (λ s. Says number s (replies.Tells (answer_lines answer.now))) }
+    ensures { IfOk result (λ s. Says number s (outcomes.Tells (answer_lines answer.now))) }
 {
     let mut text = Vec::new(alloc);
     append_answer(alloc, &mut text, number, answer)?;
@@ -68,14 +66,14 @@ pub(crate) fn refused(
     number: u32,
     refusal: ScriptRefusal,
 ) -> Result<Said, AllocError>
-    ensures { IfOk result (λ s. Says number s (replies.Tells (lines.refused refusal ∷ []))) }
+    ensures { IfOk result (λ s. Says number s (outcomes.Tells (lines.refused refusal ∷ []))) }
 {
     told(alloc, number, &Answer::Refused(refusal))
 }
 
 /// No turn: a line with these words.
 pub(crate) fn told_words(alloc: Global, number: u32, words: &[u8]) -> Result<Said, AllocError>
-    ensures { IfOk result (λ s. Says number s (replies.Tells (words.now ∷ []))) }
+    ensures { IfOk result (λ s. Says number s (outcomes.Tells (words.now ∷ []))) }
 {
     let mut text = Vec::new(alloc);
     begin_line(&mut text, number)?;
@@ -100,23 +98,9 @@ fn octets_of(alloc: Global, answer: &Answer) -> Result<Vec<u8>, AllocError>
 pub(crate) fn turned(alloc: Global, posts: Posts, answer: &Answer) -> Result<Said, AllocError>
     requires { answer_lines answer.now ≡ answer_line answer.now ∷ [] }
     ensures { (number : ℕ) → IfOk result
-        (λ s. Says number s (replies.Posts (posts_in posts) (answer_line answer.now))) }
+        (λ s. Says number s (outcomes.Posts (posts_in posts) (answer_line answer.now))) }
 {
     Ok(Said::Turned(posts, octets_of(alloc, answer)?))
-}
-
-/// Why an update is refused.
-pub(crate) fn update_refused(alloc: Global, refusal: UpdateRefusal) -> ScriptRefusal
-    ensures { result ≡ update_refusal_of refusal }
-{
-    match refusal {
-        UpdateRefusal::NoReplica => ScriptRefusal::NoReplica,
-        UpdateRefusal::NotMaster => ScriptRefusal::NotMaster,
-        UpdateRefusal::NoSuchEntry => ScriptRefusal::NoSuchEntry,
-        UpdateRefusal::EntryExists => ScriptRefusal::EntryExists,
-        UpdateRefusal::WrongKind => ScriptRefusal::WrongKind,
-        UpdateRefusal::StampsSpent => ScriptRefusal::StampsSpent(None, Serials::new(alloc)),
-    }
 }
 
 /// That an epoch is not above the one that is held: both have 64 bits.

@@ -2,7 +2,7 @@
 ghost use Rattle.std.specs.Prelude.{◌≡◌, ℕ, ◌+◌, ◌++◌, ◌∷◌, [], codes, decimal, IfOk};
 ghost use Rattle.cds_messages.specs.Validity.{IsValidMessage};
 ghost use Rattle.house_lines.specs.declared.line.HouseLine.TheVariants as line;
-ghost use Rattle.house_turns.specs.HouseReplies as replies;
+ghost use Rattle.house_turns.specs.LineOutcomes as outcomes;
 ghost use Rattle.house_turns.specs.PrivateTurns.{Does, Says, TakesMessage, posts_in, taken_outcome};
 
 use crate::said::{Posts, Said, octets_refused, refused, told, told_words, turned};
@@ -16,7 +16,7 @@ use std::alloc::{AllocError, Global};
 // Octets after a message: the place of the first of them.
 fn trailing(alloc: Global, number: u32, place: usize) -> Result<Said, AllocError>
     ensures { IfOk result (λ s. Says number s
-        (replies.Tells ((codes "refused Trailing " ++ decimal place) ∷ []))) }
+        (outcomes.Tells ((codes "refused Trailing " ++ decimal place) ∷ []))) }
 {
     let mut words = Vec::from_slice(alloc, b"refused Trailing ")?;
     push_number(&mut words, place as u64)?;

@@ -5,8 +5,9 @@ ghost use Rattle.std.specs.FinMap as map;
 ghost use Rattle.clearinghouse.specs.HouseLetters.{posts_at};
 ghost use Rattle.house_turns.specs.PrivateTurns.{ArePostsOf, Does, epoch_of, epoch_refusal_of, posts_of_letters};
 
-use crate::lists::{given_members, house_list};
-use crate::said::{Posts, Said, not_above, refused, turned, update_refused};
+use crate::lists::given_members;
+use crate::said::{Posts, Said, not_above, refused, turned};
+use cds_cell::{house_list, refusal_in_script};
 use cds_stamps::{DirId, EpochNo, HouseNo, SimpleName};
 use clearinghouse::{Begun, Clearinghouse, DirState, EpochRefusal, Letters, Outgoing, Turn};
 use directory::Update;
@@ -48,7 +49,7 @@ pub(crate) fn update(
             let posts = Posts::one(letters(alloc, home, dir, outgoing.as_ref())?);
             turned(alloc, posts, &Answer::Stamped(stamp, Serials::new(alloc)))
         }
-        Err(refusal) => refused(alloc, number, update_refused(alloc, refusal)),
+        Err(refusal) => refused(alloc, number, refusal_in_script(alloc, refusal)),
     }
 }
 
@@ -95,7 +96,7 @@ pub(crate) fn skulk(
         Ok(Begun::Complete(stamp)) => {
             turned(alloc, posts, &Answer::Complete(stamp, Serials::new(alloc)))
         }
-        Err(refusal) => refused(alloc, number, update_refused(alloc, refusal)),
+        Err(refusal) => refused(alloc, number, refusal_in_script(alloc, refusal)),
     }
 }
 

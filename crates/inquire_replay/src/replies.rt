@@ -8,6 +8,7 @@ ghost use Rattle.script_replay.specs.Dialogues.{reply_of};
 ghost use Rattle.script_replay.specs.Answering.{Replays};
 ghost use Rattle.inquire_forms.specs.InquireLines.{WantsSome, inquired_in};
 ghost use Rattle.inquire_forms.specs.Inquired.{inquired_answer};
+ghost use Rattle.inquire_forms.specs.InquireTexts.{inquire_text};
 ghost use Rattle.inquire_replay.specs.Inquiring.{cell_after_inquiry, inquire_dialogue, reply_text};
 ghost use Rattle.inquire_replay.specs.PrivateInquiring.{IsReply};
 
@@ -80,7 +81,24 @@ fn answer(
     ensures steps { replayer.new.steps ≤ replayer.old.steps + 1 }
 {
     let answer = reply(alloc, replayer, line)?;
-    let text = print_inquire_answer(alloc, number, &answer)?;
+    add_text(alloc, number, &answer, waiting)
+}
+
+// The text of an answer waits after the others. That of a line of a script is written there.
+fn add_text(
+    alloc: Global,
+    number: u32,
+    answer: &InquireAnswer,
+    waiting: &mut Waiting,
+) -> Result<(), AllocError>
+    ensures ok { OnOk result
+        (waiting.new ≡ waiting.old ++ inquire_text number (inquired_answer answer.now)) }
+    ensures err { OnErr result (waiting.new ≡ waiting.old) }
+{
+    if let InquireAnswer::Plain(answer) = answer {
+        return waiting.add_answer(alloc, number, answer);
+    }
+    let text = print_inquire_answer(alloc, number, answer)?;
     waiting.add(&text)
 }
 

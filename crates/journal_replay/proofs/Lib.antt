@@ -3,7 +3,9 @@ mod Giving
 mod Acting
 mod OneHouse
 mod Doing
+mod Refusals
 mod StopPuts
+mod StopDone
 mod StopReplies
 mod Replied
 mod Reopening

@@ -77,6 +77,13 @@ pub image_changes : (g : Cell) (h : ℕ) (c : Command) (image : List ℕ) → im
     → (octets_at (outcome g c).cell h ≡ image) × (octets_at g h ≢ image)
 image_changes g h c image is = image_other (octets_at (outcome g c).cell h) (octets_at g h) image is
 
+-- by the octets of before and after
+pub image_told : (g : Cell) (h : ℕ) (c : Command) (before after : List ℕ) (b : Bool) → before ≡ octets_at g h → after ≡ octets_at (outcome g c).cell h
+    → b ≡ bytes_eq after before → image_after g h c ≡ (if b then None else Some after)
+image_told g h c before after b first second test =
+    let is : image_after g h c ≡ (if bytes_eq after before then None else Some after) = rw (first, second) refl in
+    is ∙ ap (λ (t : Bool). if t then None else Some after) (sym test)
+
 -- ---- the puts
 
 -- a house that was made, and still is

@@ -1,8 +1,9 @@
 -- What is replied to a line that stops a put, and what it leaves.
 use Rattle.std.proofs.Common.{◌≡◌, ℕ, ◌+◌, ◌≤◌, Bool, true, false, List, [], ◌∷◌, length, refl, sym, ◌∙◌, ap, subst, if◌then◌else◌}
-use Rattle.std.specs.Prelude.{Some, None, Result, IsErrAnd}
+use Rattle.std.specs.Prelude.{Option, Some, None, Result, Ok, Err, IsErrAnd, OnOk}
 use Rattle.std.specs.Option.{option_map}
 use Rattle.cell_model.specs.Cells.{Cell}
+use Rattle.cell_model.specs.Commands as command
 use Rattle.cell_model.specs.Commands.{Command}
 use Rattle.cell_model.specs.Reached.{IsReached}
 use Rattle.cell_model.specs.Sets.{has}
@@ -12,19 +13,19 @@ use Rattle.script_answers.specs.declared.answer.Answer.{Answer}
 use Rattle.cds_cell.specs.CommandImages.{actors, crash_losing, image_after}
 use Rattle.cds_cell.specs.Recorded.{image_at}
 use Rattle.cds_cell.specs.ModelCells.{Stands}
+use Rattle.cds_cell.specs.Scripted.{answer_of}
 use Rattle.journal_forms.specs.declared.journal_answer.JournalAnswer.{JournalAnswer}
 use Rattle.journal_forms.specs.declared.journal_answer.JournalAnswer.TheVariants as answer
 use Rattle.journal_forms.specs.declared.journal_line.JournalLine.{JournalLine}
-use Rattle.script_replay.specs.Replies.{Said}
 use Rattle.disk_journals.specs.declared.faults.Unkept.{Unkept}
-use Rattle.disk_journals.specs.declared.faults.Unkept.TheVariants.{OutOfMemory}
+use Rattle.disk_journals.specs.declared.faults.Unkept.TheVariants.{Full, OutOfMemory}
 use Rattle.house_journal.specs.MemoryDisks.{MemState}
 use Rattle.journal_replay.specs.declared.keeper.Keeper.{Keeper}
 use Rattle.journal_replay.specs.Journaled.{JournalSaid, command_done, journal_said, stop_refused, stop_said, stop_unless, command_stopped, stopped_if}
 use Rattle.journal_replay.specs.CellJournals.{JournaledCell, Lists, Put, lacks_room, lasts, puts_in, puts_of, stop_puts, with_put, with_puts}
 use Rattle.journal_replay.specs.CellDisks.{ArePutting, GiveImages, HoldAll, disk_count}
 use Rattle.journal_replay.specs.Keeping.{StandsKeeper}
-use Rattle.journal_replay.specs.PrivateJournals.{AreDone, GivesUp, IsReplied, Replies, said_puts}
+use Rattle.journal_replay.specs.PrivateJournals.{GivesUp, IsReplied, Replies, Tells, answered_unless}
 use Rattle.journal_replay.proofs.Acting.{crash_spares, outcome_made, spared}
 use Rattle.journal_replay.proofs.Doing.{replies_give_up, replies_memory}
 use Rattle.journal_replay.proofs.Giving.{give_after}
@@ -70,37 +71,6 @@ allowed_puts s h c allowed = ap (stop_puts s h c) allowed
 still_said : (g : Cell) (h : ℕ) (after : Bool) (c : Command) → stop_refused g h c ≡ None → image_after g h c ≡ None → stop_said g h after c ≡ command_done g c
 still_said g h after c allowed none = ap (stop_unless g h after c) allowed ∙ ap (stopped_if g h after c) none
 
-said_nothing : (s : JournaledCell) (h : ℕ) (c : Command) → stop_refused s.cell h c ≡ None → puts_of (outcome s.cell c).cell (h ∷ []) s.lists ≡ []
-    → puts_of (outcome s.cell c).cell (actors s.cell c) s.lists ≡ []
-said_nothing s h c allowed nothing = ap (λ (xs : List ℕ). puts_of (outcome s.cell c).cell xs s.lists) (not_refused s.cell h c allowed).1 ∙ nothing
-
-still_done : (a : Answer) (k : Keeper) (s : JournaledCell) (l : JournalLine) (said : Said)
-    → journal_said s.cell l ≡ record { steps = said.steps; answer = option_map answer.Plain said.answer } → puts_in s l ≡ [] → said_puts s said ≡ []
-    → AreDone a k s said → IsReplied (answer.Plain a) k s l
-still_done a k s l said said_is puts nothing are =
-    replied_still (answer.Plain a) k s l (record { steps = said.steps; answer = option_map answer.Plain said.answer }) said_is puts
-    (ap (option_map answer.Plain) are.answer)
-    (subst (λ (ps : List Put). StandsKeeper k (record { cell = replay_from s.cell said.steps; lists = with_puts ps s.lists })) nothing are.stands)
-
-pub replied_done : (a : Answer) (k : Keeper) (s : JournaledCell) (l : JournalLine) (h : ℕ) (after : Bool) (c : Command) (said : Said)
-    → journal_said s.cell l ≡ stop_said s.cell h after c → puts_in s l ≡ stop_puts s h c (stop_refused s.cell h c)
-    → command_done s.cell c ≡ record { steps = said.steps; answer = option_map answer.Plain said.answer }
-    → said_puts s said ≡ puts_of (outcome s.cell c).cell (actors s.cell c) s.lists
-    → 1 ≤ h → h ≤ disk_count → GiveImages s → stop_refused s.cell h c ≡ None → image_after s.cell h c ≡ None
-    → AreDone a k s said → IsReplied (answer.Plain a) k s l
-replied_done a k s l h after c said said_is puts does its first few gives allowed none are =
-    let nothing = nothing_put s h c first few gives allowed none in
-    still_done a k s l said (said_is ∙ still_said s.cell h after c allowed none ∙ does) (puts ∙ allowed_puts s h c allowed ∙ nothing)
-    (its ∙ said_nothing s h c allowed nothing) are
-
-pub done_given_up : (e : Unkept) (k : Keeper) (s : JournaledCell) (l : JournalLine) (h : ℕ) (c : Command) (said : Said)
-    → puts_in s l ≡ stop_puts s h c (stop_refused s.cell h c) → said_puts s said ≡ puts_of (outcome s.cell c).cell (actors s.cell c) s.lists
-    → 1 ≤ h → h ≤ disk_count → GiveImages s → stop_refused s.cell h c ≡ None → image_after s.cell h c ≡ None
-    → GivesUp e k.disks.items s.lists (said_puts s said) → GivesUp e k.disks.items s.lists (puts_in s l)
-done_given_up e k s l h c said puts its first few gives allowed none up =
-    let nothing = nothing_put s h c first few gives allowed none in
-    subst (GivesUp e k.disks.items s.lists) (its ∙ said_nothing s h c allowed nothing ∙ sym (puts ∙ allowed_puts s h c allowed ∙ nothing)) up
-
 -- the command makes another image: its put is stopped
 pub stopped_put_is : (s : JournaledCell) (l : JournalLine) (h : ℕ) (c : Command) (image : List ℕ) → puts_in s l ≡ stop_puts s h c (stop_refused s.cell h c)
     → 1 ≤ h → h ≤ disk_count → GiveImages s → stop_refused s.cell h c ≡ None → image_after s.cell h c ≡ Some image
@@ -128,6 +98,19 @@ module _ (stays : (g : Cell) (c : Command) (x : ℕ) → IsReached g → has x (
       (give_after s (outcome s.cell c).cell (h ∷ []) gives
       (λ x other. spared stays s.cell (c ∷ []) x reached (ap (has x) acts ∙ other, tt)) (λ x. (outcome_made s.cell c x).1))
 
+  -- the command leaves the image
+  pub replied_done : (a : Answer) (k : Keeper) (s : JournaledCell) (l : JournalLine) (h : ℕ) (after : Bool) (c : Command)
+      → journal_said s.cell l ≡ stop_said s.cell h after c → puts_in s l ≡ stop_puts s h c (stop_refused s.cell h c)
+      → 1 ≤ h → h ≤ disk_count → IsReached s.cell → GiveImages s → stop_refused s.cell h c ≡ None → image_after s.cell h c ≡ None
+      → answer_of (outcome s.cell c).answer ≡ Some a → HoldAll k.disks.items s.lists → Stands k.replayer.cell (outcome s.cell c).cell
+      → IsReplied (answer.Plain a) k s l
+  replied_done a k s l h after c said puts first few reached gives allowed none answered disks cell =
+      let nothing = nothing_put s h c first few gives allowed none in
+      let acts = (not_refused s.cell h c allowed).1 in
+      replied_still (answer.Plain a) k s l (command_done s.cell c) (said ∙ still_said s.cell h after c allowed none)
+      (puts ∙ allowed_puts s h c allowed ∙ nothing) (ap (option_map answer.Plain) answered)
+      (record { cell = cell; disks = disks; gives = give_next s h c [] reached gives acts nothing })
+
   -- the image is kept
   pub replied_after : (k : Keeper) (s : JournaledCell) (l : JournalLine) (h : ℕ) (after : Bool) (c : Command) (image : List ℕ) → after ≡ true
       → journal_said s.cell l ≡ stop_said s.cell h after c → puts_in s l ≡ stop_puts s h c (stop_refused s.cell h c) → lasts l ≡ after
@@ -151,18 +134,16 @@ module _ (stays : (g : Cell) (c : Command) (x : ℕ) → IsReached g → has x (
       → journal_said s.cell l ≡ stop_said s.cell h after c → puts_in s l ≡ stop_puts s h c (stop_refused s.cell h c) → lasts l ≡ after
       → 1 ≤ h → h ≤ disk_count → IsReached s.cell → GiveImages s → stop_refused s.cell h c ≡ None → image_after s.cell h c ≡ Some image
       → (let p : Put = record { house = h; image = image } in HoldAll k.disks.items s.lists × (lacks_room s.lists (p ∷ []) ≡ false))
-      → Stands k.replayer.cell (replay_from s.cell (crash_losing s.cell h (length s.cell.bag))) → IsReplied answer.StoppedBefore k s l
+      → Stands k.replayer.cell (outcome s.cell (command.Crash h)).cell → IsReplied answer.StoppedBefore k s l
   replied_before k s l h after c image is said puts last first few reached gives allowed some disks cell =
       let p : Put = record { house = h; image = image } in
       let one = image_put s h c image first few gives allowed some in
       let end = give_crash s.cell s.lists h (length s.cell.bag) reached gives in
-      let there : StandsKeeper k (record { cell = replay_from s.cell (crash_losing s.cell h (length s.cell.bag)); lists = s.lists }) =
-      record { cell = cell; disks = disks.0; gives = end } in
+      let crashed = subst (λ (cs : List Command). GiveImages (record { cell = replay_from s.cell cs; lists = s.lists })) (only_crash s.cell h) end in
       replied_by answer.StoppedBefore k s l (command_stopped s.cell h false c) (p ∷ []) (said ∙ ap (λ (b : Bool). stop_said s.cell h b c) is ∙ stopped_said s.cell h false c image allowed some)
       (puts ∙ allowed_puts s h c allowed ∙ one) refl
       (subst (λ (b : Bool). StandsKeeper k (record { cell = replay_from s.cell (command_stopped s.cell h false c).steps; lists = if b then with_put p s.lists else s.lists }))
-      (sym (last ∙ is))
-      (subst (λ (cs : List Command). StandsKeeper k (record { cell = replay_from s.cell cs; lists = s.lists })) (only_crash s.cell h) there)) disks.1
+      (sym (last ∙ is)) (record { cell = cell; disks = disks.0; gives = crashed })) disks.1
 
 -- ---- under way
 
@@ -179,3 +160,26 @@ stopped_memory k s l b p r is puts hold =
 pub stopped_up : (k : Keeper) (s : JournaledCell) (l : JournalLine) (p : Put) (r : Result JournalAnswer Unkept) (x : Unkept) → IsErrAnd r (λ e. e ≡ x)
     → puts_in s l ≡ p ∷ [] → GivesUp x k.disks.items s.lists (p ∷ []) → Replies r k s l
 stopped_up k s l p r x is puts up = replies_give_up k s l r x is (subst (GivesUp x k.disks.items s.lists) (sym puts) up)
+
+-- ---- the answer to the command, unless its put was stopped
+
+pub unless_memory : (r : Result (Option JournalAnswer) Unkept) (a : Answer) (k : Keeper) (s : JournaledCell) (l : JournalLine) → IsErrAnd r (λ e. e ≡ OutOfMemory)
+    → HoldAll k.disks.items s.lists → Replies (answered_unless r a) k s l
+unless_memory (Ok x) a k s l is hold = absurd is
+unless_memory (Err e) a k s l is hold = replies_memory k s l (Err e) is (putting_at_start k.disks.items s.lists (puts_in s l) hold)
+
+pub unless_up : (r : Result (Option JournalAnswer) Unkept) (a : Answer) (x : Unkept) (k : Keeper) (s : JournaledCell) (l : JournalLine) → IsErrAnd r (λ e. e ≡ x)
+    → GivesUp x k.disks.items s.lists (puts_in s l) → Replies (answered_unless r a) k s l
+unless_up (Ok y) a x k s l is up = absurd is
+unless_up (Err e) a x k s l is up = replies_give_up k s l (Err e) x is up
+
+pub unless_tells : (r : Result (Option JournalAnswer) Unkept) (a : Answer) (before after : Bool) → Tells r before after → Tells (answered_unless r a) before after
+unless_tells (Ok None) a before after so = so
+unless_tells (Ok (Some stopped)) a before after so = so
+unless_tells (Err Full) a before after so = so
+unless_tells (Err OutOfMemory) a before after so = so
+
+pub unless_ok : (r : Result (Option JournalAnswer) Unkept) (a : Answer) (P : Type 0) → OnOk r P → OnOk (answered_unless r a) P
+unless_ok (Ok None) a P so = so
+unless_ok (Ok (Some stopped)) a P so = so
+unless_ok (Err e) a P so = so

@@ -3,22 +3,31 @@ use Rattle.std.specs.Prelude.{◌≡◌, ℕ, ◌≤◌, Bool, true, false, if�
 use Rattle.house_journal.specs.MemoryDisks.{MemState}
 use Rattle.cell_model.specs.Cells.{Cell}
 use Rattle.cell_model.specs.Sets.{has}
-use Rattle.cell_model.specs.Steps.{replay_from}
+use Rattle.cell_model.specs.Steps.{outcome, replay_from}
 use Rattle.script_answers.specs.declared.answer.Answer.{Answer}
+use Rattle.script_answers.specs.declared.answer.Answer.TheVariants as script
 use Rattle.journal_forms.specs.declared.journal_answer.JournalAnswer.{JournalAnswer}
+use Rattle.journal_forms.specs.declared.journal_answer.JournalAnswer.TheVariants as journal
 use Rattle.journal_forms.specs.declared.journal_line.JournalLine.{JournalLine}
-use Rattle.cds_cell.specs.CommandImages.{image_after, octets_at}
+use Rattle.cds_cell.specs.declared.cell.Cell as declared
+use Rattle.cds_cell.specs.declared.marks.Mark.{Mark}
+use Rattle.cds_cell.specs.CommandImages.{octets_at}
+use Rattle.cds_cell.specs.Marks.{IsMark}
+use Rattle.cds_cell.specs.ModelCells.{Stands}
 use Rattle.script_replay.specs.Replies.{Said}
 use Rattle.journal_replay.specs.Journaled.{journal_said, stop_refused}
 use Rattle.journal_replay.specs.CellJournals.{JournaledCell, Lists, Put, acting_houses, lacks_room, puts_in, puts_of, state_after, with_put, with_puts}
-use Rattle.journal_replay.specs.CellDisks.{ArePutting, HoldAll}
+use Rattle.journal_replay.specs.CellDisks.{ArePutting, GiveImages, HoldAll}
 use Rattle.journal_replay.specs.Keeping.{StandsKeeper}
 use Rattle.disk_journals.specs.declared.faults.Unkept.{Unkept}
 use Rattle.disk_journals.specs.declared.faults.Unkept.TheVariants.{Full, OutOfMemory}
 use Rattle.cell_model.specs.Commands.{Command}
 use Rattle.journal_replay.specs.declared.keeper.Keeper.{Keeper}
-use Rattle.journal_replay.specs.declared.stopping.Stopping.{Stopping}
-use Rattle.journal_replay.specs.declared.stopping.Stopping.TheVariants as stop
+
+-- whether it is a refusal
+abbrev pub is_refusal : Answer → Bool
+is_refusal (script.Refused r) = true
+is_refusal _ = false
 
 -- puts were given up under way: memory ran out, or a journal has no room for one of them
 abbrev pub GivesUp : Unkept → List MemState → Lists → List Put → Type 0
@@ -78,10 +87,20 @@ abbrev pub Replies : Result JournalAnswer Unkept → Keeper → JournaledCell �
 Replies (Ok a) k s l = IsReplied a k s l
 Replies (Err e) k s l = GivesUp e k.disks.items s.lists (puts_in s l)
 
--- what there is to stop in a command at a house: that is refused, or the command leaves the image,
--- or makes this one
-abbrev pub IsToStop : Stopping → Cell → (h : ℕ) → Command → Type 0
-IsToStop (stop.Refused refused) g h c = stop_refused g h c ≡ Some refused
-IsToStop stop.Nothing g h c = (stop_refused g h c ≡ None) × (image_after g h c ≡ None)
-IsToStop (stop.Put image) g h c = (stop_refused g h c ≡ None)
-    × (image_after g h c ≡ Some image.items)
+-- a command was done on the cell that is not refused to be stopped at a house, this is the mark
+-- before it, and the house has not put its image
+pub record HasDone (k : Keeper) (s : JournaledCell) (h : ℕ) (c : Command) (mark : Mark) : Type 0 where
+  pub before : declared.Cell
+  pub stood : Stands before s.cell
+  pub marks : IsMark mark before h c
+  pub image : mark.image.items ≡ octets_at s.cell h
+  pub allowed : stop_refused s.cell h c ≡ None
+  pub now : Stands k.replayer.cell (outcome s.cell c).cell
+  pub disks : HoldAll k.disks.items s.lists
+  pub gives : GiveImages s
+
+-- the answer to a command, unless its put was stopped, or it was given up
+abbrev pub answered_unless : Result (Option JournalAnswer) Unkept → Answer → Result JournalAnswer Unkept
+answered_unless (Ok None) a = Ok (journal.Plain a)
+answered_unless (Ok (Some stopped)) a = Ok stopped
+answered_unless (Err e) a = Err e

@@ -1,5 +1,5 @@
 // The form `journal`: each line is replayed on a cell, whose houses put their images into journals.
-ghost use Rattle.std.specs.Prelude.{◌≡◌, false, IfOk};
+ghost use Rattle.std.specs.Prelude.{◌≡◌, ◌++◌, false, OnOk, OnErr};
 ghost use Rattle.std.proofs.Props.{props};
 ghost use Rattle.journal_forms.specs.JournalTexts.{journal_text};
 ghost use Rattle.journal_replay.specs.CellDisks.{AreKept};
@@ -22,11 +22,22 @@ pub struct Journals {
     ghost ready: { spent ≡ false → AreKept keeper.houses.items keeper.disks.items } by { Prim.hlevel (props, kept_prop) },
 }
 
-// The text of an answer. (This is apart, since the drop of an answer is long to prove.)
-fn text_of(alloc: Global, number: u32, answer: JournalAnswer) -> Result<Vec<u8>, AllocError>
-    ensures { IfOk result (λ text. text.items ≡ journal_text number answer) }
+// The text of an answer waits after the others. That of a line of a script is written there. (This
+// is apart, since the drop of an answer is long to prove.)
+fn add_text(
+    alloc: Global,
+    number: u32,
+    answer: JournalAnswer,
+    waiting: &mut Waiting,
+) -> Result<(), AllocError>
+    ensures ok { OnOk result (waiting.new ≡ waiting.old ++ journal_text number answer) }
+    ensures err { OnErr result (waiting.new ≡ waiting.old) }
 {
-    print_journal_answer(alloc, number, &answer)
+    if let JournalAnswer::Plain(answer) = &answer {
+        return waiting.add_answer(alloc, number, answer);
+    }
+    let text = print_journal_answer(alloc, number, &answer)?;
+    waiting.add(&text)
 }
 
 impl Journals {
@@ -160,8 +171,7 @@ impl Journals {
     {
         self.spent = true;
         let answer = self.keeper.reply(alloc, line)?;
-        let text = text_of(alloc, number, answer)?;
-        waiting.add(&text)?;
+        add_text(alloc, number, answer, waiting)?;
         self.spent = false;
         Ok(())
     }

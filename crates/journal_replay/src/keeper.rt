@@ -12,11 +12,11 @@ ghost use Rattle.cell_script.specs.declared.command.Command.TheVariants as comma
 ghost use Rattle.journal_forms.specs.JournalLines.{HasNumbers};
 ghost use Rattle.journal_forms.specs.declared.journal_line.JournalLine.TheVariants as line;
 ghost use Rattle.script_replay.specs.Replies.{asked_of, question_said, said_of};
-ghost use Rattle.journal_replay.specs.CellDisks.{AreKept, AreNew, AreUsable, HoldAll};
+ghost use Rattle.journal_replay.specs.CellDisks.{AreKept, AreNew, AreUsable, HoldAll, disk_count};
 ghost use Rattle.journal_replay.specs.CellJournals.{JournaledCell, Lists, empty_state, lacks_room, puts_of};
 ghost use Rattle.journal_replay.specs.DiskCalls.{LineCalls, OpensJournal, PlainCalls};
 ghost use Rattle.journal_replay.specs.Keeping.{StandsKeeper};
-ghost use Rattle.journal_replay.specs.PrivateJournals.{Does, IsGiven, PutsAll, Replies, Tells};
+ghost use Rattle.journal_replay.specs.PrivateJournals.{Does, IsGiven, PutsAll, Replies, Tells, is_refusal};
 ghost use Rattle.disk_journals.specs.declared.faults.Unkept.TheVariants as why;
 
 use crate::images::image_of;
@@ -61,6 +61,18 @@ pub(crate) fn full_after<A>(put: &Result<A, Unkept>, before: bool) -> bool
         Err(Unkept::OutOfMemory) | Ok(_) => before,
     }
 }
+
+// Whether an answer is a refusal, which leaves all images as they are.
+fn is_refusal(answer: &Answer) -> bool
+    ensures { result ≡ is_refusal answer.now }
+{
+    matches!(answer, Answer::Refused(_))
+}
+
+// A house has a disk. (A law: it does nothing.)
+fn has_disk(house: Option<HouseNo>)
+    ensures { IfSome house (λ h. h.0 ≤ disk_count) }
+{}
 
 // No house has a journal.
 fn no_houses(alloc: Global) -> Result<Vec<Option<KeptHouse>>, AllocError>
@@ -166,6 +178,11 @@ impl Keeper {
         images_stay();
         let (first, second) = self.replayer.cell().actors(&command);
         let answer = self.replayer.step(alloc, command)?;
+        if is_refusal(&answer) {
+            has_disk(first);
+            has_disk(second);
+            return Ok(answer);
+        }
         self.keep_both(alloc, first, second)?;
         Ok(answer)
     }

@@ -1,15 +1,18 @@
 // Lines that stop a put.
-ghost use Rattle.std.specs.Prelude.{◌≡◌, ◌≢◌, ◌+◌, ◌^◌, ◌<◌, ◌≤◌, ◌++◌, ◌∷◌, [], true, false, Some, Err, IfOk, OnOk, if◌then◌else◌, option_copied};
+ghost use Rattle.std.specs.Prelude.{◌≡◌, ◌≢◌, ◌+◌, ◌^◌, ◌<◌, ◌≤◌, ◌++◌, ◌∷◌, [], true, false, Some, Err, IfOk, IfNone, OnOk, if◌then◌else◌, is_some, option_copied};
 ghost use Rattle.std.specs.Option.{option_map, option_map_or};
 ghost use Rattle.std.specs.Str.{bytes_eq};
 ghost use Rattle.cds_base.specs.declared.scan.TheConstants.{MOST_LINES};
 ghost use Rattle.cell_model.specs.Cells as model;
 ghost use Rattle.cell_model.specs.Steps.{outcome};
-ghost use Rattle.cds_cell.specs.Scripted.{step_of};
-ghost use Rattle.cds_cell.specs.ModelCells.{Stands};
+ghost use Rattle.cds_cell.specs.Scripted.{answer_of, step_of};
+ghost use Rattle.cds_cell.specs.ModelCells.{Stands, house_of};
 ghost use Rattle.house_journal.specs.JournalRecords.{images};
 ghost use Rattle.house_journal.specs.declared.step.Stop.TheVariants.{Never};
-ghost use Rattle.journal_replay.specs.declared.stopping.Stopping.TheVariants as stop;
+ghost use Rattle.cds_cell.specs.CommandImages.{image_after};
+ghost use Rattle.cell_script.specs.declared.command.Command as script;
+ghost use Rattle.script_answers.specs.declared.answer.Answer as plain;
+ghost use Rattle.journal_replay.specs.Journaled.{stop_refused};
 ghost use Rattle.journal_forms.specs.declared.journal_line.JournalLine.TheVariants as line;
 ghost use Rattle.journal_replay.specs.CellDisks.{AreKept, AreUsable, HoldAll};
 ghost use Rattle.disk_journals.specs.KeptJournals.{HoldsEither, IsKept, StopsAndOpens, is_last, size_of, stops_after};
@@ -17,10 +20,12 @@ ghost use Rattle.disk_journals.specs.declared.faults.Unkept.TheVariants as why;
 ghost use Rattle.journal_replay.specs.CellJournals.{JournaledCell, Lists, lacks_room, puts_in};
 ghost use Rattle.journal_replay.specs.DiskCalls.{IsStopped, LineCalls, UsesDisk};
 ghost use Rattle.journal_replay.specs.Keeping.{StandsKeeper};
-ghost use Rattle.journal_replay.specs.PrivateJournals.{IsToStop, Replies, StopsPut, Tells};
+ghost use Rattle.journal_replay.specs.PrivateJournals.{HasDone, Replies, StopsPut, Tells, answered_unless};
 
+use crate::images::image_of;
 use crate::keeper::{Keeper, full_after, place_of};
 use crate::stops::{acts_alone, lacks_message};
+use cds_cell::Mark;
 use cds_cell::laws::images_stay;
 use cds_stamps::HouseNo;
 use cell_script::Command;
@@ -28,14 +33,21 @@ use disk_journals::{KeptHouse, Unkept, stopped_put};
 use house_journal::{Leave, MemDisk};
 use journal_forms::JournalAnswer;
 use script_answers::{Answer, ScriptRefusal};
-use std::alloc::{AllocError, Global};
+use std::alloc::Global;
 
-// What there is to stop in a command: it is refused, or nothing is put, or this image.
-#[derive(Drop)]
-enum Stopping {
-    Refused(JournalAnswer),
-    Nothing,
-    Put(Vec<u8>),
+// The answer to a command, unless its put was stopped. (This is apart, since the drop of an answer
+// is long to prove.)
+fn answer_unless(
+    stopped: Result<Option<JournalAnswer>, Unkept>,
+    answer: Answer,
+) -> Result<JournalAnswer, Unkept>
+    ensures { result ≡ answered_unless stopped answer }
+{
+    match stopped {
+        Ok(Some(stopped)) => Ok(stopped),
+        Ok(None) => Ok(JournalAnswer::Plain(answer)),
+        Err(unkept) => Err(unkept),
+    }
 }
 
 // Whether a journal gives this image.
@@ -115,113 +127,120 @@ impl Keeper {
         ensures full { Tells result self.old.full self.new.full }
         ensures steps { self.new.replayer.steps ≤ self.old.replayer.steps + 1 }
     {
-        match self.stopping(alloc, house, &command) {
-            Ok(Stopping::Refused(refused)) => {
-                forget(command);
-                Ok(refused)
-            }
-            Ok(Stopping::Nothing) => Ok(JournalAnswer::Plain(self.step(alloc, command)?)),
-            Ok(Stopping::Put(image)) => self.stop_put(alloc, house, call, leave, command, image),
-            Err(AllocError) => {
-                forget(command);
-                Err(Unkept::OutOfMemory)
-            }
+        if let Some(refused) = self.stop_refusal(house, &command) {
+            forget(command);
+            return Ok(refused);
         }
+        let Ok(mark) = self.replayer.cell().mark(alloc, house, &command) else {
+            forget(command);
+            return Err(Unkept::OutOfMemory);
+        };
+        let answer = self.replayer.step(alloc, command)?;
+        let stopped = self.stop_changed(alloc, house, call, leave, mark);
+        answer_unless(stopped, answer)
     }
 
-    // What there is to stop in a command, at a house.
-    fn stopping(
-        &self,
-        alloc: Global,
-        house: HouseNo,
-        command: &Command,
-    ) -> Result<Stopping, AllocError>
-        requires few { self.now.replayer.steps < MOST_LINES }
-        ensures { (g : model.Cell) → Stands self.now.replayer.cell g
-            → IfOk result (λ w. IsToStop w g house.0 (step_of command.now)) }
+    // Why a command is not to be stopped at a house.
+    fn stop_refusal(&self, house: HouseNo, command: &Command) -> Option<JournalAnswer>
+        ensures made { IfNone result
+            (is_some (house_of self.now.replayer.cell.houses.items house.0) ≡ true) }
+        ensures refused { (g : model.Cell) → Stands self.now.replayer.cell g
+            → result ≡ stop_refused g house.0 (step_of command.now) }
     {
         let cell = self.replayer.cell();
         if !cell.has_house(house) {
-            return Ok(Stopping::Refused(JournalAnswer::Plain(Answer::Refused(
-                ScriptRefusal::NoHouse,
-            ))));
+            return Some(JournalAnswer::Plain(Answer::Refused(ScriptRefusal::NoHouse)));
         }
         if lacks_message(cell, command) {
-            return Ok(Stopping::Refused(JournalAnswer::Plain(Answer::Refused(
-                ScriptRefusal::NoMessage,
-            ))));
+            return Some(JournalAnswer::Plain(Answer::Refused(ScriptRefusal::NoMessage)));
         }
         if !acts_alone(cell, house, command) {
-            return Ok(Stopping::Refused(JournalAnswer::NotActing));
+            return Some(JournalAnswer::NotActing);
         }
-        match self.replayer.image_after(alloc, house, command)? {
-            Some(image) => Ok(Stopping::Put(image)),
-            None => Ok(Stopping::Nothing),
-        }
+        None
     }
 
-    // A command that makes another image of a house is stopped in its put.
+    // The put of a house after its command is stopped, unless its image is that at the mark.
+    fn stop_changed(
+        &mut self,
+        alloc: Global,
+        house: HouseNo,
+        call: u8,
+        leave: Leave,
+        mark: Mark,
+    ) -> Result<Option<JournalAnswer>, Unkept>
+        requires house { 1 ≤ house.0 }
+        requires first { 1 ≤ call }
+        requires last { call ≤ 4 }
+        requires kept { AreKept self.old.houses.items self.old.disks.items }
+        ensures reply { (s : JournaledCell) (c : script.Command) (a : plain.Answer)
+            → HasDone self.old s house.0 (step_of c) mark
+            → answer_of (outcome s.cell (step_of c)).answer ≡ Some a
+            → Replies (answered_unless result a) self.new s (line.Stop house call leave c) }
+        ensures calls { (s : JournaledCell) (c : script.Command)
+            → HasDone self.old s house.0 (step_of c) mark
+            → OnOk result (LineCalls s (line.Stop house call leave c) self.old.disks.items
+            self.new.disks.items) }
+        ensures kept { OnOk result (AreKept self.new.houses.items self.new.disks.items) }
+        ensures usable { AreUsable self.old.disks.items → AreUsable self.new.disks.items }
+        ensures full { Tells result self.old.full self.new.full }
+        ensures steps { self.new.replayer.steps ≡ self.old.replayer.steps }
+    {
+        images_stay();
+        let Some(image) = image_of(alloc, self.replayer.cell(), house)? else {
+            return Ok(None);
+        };
+        if image.as_slice() == mark.image() {
+            return Ok(None);
+        }
+        let stopped = self.stop_put(alloc, house, call, leave, mark, image)?;
+        Ok(Some(stopped))
+    }
+
+    // The put of another image of a house than that at the mark is stopped. Then the house crashes
+    // after the command, or the command is taken back.
     fn stop_put(
         &mut self,
         alloc: Global,
         house: HouseNo,
         call: u8,
         leave: Leave,
-        command: Command,
+        mark: Mark,
         image: Vec<u8>,
     ) -> Result<JournalAnswer, Unkept>
-        requires few { self.old.replayer.steps < MOST_LINES }
         requires house { 1 ≤ house.0 }
         requires first { 1 ≤ call }
         requires last { call ≤ 4 }
         requires kept { AreKept self.old.houses.items self.old.disks.items }
-        ensures reply { (s : JournaledCell) → StandsKeeper self.old s
-            → IsToStop (stop.Put image) s.cell house.0 (step_of command)
-            → Replies result self.new s (line.Stop house call leave command) }
-        ensures lacking { (s : JournaledCell) → StandsKeeper self.old s
-            → IsToStop (stop.Put image) s.cell house.0 (step_of command)
-            → lacks_room s.lists (puts_in s (line.Stop house call leave command)) ≡ true
+        ensures reply { (s : JournaledCell) (c : script.Command)
+            → HasDone self.old s house.0 (step_of c) mark
+            → image_after s.cell house.0 (step_of c) ≡ Some image.items
+            → Replies result self.new s (line.Stop house call leave c) }
+        ensures lacking { (s : JournaledCell) (c : script.Command)
+            → HasDone self.old s house.0 (step_of c) mark
+            → image_after s.cell house.0 (step_of c) ≡ Some image.items
+            → lacks_room s.lists (puts_in s (line.Stop house call leave c)) ≡ true
             → result ≡ Err why.Full }
-        ensures calls { (s : JournaledCell) → StandsKeeper self.old s
-            → IsToStop (stop.Put image) s.cell house.0 (step_of command)
+        ensures calls { (s : JournaledCell) (c : script.Command)
+            → HasDone self.old s house.0 (step_of c) mark
+            → image_after s.cell house.0 (step_of c) ≡ Some image.items
             → OnOk result (UsesDisk (IsStopped image.items call leave) house.0
             self.old.disks.items self.new.disks.items) }
         ensures kept { OnOk result (AreKept self.new.houses.items self.new.disks.items) }
         ensures usable { AreUsable self.old.disks.items → AreUsable self.new.disks.items }
         ensures full { Tells result self.old.full self.new.full }
-        ensures steps { self.new.replayer.steps ≤ self.old.replayer.steps + 1 }
+        ensures steps { self.new.replayer.steps ≡ self.old.replayer.steps }
     {
         images_stay();
-        let posted = self.replayer.cell().posted();
-        let stopped = self.put_stopped(alloc, house, call, leave, image);
-        let stepped = self.step_if(alloc, stopped.unwrap_or(false), command);
-        let after = stopped?;
-        stepped?;
-        self.replayer.crash_after(alloc, house, posted)?;
+        let posted = mark.posted();
+        let after = self.put_stopped(alloc, house, call, leave, image)?;
         if after {
+            self.replayer.crash_after(alloc, house, posted)?;
             Ok(JournalAnswer::StoppedAfter)
         } else {
+            self.replayer.take_back(house, mark);
             Ok(JournalAnswer::StoppedBefore)
         }
-    }
-
-    // A step of the cell, or none.
-    fn step_if(&mut self, alloc: Global, wanted: bool, command: Command) -> Result<(), AllocError>
-        requires few { self.old.replayer.steps < MOST_LINES }
-        ensures houses { self.new.houses ≡ self.old.houses }
-        ensures disks { self.new.disks ≡ self.old.disks }
-        ensures full { self.new.full ≡ self.old.full }
-        ensures step { (g : model.Cell) → Stands self.old.replayer.cell g
-            → OnOk result (Stands self.new.replayer.cell
-            (if wanted then (outcome g (step_of command)).cell else g)) }
-        ensures steps { self.new.replayer.steps ≤ self.old.replayer.steps + 1 }
-    {
-        if !wanted {
-            forget(command);
-            return Ok(());
-        }
-        self.replayer.step(alloc, command)?;
-        Ok(())
     }
 
     // The put of another image than the last of a house is stopped, and the journal opened again:

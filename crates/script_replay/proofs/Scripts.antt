@@ -20,7 +20,11 @@ use Rattle.script_replay.specs.Dialogues.{Dialogue, NumberedOf, reply_of, transc
 use Rattle.script_replay.specs.LineRules.{dialogue_rule}
 use Rattle.script_replay.specs.Replies.{run_dialogue}
 use Rattle.script_replay.specs.Scripts.{Says, IsScriptOf, IsReplay, IsReplayBy, state_after_lines}
-use Rattle.script_replay.proofs.HeadlineLaws.{converges, finds}
+use Rattle.cell_model.proofs.Agreeing.{converges_lem}
+use Rattle.cell_model.proofs.Stamping.{raises_lem}
+use Rattle.script_replay.specs.Headline.{commands_of}
+use Rattle.script_replay.proofs.Completions.{completed_alone}
+use Rattle.script_replay.proofs.HeadlineLaws.{import_finds}
 
 -- ---- scripts
 
@@ -227,4 +231,10 @@ module _ {S L : Type 0} (d : Dialogue S L) where
 pub is_replay : (run : Run) → Wrote (by_lines (dialogue_rule run_dialogue) empty_cell) run IsWhole → IsReplay run
 is_replay run wrote =
     let replay = is_dialogue_replay run_dialogue empty_cell run wrote in
-    record { replay = replay; settled = converges replay.said; found = finds replay.said }
+    record {
+      replay = replay;
+      told = completed_alone;
+      settled = λ front rest split. converges_lem (commands_of front);
+      raised = raises_lem;
+      found = λ early late l i bindings split is answers. import_finds (commands_of early) i bindings answers;
+    }

@@ -22,12 +22,8 @@ use Rattle.script_replay.specs.Replies.{dump_told}
 
 -- ---- commands and their answers
 
--- a command and the answer of the model to it
-abbrev pub Answered : Type 0
-Answered = Command × model.Answer
-
--- each of these commands with its answer, from this cell on
-abbrev pub answered_from : Cell → List Command → List Answered
+-- each of these commands with the answer of the model to it, from this cell on
+abbrev pub answered_from : Cell → List Command → List (Command × model.Answer)
 answered_from g cs = zip cs (answers_from g (map step_of cs))
 
 -- `create`, `delete`, `add` and `remove` change an entry
@@ -54,11 +50,11 @@ is_completion (model.Complete t ns) = true
 is_completion _ = false
 
 -- a change that is accepted, and a delivery that completes a skulk
-abbrev pub is_accepted : Answered → Bool
+abbrev pub is_accepted : Command × model.Answer → Bool
 is_accepted (c, a) = is_change c && not (is_refusal a)
 
 -- a delivery that is answered by the completion of a skulk
-abbrev pub completes : Answered → Bool
+abbrev pub completes : Command × model.Answer → Bool
 completes (c, a) = is_delivery c && is_completion a
 
 -- ---- what shows

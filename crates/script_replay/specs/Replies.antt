@@ -8,7 +8,7 @@ use Rattle.directory.specs.Kinds.{link_target}
 use Rattle.directory.specs.Shown.{targets}
 use Rattle.directory.specs.declared.update.UpdateRefusal.{UpdateRefusal}
 use Rattle.directory.specs.declared.update.UpdateRefusal.TheVariants as update
-use Rattle.cell_model.specs.Cells.{Cell, Slot, Absent, Gone, Held}
+use Rattle.cell_model.specs.Cells.{Cell, Slot, Held}
 use Rattle.cell_model.specs.Commands.{Command, Accept}
 use Rattle.cell_model.specs.Sets.{has}
 use Rattle.cell_model.specs.Steps.{is_down, is_unknown, message_at, outcome, replay_from}
@@ -57,9 +57,8 @@ first_target (v ∷ vs) = answer.Target (components_of v)
 
 -- where an entry leads: a link to its target, and no other anywhere (own, after C705, soft links)
 abbrev pub target_of : Kind → List (List ℕ) → Answer
-target_of kind.Object values = answer.Refused why.NotLink
 target_of kind.Link values = first_target (targets values)
-target_of kind.Child values = answer.Refused why.NotLink
+target_of other values = answer.Refused why.NotLink
 
 -- where the entry that is found leads (own)
 abbrev pub target_read : Reader → Result Found Refusal → Answer
@@ -97,10 +96,9 @@ wanted_by interface object tcp udp = record { interface = interface; object = ob
 -- what a house has of a directory, told whole: its epoch, its AllUpTo, its members, and its table
 -- without the deletions up to AllUpTo (own)
 abbrev pub slot_told : Slot → Answer
-slot_told Absent = answer.Refused why.NoReplica
-slot_told (Gone e) = answer.Refused why.NoReplica
 slot_told (Held r) =
     answer.Dump (record { 0 = r.epoch }) r.all_up_to (declared_members r.members) (replica_of r.history r.all_up_to).table
+slot_told other = answer.Refused why.NoReplica
 
 -- the same, where there is such a directory, and the house is up (own)
 abbrev pub dump_told : Cell → (h d : ℕ) → Answer
@@ -111,8 +109,7 @@ dump_told g h d =
 
 -- the octets of a record, if there is one (own)
 abbrev pub octets_told : Option (List ℕ) → Answer
-octets_told None = answer.Refused why.NoMessage
-octets_told (Some octets) = answer.Octets octets
+octets_told octets = option_map_or answer.Octets octets (answer.Refused why.NoMessage)
 
 -- ---- what a line does and is answered
 

@@ -1,12 +1,16 @@
 -- Scripts and their transcripts.
-use Rattle.std.specs.Prelude.{◌≡◌, ℕ, ◌+◌, List, [], ◌∷◌, ◌++◌, Option, Some, None, Ok, Err, Result}
+use Rattle.std.specs.Prelude.{◌≡◌, ℕ, ◌+◌, List, [], ◌∷◌, ◌++◌, fold, Option, Some, None, Ok, Err, Result}
 use Rattle.std.specs.Io.KnownBytes.{Consumes, Appends}
 use Rattle.cds_base.specs.LineFaults.{IsLine}
-use Rattle.cell_model.specs.Cells.{empty_cell}
+use Rattle.cell_model.specs.Agreement.{Converges}
+use Rattle.cell_model.specs.Cells.{Cell, empty_cell}
+use Rattle.cell_model.specs.Commands.{Command}
+use Rattle.cell_model.specs.Skulks.{RaisesUpTo}
 use Rattle.cell_script.specs.declared.fault.ParseFault.{ParseFault}
+use Rattle.cell_script.specs.declared.command.ScriptLine.{ScriptLine}
 use Rattle.cell_script.specs.Words.{words_of}
 use Rattle.cell_script.specs.CommandRows.{said_in}
-use Rattle.script_replay.specs.Headline.{RunConverges, Finds}
+use Rattle.script_replay.specs.Headline.{Finds, TellsCompleted, cell_after_script, commands_of}
 use Rattle.line_forms.specs.Leaving.{text_of}
 use Rattle.line_forms.specs.Runs.{Run}
 use Rattle.script_replay.specs.Dialogues.{Dialogue, NumberedOf, transcript_by}
@@ -32,8 +36,7 @@ IsScript = IsScriptOf said_in
 
 -- the state of a form after lines
 abbrev pub state_after_lines : {S L : Type 0} → Dialogue S L → S → List (NumberedOf L) → S
-state_after_lines d s [] = s
-state_after_lines d s (l ∷ ls) = state_after_lines d (d.after l.number s l.says) ls
+state_after_lines {S} {L} d = fold (λ (s : S) (l : NumberedOf L). d.after l.number s l.says)
 
 -- a script was read, and its transcript by a form that answers line by line was written, from a
 -- state on
@@ -44,9 +47,17 @@ pub record IsReplayBy {S L : Type 0} (d : Dialogue S L) (s : S) (run : Run) : Ty
   pub taken : Consumes run.left run.left' (text_of lines)
   pub written : Appends run.held run.held' (transcript_by d s said)
 
--- the same by the model, from a cell without houses on; and each skulk that the transcript tells
--- complete settles its directory (own, after C705, skulks)
+-- The same by the model, from a cell without houses on (own, after C705, skulks and the meaning of
+-- AllUpTo)
 pub record IsReplay (run : Run) : Type 0 where
   pub replay : IsReplayBy run_dialogue empty_cell run
-  pub settled : RunConverges replay.said
-  pub found : Finds replay.said
+  -- a line that is answered that a skulk is complete is a command that completes it
+  pub told : (g : Cell) (l : ScriptLine) → TellsCompleted g l
+  -- after each line: wherever a command so far completed a skulk, the replicas of its epoch and of
+  -- later ones agree up to its stamp
+  pub settled : (front rest : List Numbered) → replay.said ≡ front ++ rest
+      → Converges (commands_of front)
+  -- this stamp then is the AllUpTo of the house that completed it
+  pub raised : (commands : List Command) (c : Command) → RaisesUpTo commands c
+  -- imports find what the search reaches
+  pub found : Finds cell_after_script (λ l. l) replay.said

@@ -4,8 +4,8 @@ ghost use Rattle.script_replay.specs.StepCounts.{HasSteps};
 use crate::limits::MOST_UPDATES;
 use crate::questions::reply_to_question;
 use crate::said::{Reply, answer_to_updates};
-use cds_cell::Cell;
 use cds_cell::laws::accepted_updates_are_commands;
+use cds_cell::{Cell, Mark};
 use cds_stamps::{AllocOr, HouseNo};
 use cell_script::{Command, Question, ScriptLine, parse_line};
 use ns_commands::Updates;
@@ -24,7 +24,7 @@ pub struct Replayer {
 }
 
 impl Replayer {
-    ghost use Rattle.std.specs.Prelude.{◌≡◌, ◌++◌, ◌+◌, ◌<◌, ◌≤◌, true, is_some, Some, Ok, IfOk, OnOk, OnErr};
+    ghost use Rattle.std.specs.Prelude.{◌≡◌, ◌++◌, ◌∷◌, ◌+◌, ◌<◌, ◌≤◌, [], true, Some, Ok, IfOk, OnOk, OnErr};
     ghost use Rattle.std.specs.Option.{option_map};
     ghost use Rattle.cds_base.specs.declared.scan.TheConstants.{MOST_LINES};
     ghost use Rattle.cell_model.specs.Cells as model;
@@ -34,7 +34,9 @@ impl Replayer {
     ghost use Rattle.cell_script.specs.CommandRows.{said_in};
     ghost use Rattle.cell_script.specs.declared.command.ScriptLine.TheVariants as line;
     ghost use Rattle.cds_cell.specs.CellHouses.{is_up_state};
-    ghost use Rattle.cds_cell.specs.CommandImages.{crash_losing, image_after, octets_at};
+    ghost use Rattle.cds_cell.specs.declared.cell.Cell as cell;
+    ghost use Rattle.cds_cell.specs.CommandImages.{actors, crash_losing, octets_at};
+    ghost use Rattle.cds_cell.specs.Marks.{IsMark};
     ghost use Rattle.cds_cell.specs.Scripted.{step_of};
     ghost use Rattle.cds_cell.specs.ModelCells.{IsStep, Stands, house_of};
     ghost use Rattle.ns_commands.specs.Asks.{changes_in};
@@ -185,24 +187,6 @@ impl Replayer {
             .accept_all(alloc, updates.house, updates.dir, &updates.list)?;
         Ok(answer_to_updates(alloc, done))
     }
-    /// The octets of the image that a house would have after a command, as by `Cell::image_after`.
-    pub fn image_after(
-        &self,
-        alloc: Global,
-        house: HouseNo,
-        command: &Command,
-    ) -> Result<Option<Vec<u8>>, AllocError>
-        requires few { self.now.steps < MOST_LINES }
-        requires made { is_some (house_of self.now.cell.houses.items house.0) ≡ true }
-        ensures { (g : model.Cell) → Stands self.now.cell g
-            → IfOk result
-            (λ o. option_map (λ v. v.items) o ≡ image_after g house.0 (step_of command.now)) }
-    {
-        if self.cell.is_spent() {
-            return Err(AllocError);
-        }
-        self.cell.image_after(alloc, house, command)
-    }
 
     /// A start of a house from these octets, which is a step, unless memory ran out before.
     pub fn start_from(
@@ -232,5 +216,17 @@ impl Replayer {
         ensures steps { self.new.steps ≡ self.old.steps }
     {
         self.cell.crash_after(alloc, house, kept)
+    }
+
+    /// After a command of one house, the cell is as it was at the mark before it, but that house is
+    /// down. It is no step more.
+    pub fn take_back(&mut self, house: HouseNo, mark: Mark)
+        ensures back { (before : cell.Cell) (g : model.Cell) (k : command.Command)
+            → Stands before g → IsMark mark before house.0 k → actors g k ≡ house.0 ∷ []
+            → Stands self.old.cell (outcome g k).cell
+            → Stands self.new.cell (outcome g (command.Crash house.0)).cell }
+        ensures steps { self.new.steps ≡ self.old.steps }
+    {
+        self.cell.take_back(house, mark);
     }
 }

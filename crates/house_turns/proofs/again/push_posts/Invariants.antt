@@ -1,7 +1,7 @@
 use Rattle.std.proofs.Common.{◌≡◌, ◌∷◌, ◌++◌, [], ℕ, List, length}
 use Rattle.cell_runs.specs.Entries.{Post}
 use Rattle.house_turns.specs.HouseReplies.{posts_text}
-use Rattle.house_turns.specs.Openings.{HasNoEnd}
+use Rattle.house_turns.specs.LineOutcomes.{HasNoEnd}
 use Rattle.house_turns.proofs.SaidAgain.{PostsLeft}
 use Rattle.house_turns.proofs.again.push_posts.Given as goal
 

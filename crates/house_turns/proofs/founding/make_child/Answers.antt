@@ -47,6 +47,6 @@ returns c =
     let same = (rw c.in-Err.is at c.in_ok-answer.ensures.refused).0 in
     child_refused c.refused.result c.args.number old new c.args.clock c.args.dir (change_of c.args.update.now) c.args.child (members_of c.args.members.now)
     c.in-Err.refusal (posts_at new c.args.dir c.in_ok-answer.field-0.outgoing)
-    (rw c.update_refused.ensures at c.refused.ensures)
+    (rw c.refusal_in_script.ensures at c.refused.ensures)
     (λ now stands ticks. rw c.in-Err.is at c.in_ok-answer.ensures.step now stands ticks) same
     c.accept_update.ensures.call.house c.accept_update.ensures.call.node c.accept_update.ensures.kept

@@ -15,7 +15,7 @@ use Rattle.clearinghouse.specs.declared.house.Clearinghouse.{Clearinghouse}
 use Rattle.clearinghouse.specs.HouseLetters.{posts_at}
 use Rattle.house_lines.specs.declared.line.HouseLine.{HouseLine}
 use Rattle.house_lines.specs.declared.line.HouseLine.TheVariants as line
-use Rattle.house_turns.specs.HouseReplies.{Posts}
+use Rattle.house_turns.specs.LineOutcomes.{Posts}
 use Rattle.house_turns.specs.PrivateTurns.{posts_in}
 use Rattle.house_turns.proofs.Letters.{maybe_letters, same_posts}
 use Rattle.house_turns.proofs.Comes.{asked_model, founding_bad, founding_fine, founding_held, none_where, refused_early, root_comes, said_comes}

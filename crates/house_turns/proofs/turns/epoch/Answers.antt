@@ -11,10 +11,11 @@ use Rattle.clearinghouse.specs.HouseLetters.{epoch_posts_at}
 use Rattle.house_lines.specs.declared.line.HouseLine.{HouseLine}
 use Rattle.house_lines.specs.declared.line.HouseLine.TheVariants as line
 use Rattle.cell_runs.specs.LineAnswers.{refused}
-use Rattle.house_turns.specs.HouseReplies.{Posts, Tells}
+use Rattle.house_turns.specs.LineOutcomes.{Posts, Tells}
 use Rattle.house_turns.specs.HouseAnswers.{maybe_refused}
 use Rattle.house_turns.specs.PrivateTurns.{epoch_refusal_of, posts_of_letters}
 use Rattle.house_turns.proofs.Comes.{asked_model, comes_posts, comes_tells, epoch_absent, epoch_fine, epoch_later, epoch_letters, epoch_listed, epoch_low, given_master, refused_early, said_comes}
+use Rattle.house_turns.proofs.PlainTexts.{epoch_ends_nowhere}
 use Rattle.house_turns.proofs.Outcomes.{entered_reads, epoch_fits, unentered_reads}
 use Rattle.house_turns.proofs.turns.epoch.Goals as goal
 
@@ -90,5 +91,5 @@ returns c clock =
     c.enter_epoch.ensures.call.house c.enter_epoch.ensures.call.node c.enter_epoch.ensures.kept
     (λ now m. epoch_fits old.house.0 now dir.0 k.0 (members_of list.members) (numbers_of list.leaving))
     (λ now m stands ticks carries. rw (c.in_default-3.is, good.1) at c.in_ok-refusal.ensures.step now list.leaving stands later)
-    posts (entered_reads k)
+    posts (entered_reads k) (epoch_ends_nowhere k)
     (epoch_letters new dir k list.leaving first second c.in_ok-letters.ensures.posts (rw c.list.ensures at c.in_ok-leaves.ensures.posts))))

@@ -7,11 +7,13 @@ use Rattle.clearinghouse.specs.declared.house.Clearinghouse.{Clearinghouse}
 use Rattle.clearinghouse.specs.HouseLetters.{posts_at}
 use Rattle.house_lines.specs.declared.line.HouseLine.{HouseLine}
 use Rattle.house_lines.specs.declared.line.HouseLine.TheVariants as line
-use Rattle.cell_runs.specs.LineAnswers.{refused, update_refusal_of}
-use Rattle.house_turns.specs.HouseReplies.{Posts, Tells}
+use Rattle.cds_cell.specs.Scripted.{update_refusal_of}
+use Rattle.cell_runs.specs.LineAnswers.{refused}
+use Rattle.house_turns.specs.LineOutcomes.{Posts, Tells}
 use Rattle.house_turns.specs.PrivateTurns.{posts_in}
 use Rattle.house_turns.proofs.Letters.{same_posts}
 use Rattle.house_turns.proofs.Comes.{comes_posts, comes_tells, said_comes}
+use Rattle.house_turns.proofs.PlainTexts.{complete_ends_nowhere, stamped_ends_nowhere}
 use Rattle.house_turns.proofs.Outcomes.{complete_reads, skulk_fits, started_reads, unskulked_reads}
 use Rattle.house_turns.proofs.turns.skulk.Goals as goal
 
@@ -27,7 +29,7 @@ returns-in-Ok-Started c =
     c.begin_skulk.ensures.call.house c.begin_skulk.ensures.call.node c.begin_skulk.ensures.kept
     (λ now m. skulk_fits old.house.0 now c.args.dir.0)
     (λ now m stands ticks carries. rw (c.in-Ok-Started.is, c.in-Ok-Started.field-0-is) at c.in_ok-answer.ensures.step now stands ticks)
-    (posts_in c.one-posts.result) (started_reads s)
+    (posts_in c.one-posts.result) (started_reads s) (stamped_ends_nowhere s)
     (same_posts _ _ _ _ c.one-posts.ensures (ap (posts_at new c.args.dir) c.as_ref.ensures.value) c.in_ok-letters.ensures))
 
 pub returns-in-Ok-Complete : goal.returns-in-Ok-Complete
@@ -42,7 +44,7 @@ returns-in-Ok-Complete c =
     c.begin_skulk.ensures.call.house c.begin_skulk.ensures.call.node c.begin_skulk.ensures.kept
     (λ now m. skulk_fits old.house.0 now c.args.dir.0)
     (λ now m stands ticks carries. rw (c.in-Ok-Complete.is, c.in-Ok-Complete.field-0-is) at c.in_ok-answer.ensures.step now stands ticks)
-    (posts_in c.one-posts.result) (complete_reads s)
+    (posts_in c.one-posts.result) (complete_reads s) (complete_ends_nowhere s)
     (same_posts _ _ _ _ c.one-posts.ensures (ap (posts_at new c.args.dir) c.as_ref.ensures.value) c.in_ok-letters.ensures))
 
 pub returns : goal.returns
@@ -53,7 +55,7 @@ returns c =
     let r = c.in-Err.refusal in
     let same = (rw c.in-Err.is at c.in_ok-answer.ensures.refused).0 in
     said_comes c.refused.result c.args.number old new c.args.clock l (Tells (refused (update_refusal_of r) ∷ []))
-    (rw c.update_refused.ensures at c.refused.ensures)
+    (rw c.refusal_in_script.ensures at c.refused.ensures)
     (comes_tells (IsBegunAnswer (Err r)) (refused (update_refusal_of r)) old new (posts_at new c.args.dir c.in_ok-answer.field-0.outgoing) c.args.clock l
     c.begin_skulk.ensures.call.house c.begin_skulk.ensures.call.node c.begin_skulk.ensures.kept
     (λ now m. skulk_fits old.house.0 now c.args.dir.0)

@@ -7,11 +7,13 @@ use Rattle.clearinghouse.specs.declared.house.Clearinghouse.{Clearinghouse}
 use Rattle.clearinghouse.specs.HouseLetters.{posts_at}
 use Rattle.house_lines.specs.declared.line.HouseLine.{HouseLine}
 use Rattle.house_lines.specs.declared.line.HouseLine.TheVariants as line
-use Rattle.cell_runs.specs.LineAnswers.{refused, update_refusal_of}
-use Rattle.house_turns.specs.HouseReplies.{Posts, Tells}
+use Rattle.cds_cell.specs.Scripted.{update_refusal_of}
+use Rattle.cell_runs.specs.LineAnswers.{refused}
+use Rattle.house_turns.specs.LineOutcomes.{Posts, Tells}
 use Rattle.house_turns.specs.PrivateTurns.{posts_in}
 use Rattle.house_turns.proofs.Letters.{same_posts}
 use Rattle.house_turns.proofs.Comes.{comes_posts, comes_tells, said_comes}
+use Rattle.house_turns.proofs.PlainTexts.{stamped_ends_nowhere}
 use Rattle.house_turns.proofs.Outcomes.{accept_fits, refused_reads, stamped_reads}
 use Rattle.house_turns.proofs.turns.update.Goals as goal
 
@@ -27,7 +29,7 @@ returns-in-Ok c =
     c.accept_update.ensures.call.house c.accept_update.ensures.call.node c.accept_update.ensures.kept
     (λ now m. accept_fits old.house.0 now c.args.dir.0 (change_of c.args.update.now))
     (λ now m stands ticks carries. rw c.in-Ok.is at c.in_ok-answer.ensures.step now stands ticks)
-    (posts_in c.one-posts.result) (stamped_reads s)
+    (posts_in c.one-posts.result) (stamped_reads s) (stamped_ends_nowhere s)
     (same_posts _ _ _ _ c.one-posts.ensures (ap (posts_at new c.args.dir) c.as_ref.ensures.value) c.in_ok-letters-in-Ok.ensures))
 
 pub returns : goal.returns
@@ -38,7 +40,7 @@ returns c =
     let r = c.in-Err.refusal in
     let same = (rw c.in-Err.is at c.in_ok-answer.ensures.refused).0 in
     said_comes c.refused.result c.args.number old new c.args.clock l (Tells (refused (update_refusal_of r) ∷ []))
-    (rw c.update_refused.ensures at c.refused.ensures)
+    (rw c.refusal_in_script.ensures at c.refused.ensures)
     (comes_tells (IsStampAnswer (Err r)) (refused (update_refusal_of r)) old new (posts_at new c.args.dir c.in_ok-answer.field-0.outgoing) c.args.clock l
     c.accept_update.ensures.call.house c.accept_update.ensures.call.node c.accept_update.ensures.kept
     (λ now m. accept_fits old.house.0 now c.args.dir.0 (change_of c.args.update.now))

@@ -1,10 +1,10 @@
-use Rattle.std.proofs.Common.{refl, arith, ◌∙◌, sym, ap, subst}
+use Rattle.std.proofs.Common.{refl, arith, ◌∙◌, sym}
 use Rattle.cell_model.specs.Turns.{started_house}
 use Rattle.cds_cell.specs.declared.house.CellHouse.{CellHouse}
 use Rattle.cds_cell.proofs.ActSteps.{start_placed, start_down}
 use Rattle.cds_cell.proofs.HouseActs.{moved_alone}
 use Rattle.cds_cell.proofs.Houses.{place_within}
-use Rattle.cds_cell.proofs.Twins.{placed_octets}
+use Rattle.cds_cell.proofs.RecordedLaws.{placed_octets}
 use Rattle.cds_cell.proofs.cell.Cell.begin_from.Goals as goal
 
 pub returns-in_default-clause-step : goal.returns-in_default-clause-step

@@ -1,4 +1,4 @@
-use Rattle.std.proofs.Common.{ap, sym, subst, ◌∙◌}
+use Rattle.std.proofs.Common.{sym, subst}
 use Rattle.std.specs.Prelude.{OnOk, map}
 use Rattle.cell_model.specs.Cells as model
 use Rattle.cell_model.specs.Commands as command

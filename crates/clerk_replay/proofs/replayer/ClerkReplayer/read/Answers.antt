@@ -9,7 +9,7 @@ use Rattle.resolver.specs.Readers.{Reader}
 use Rattle.script_answers.specs.declared.answer.Answer.{Answer}
 use Rattle.script_answers.specs.declared.answer.Answer.TheVariants as answer
 use Rattle.script_answers.specs.declared.answer.ScriptRefusal.TheVariants as why
-use Rattle.clerk_replay.specs.Clerking.{prefer_house, read_at, read_by_clerk}
+use Rattle.clerk_replay.specs.Clerking.{read_at, read_by_clerk}
 use Rattle.clerk_replay.specs.PrivateClerking.{read_of}
 use Rattle.clerk_replay.proofs.replayer.ClerkReplayer.read.Goals as goal
 
@@ -22,8 +22,8 @@ returns-then-has_house-clause-answer c s stands =
     let told_is : program_reader here (Some q.house.0) false ≡ cell_reader s.cell (Some q.house.0) false =
     c.cells_tell_the_model.ensures here s.cell is_here (Some q.house.0) false in
     let reader : Reader = cell_reader s.cell (Some q.house.0) false in
-    let asked : Clerk = prefer_house q.house s.clerk in
-    let clerk_is : c.prefer.new.self ≡ asked = c.prefer.ensures ∙ ap (prefer_house q.house) stands.clerk in
+    let asked : Clerk = record s.clerk { prefer = q.house } in
+    let clerk_is : c.prefer.new.self ≡ asked = c.prefer.ensures ∙ ap (λ (k : Clerk). record k { prefer = q.house }) stands.clerk in
     let answers : read (program_reader here (Some q.house.0) false) c.prefer.new.self ≡ read_at c.args.now s (read_of q) =
     ap (λ (r : Reader). read r c.prefer.new.self) told_is
     ∙ ap (read reader) clerk_is

@@ -3,24 +3,15 @@ use Rattle.journal_forms.specs.declared.journal_answer.JournalAnswer.{JournalAns
 use Rattle.journal_replay.proofs.FullTold.{tells_memory, tells_up}
 use Rattle.journal_replay.proofs.journals.Journals.answer.Goals as goal
 
-pub returns-in_err-text-clause-given_up : goal.returns-in_err-text-clause-given_up
-returns-in_err-text-clause-given_up c s stands =
-    err_given_up c.reply.new.self.disks.items s c.args.line c.from_residual-in_err-text.result c.from_residual-in_err-text.ensures.1
-    (c.in_ok-answer.ensures.reply s stands.stands).stands.disks
-
-pub returns-in_err-add-clause-given_up : goal.returns-in_err-add-clause-given_up
-returns-in_err-add-clause-given_up c s stands =
-    err_given_up c.reply.new.self.disks.items s c.args.line c.from_residual-in_err-add.result c.from_residual-in_err-add.ensures.1
+pub returns-in_err-add_text-clause-given_up : goal.returns-in_err-add_text-clause-given_up
+returns-in_err-add_text-clause-given_up c s stands =
+    err_given_up c.reply.new.self.disks.items s c.args.line c.from_residual-in_err-add_text.result c.from_residual-in_err-add_text.ensures.1
     (c.in_ok-answer.ensures.reply s stands.stands).stands.disks
 
 pub returns-in_err-answer-clause-full : goal.returns-in_err-answer-clause-full
 returns-in_err-answer-clause-full c =
     tells_up JournalAnswer c.from_residual.result c.in_err-answer.field-0.0 _ _ c.from_residual.ensures.1 c.in_err-answer.ensures.full
 
-pub returns-in_err-text-clause-full : goal.returns-in_err-text-clause-full
-returns-in_err-text-clause-full c =
-    tells_memory c.from_residual-in_err-text.result _ _ c.from_residual-in_err-text.ensures.1 c.in_ok-answer.ensures.full
-
-pub returns-in_err-add-clause-full : goal.returns-in_err-add-clause-full
-returns-in_err-add-clause-full c =
-    tells_memory c.from_residual-in_err-add.result _ _ c.from_residual-in_err-add.ensures.1 c.in_ok-answer.ensures.full
+pub returns-in_err-add_text-clause-full : goal.returns-in_err-add_text-clause-full
+returns-in_err-add_text-clause-full c =
+    tells_memory c.from_residual-in_err-add_text.result _ _ c.from_residual-in_err-add_text.ensures.1 c.in_ok-answer.ensures.full

@@ -1,4 +1,4 @@
-use Rattle.std.proofs.Common.{◌≡◌, ◌∷◌, [], false, List, ℕ, refl, sym, subst}
+use Rattle.std.proofs.Common.{◌≡◌, ◌∷◌, [], false, List, ℕ, refl, sym, ◌∙◌, subst}
 use Rattle.cell_model.specs.Steps.{outcome}
 use Rattle.cell_script.specs.declared.command.ScriptLine.TheVariants as script
 use Rattle.cds_cell.specs.Scripted.{step_of}
@@ -9,11 +9,19 @@ use Rattle.journal_replay.specs.CellJournals.{lacks_room, puts_of, with_puts}
 use Rattle.journal_replay.specs.CellDisks.{HoldAll}
 use Rattle.journal_replay.proofs.Doing.{does_memory, done_all, give_done, one_spares}
 use Rattle.journal_replay.proofs.FullTold.{tells_memory, tells_up}
+use Rattle.journal_replay.proofs.Refusals.{refused_done}
 use Rattle.journal_replay.proofs.keeper.Keeper.step.Goals as goal
 
 pub returns-in_err-answer-clause-does : goal.returns-in_err-answer-clause-does
 returns-in_err-answer-clause-does c s stands =
     does_memory _ s (said_of s.cell (script.Cell c.args.command)) c.from_residual.result c.from_residual.ensures.1 stands.disks
+
+pub returns-then-is_refusal-clause-does : goal.returns-then-is_refusal-clause-does
+returns-then-is_refusal-clause-does c s stands =
+    let here = subst (λ x. Stands x s.cell) (sym c.cell.ensures) stands.cell in
+    refused_done c.in_ok-answer.answer _ s (step_of c.args.command) _ _ (c.in_ok-answer.ensures.step s.cell stands.cell)
+    (sym c.is_refusal.ensures ∙ c.if-is_refusal.true) (c.actors-first.ensures s.cell here) c.has_disk.ensures c.has_disk-then-is_refusal.ensures
+    stands.gives stands.disks
 
 pub returns-clause-does : goal.returns-clause-does
 returns-clause-does c s stands =

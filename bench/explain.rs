@@ -1,0 +1,107 @@
+//! The script that explains the journals of houses, in plain Rust: what the proved `cdsexplain` is to be compared with. It aborts where
+//! there is no memory.
+#![allow(dead_code)]
+
+#[path = "plain/answers.rs"]
+mod answers;
+#[path = "plain/cell.rs"]
+mod cell;
+#[path = "plain/explaining.rs"]
+mod explaining;
+#[path = "plain/house.rs"]
+mod house;
+#[path = "plain/house_lines.rs"]
+mod house_lines;
+#[path = "plain/house_segments.rs"]
+mod house_segments;
+#[path = "plain/inquiries.rs"]
+mod inquiries;
+#[path = "plain/logs.rs"]
+mod logs;
+#[path = "plain/names.rs"]
+mod names;
+#[path = "plain/records.rs"]
+mod records;
+#[path = "plain/rpc.rs"]
+mod rpc;
+#[path = "plain/script.rs"]
+mod script;
+#[path = "plain/service.rs"]
+mod service;
+#[path = "plain/sha256.rs"]
+mod sha256;
+#[path = "plain/tables.rs"]
+mod tables;
+
+use std::io::{self, Write};
+use std::path::Path;
+use std::process::ExitCode;
+
+use explaining::{Explainer, Stuck};
+use logs::{Log, NoLog};
+use script::{Fault, Words};
+
+/// Why a line of a script is not answered.
+pub enum Stop {
+    Faulty(Fault),
+    Failed(io::Error),
+}
+
+/// What answers a script line by line.
+pub trait Replay {
+    /// Adds the answer to the words of a line.
+    fn answer_line(&mut self, text: &mut Vec<u8>, number: u32, words: Words) -> Result<(), Stop>;
+}
+
+impl From<Fault> for Stop {
+    fn from(fault: Fault) -> Stop {
+        Stop::Faulty(fault)
+    }
+}
+
+impl From<io::Error> for Stop {
+    fn from(error: io::Error) -> Stop {
+        Stop::Failed(error)
+    }
+}
+
+const WHOLE: u8 = 0;
+const USAGE: u8 = 2;
+const UNEXPLAINED: u8 = 3;
+const READ_FAULT: u8 = 4;
+const WRITE_FAULT: u8 = 5;
+const TOO_LONG: u8 = 7;
+
+/// What is written, and the status.
+fn explained(folders: &[std::ffi::OsString]) -> (Vec<u8>, u8) {
+    let mut all = Vec::new();
+    for (at, folder) in folders.iter().enumerate() {
+        match Log::read(Path::new(folder)) {
+            Ok(log) => all.extend(log),
+            Err(NoLog::Unreadable) => return (vec![], READ_FAULT),
+            Err(NoLog::Unlike(fault)) => return (format!("# unexplained: folder {}: {fault}\n", at + 1).into_bytes(), UNEXPLAINED),
+        }
+    }
+    let mut explainer = Explainer::new(all);
+    let ended = explainer.run();
+    let mut script = explainer.script;
+    match ended {
+        Ok(()) => (script, WHOLE),
+        Err(Stuck::TooLong) => (script, TOO_LONG),
+        Err(Stuck::At { house, entry, cause }) => {
+            script.extend(format!("# unexplained: house {house} entry {entry}: {cause}\n").into_bytes());
+            (script, UNEXPLAINED)
+        }
+    }
+}
+
+fn main() -> ExitCode {
+    let folders: Vec<_> = std::env::args_os().skip(1).collect();
+    if folders.is_empty() {
+        return ExitCode::from(USAGE);
+    }
+    let (text, status) = explained(&folders);
+    let mut sink = io::stdout().lock();
+    let written = sink.write_all(&text).and_then(|()| sink.flush());
+    ExitCode::from(if written.is_err() { WRITE_FAULT } else { status })
+}

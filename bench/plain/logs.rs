@@ -1,0 +1,150 @@
+//! The journals of houses, read from their folders.
+
+use std::fs;
+use std::io::ErrorKind;
+use std::path::Path;
+
+use crate::answers::push_hex;
+use crate::house_lines::{Line, line_of};
+use crate::house_segments::{self, NO_SUM, Record, Sum, greatest};
+use crate::script::{house, octets};
+
+/// A start, or a turn.
+pub struct Entry {
+    pub clock: u64,
+    /// Nothing of a start.
+    pub line: Vec<u8>,
+    pub posts: Vec<(u8, Vec<u8>)>,
+    pub answer: Vec<u8>,
+    pub image: Vec<u8>,
+}
+
+impl Entry {
+    pub fn is_start(&self) -> bool {
+        self.line.is_empty()
+    }
+}
+
+/// What a house did after it was made, in its order.
+pub struct Log {
+    pub house: u8,
+    pub node: u64,
+    pub image: Vec<u8>,
+    pub entries: Vec<Entry>,
+}
+
+/// Why a folder has no journal.
+pub enum NoLog {
+    Unreadable,
+    Unlike(String),
+}
+
+/// The parts of a turn's text: its line, its messages, and its answer.
+type Parts<'a> = (&'a [u8], Vec<(u8, Vec<u8>)>, &'a [u8]);
+
+fn post(line: &[u8]) -> Option<(u8, Vec<u8>)> {
+    let words: Vec<&[u8]> = line.split(|b| *b == b' ').collect();
+    let [b"post", to, digits] = words[..] else {
+        return None;
+    };
+    let (to, octets) = (house(to)?, octets(digits)?);
+    let mut again = Vec::new();
+    push_hex(&mut again, &octets);
+    if again == digits { Some((to, octets)) } else { None }
+}
+
+fn parts(text: &[u8]) -> Option<Parts<'_>> {
+    let mut lines = text.strip_suffix(b"\n")?.split(|b| *b == b'\n');
+    let line = lines.next()?;
+    let rest: Vec<&[u8]> = lines.collect();
+    let (answer, posts) = rest.split_last()?;
+    if answer.starts_with(b"post ") {
+        return None;
+    }
+    Some((line, posts.iter().map(|line| post(line)).collect::<Option<_>>()?, answer))
+}
+
+/// Reads a folder, record by record.
+#[derive(Default)]
+struct Reader {
+    log: Option<Log>,
+    number: u64,
+    clock: u64,
+    image: Vec<u8>,
+    /// The text of the last turn.
+    turn: Vec<u8>,
+}
+
+impl Reader {
+    /// Takes a record whose number is due; nothing where no house writes it there.
+    fn take(&mut self, record: &Record) -> Option<()> {
+        let Some(image) = &record.image else {
+            let is_new = self.log.is_none() && record.clock == 0 && record.text == b"new\n";
+            return if is_new { Some(()) } else { None };
+        };
+        if let Some(turn) = record.text.strip_prefix(b"start\n") {
+            let entry = Entry { clock: 0, line: vec![], posts: vec![], answer: vec![], image: image.clone() };
+            self.log.as_mut().filter(|_| record.clock == 0 && turn == self.turn)?.entries.push(entry);
+        } else if record.text.starts_with(b"segment ") {
+            let text = [format!("segment {}\n", self.number).as_bytes(), &self.turn].concat();
+            let goes_on = self.log.is_some() && record.clock == self.clock && *image == self.image && record.text == text;
+            return if goes_on { Some(()) } else { None };
+        } else {
+            self.take_turn(record, image)?;
+            self.turn = record.text.clone();
+        }
+        (self.number, self.clock, self.image) = (record.entry, record.clock, image.clone());
+        Some(())
+    }
+
+    fn take_turn(&mut self, record: &Record, image: &[u8]) -> Option<()> {
+        let (line, posts, answer) = parts(&record.text)?;
+        let words: Vec<&[u8]> = line.split(|b| *b == b' ').filter(|word| !word.is_empty()).collect();
+        let said = if words.is_empty() { None } else { line_of(&words).ok() }?;
+        match (&mut self.log, said) {
+            (None, Line::House(house, node)) if record.clock == 0 && posts.is_empty() && answer == b"ok" => {
+                self.log = Some(Log { house, node, image: image.to_vec(), entries: vec![] });
+            }
+            (None, _) | (_, Line::House(..) | Line::Clock(_) | Line::More(_) | Line::Dump(_) | Line::Look(..) | Line::Image) => return None,
+            (Some(log), _) => {
+                let (line, answer) = (line.to_vec(), answer.to_vec());
+                log.entries.push(Entry { clock: record.clock, line, posts, answer, image: image.to_vec() });
+            }
+        }
+        Some(())
+    }
+
+    /// Reads the octets of a segment after a sum. The sum after it.
+    fn read(&mut self, octets: &[u8], number: u64, before: &Sum) -> Result<Sum, String> {
+        let mut records = Vec::new();
+        let sums = house_segments::read(octets, number, |record| records.push(record)).ok_or(format!("segment {number} is damaged"))?;
+        if sums.before != *before {
+            return Err(format!("segment {number} does not follow the segment before"));
+        }
+        for (place, record) in (2..).zip(&records) {
+            let is_entry = record.text != b"new\n" && !record.text.starts_with(b"segment ");
+            let due = self.number + u64::from(is_entry);
+            if record.entry != due {
+                return Err(format!("segment {number} has entry {} where {due} is due", record.entry));
+            }
+            self.take(record).ok_or(format!("segment {number} record {place} does not follow the record before"))?;
+        }
+        Ok(sums.last)
+    }
+}
+
+impl Log {
+    /// The journal of a folder; none, where no house was made there.
+    pub fn read(folder: &Path) -> Result<Option<Log>, NoLog> {
+        let (mut reader, mut sum) = (Reader::default(), NO_SUM);
+        for number in 1..=greatest(folder).map_err(|_| NoLog::Unreadable)? {
+            let octets = match fs::read(folder.join(number.to_string())) {
+                Ok(octets) => octets,
+                Err(error) if error.kind() == ErrorKind::NotFound => return Err(NoLog::Unlike(format!("segment {number} is missing"))),
+                Err(_) => return Err(NoLog::Unreadable),
+            };
+            sum = reader.read(&octets, number, &sum).map_err(NoLog::Unlike)?;
+        }
+        Ok(reader.log)
+    }
+}

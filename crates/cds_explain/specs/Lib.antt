@@ -1,0 +1,6 @@
+pub mod LoggedEntries
+pub mod Explained
+pub mod PrivateComparing
+pub mod PrivateConsole
+pub mod PrivateReplays
+pub mod PrivateExplainers

@@ -1,0 +1,2 @@
+pub mod EntryCommands
+pub mod SaidLines

@@ -1,0 +1,145 @@
+// Lines with the commands that they say: each is made, read again, and compared with what it is to
+// do.
+ghost use Rattle.std.specs.Prelude.{◌≡◌, ◌≤◌, ℕ, true, IfOk, IfSome};
+ghost use Rattle.std.specs.Bool.{OnTrue};
+ghost use Rattle.std.specs.List.{list_all};
+ghost use Rattle.cds_base.specs.LineFaults.{IsLine, is_printable};
+ghost use Rattle.cds_base.specs.declared.scan.TheConstants.{MOST_LINES};
+ghost use Rattle.cell_script.specs.declared.command.Command.TheVariants as command;
+ghost use Rattle.entry_lines.specs.EntryCommands.{IsCommandOf};
+ghost use Rattle.entry_lines.specs.SaidLines.{SaysCommand};
+
+use crate::lines::{clock_line, crash_line, making_line, start_line, turn_line};
+use crate::meaning::{crashes, is_order, makes, sets_clock, starts};
+use cds_base::LONGEST_LINE;
+use cds_stamps::{AllocOr, HouseNo, Node};
+use cell_script::{Command, ScriptLine, parse_line};
+use house_logs::LoggedTurn;
+use std::alloc::{AllocError, Global};
+
+/// A line of a script, and the command that it says.
+#[derive(Drop)]
+pub struct Said {
+    pub line: Vec<u8>,
+    pub command: Command,
+}
+
+// Whether lines have this octet.
+fn is_printable(octet: u8) -> bool
+    ensures { result ≡ is_printable octet }
+{
+    31 < octet && octet < 127
+}
+
+// Whether all octets are some that lines have.
+fn are_printable(octets: &[u8]) -> bool
+    ensures { result ≡ list_all is_printable octets.now }
+{
+    octets.iter().all(|octet| is_printable(*octet))
+}
+
+// Whether octets are those of a line that a script can have.
+fn is_line(octets: &[u8]) -> bool
+    ensures { OnTrue result ((number : ℕ) → number ≤ MOST_LINES → IsLine number octets.now) }
+{
+    octets.len() <= LONGEST_LINE && are_printable(octets)
+}
+
+// The command that a line says, if a script can have it.
+fn command_in(alloc: Global, line: &[u8]) -> Result<Option<Command>, AllocError>
+    ensures { IfOk result (λ o. IfSome o (SaysCommand line.now)) }
+{
+    if !is_line(line) {
+        return Ok(None);
+    }
+    match parse_line(alloc, line) {
+        Ok(Some(ScriptLine::Cell(command))) => Ok(Some(command)),
+        Ok(_) => Ok(None),
+        Err(AllocOr::Fault(_)) => Ok(None),
+        Err(AllocOr::OutOfMemory) => Err(AllocError),
+    }
+}
+
+// A line with its command, if that is the wanted one.
+fn if_wanted(line: Vec<u8>, command: Command, is_wanted: bool) -> Option<Said>
+    ensures line { IfSome result (λ s. (s.line ≡ line) × (s.command ≡ command)) }
+    ensures wanted { IfSome result (λ s. is_wanted ≡ true) }
+{
+    if is_wanted {
+        Some(Said { line, command })
+    } else {
+        None
+    }
+}
+
+/// `house H NODE`; none, if no line of a script makes this house.
+pub fn making(alloc: Global, house: HouseNo, node: Node) -> Result<Option<Said>, AllocError>
+    ensures says { IfOk result (λ o. IfSome o (λ s. SaysCommand s.line.items s.command)) }
+    ensures is { IfOk result (λ o. IfSome o (λ s. s.command ≡ command.House house node)) }
+{
+    let line = making_line(alloc, house, node)?;
+    let Some(command) = command_in(alloc, &line)? else {
+        return Ok(None);
+    };
+    let is_wanted = makes(&command, house, node);
+    Ok(if_wanted(line, command, is_wanted))
+}
+
+/// `clock H TIME`.
+pub fn setting(alloc: Global, house: HouseNo, time: u64) -> Result<Option<Said>, AllocError>
+    ensures says { IfOk result (λ o. IfSome o (λ s. SaysCommand s.line.items s.command)) }
+    ensures is { IfOk result (λ o. IfSome o (λ s. s.command ≡ command.Clock house time)) }
+{
+    let line = clock_line(alloc, house, time)?;
+    let Some(command) = command_in(alloc, &line)? else {
+        return Ok(None);
+    };
+    let is_wanted = sets_clock(&command, house, time);
+    Ok(if_wanted(line, command, is_wanted))
+}
+
+/// `crash H`.
+pub fn crash(alloc: Global, house: HouseNo) -> Result<Option<Said>, AllocError>
+    ensures says { IfOk result (λ o. IfSome o (λ s. SaysCommand s.line.items s.command)) }
+    ensures is { IfOk result (λ o. IfSome o (λ s. s.command ≡ command.Crash house)) }
+{
+    let line = crash_line(alloc, house)?;
+    let Some(command) = command_in(alloc, &line)? else {
+        return Ok(None);
+    };
+    let is_wanted = crashes(&command, house);
+    Ok(if_wanted(line, command, is_wanted))
+}
+
+/// `start H`.
+pub fn start(alloc: Global, house: HouseNo) -> Result<Option<Said>, AllocError>
+    ensures says { IfOk result (λ o. IfSome o (λ s. SaysCommand s.line.items s.command)) }
+    ensures is { IfOk result (λ o. IfSome o (λ s. s.command ≡ command.Start house)) }
+{
+    let line = start_line(alloc, house)?;
+    let Some(command) = command_in(alloc, &line)? else {
+        return Ok(None);
+    };
+    let is_wanted = starts(&command, house);
+    Ok(if_wanted(line, command, is_wanted))
+}
+
+/// The line of a turn of a house, which takes the message of this serial number if it takes one;
+/// none, if no line of a script does it.
+pub fn turn(
+    alloc: Global,
+    house: HouseNo,
+    turn: &LoggedTurn,
+    serial: u64,
+) -> Result<Option<Said>, AllocError>
+    ensures says { IfOk result (λ o. IfSome o (λ s. SaysCommand s.line.items s.command)) }
+    ensures is { IfOk result
+        (λ o. IfSome o (λ s. IsCommandOf house turn.now.order serial s.command)) }
+{
+    let line = turn_line(alloc, house, turn, serial)?;
+    let Some(command) = command_in(alloc, &line)? else {
+        return Ok(None);
+    };
+    let is_wanted = is_order(&command, house, &turn.order, serial);
+    Ok(if_wanted(line, command, is_wanted))
+}

@@ -1,0 +1,259 @@
+// Whether a command does what an entry says.
+ghost use Rattle.std.specs.Prelude.{◌≡◌, List, Some};
+ghost use Rattle.std.specs.Bool.{OnTrue};
+ghost use Rattle.directory.specs.declared.update.Update.TheVariants as update';
+ghost use Rattle.cell_script.specs.declared.command.Command.TheVariants as command';
+ghost use Rattle.cell_script.specs.declared.lists.Listed.{Listed};
+ghost use Rattle.entry_lines.specs.EntryCommands.{IsCommandOf, update_command};
+
+use attr_sets::Value;
+use cds_stamps::{AttrName, DirId, HouseNo, Node, SimpleName};
+use cell_names::FullName;
+use cell_script::{Command, HouseNos, Listeds};
+use directory::Update;
+use house_logs::LoggedOrder;
+
+/// Whether a command makes this house.
+pub(crate) fn makes(command: &Command, house: HouseNo, node: Node) -> bool
+    ensures { OnTrue result (command.now ≡ command'.House house node) }
+{
+    match command {
+        Command::House(h, n) => *h == house && *n == node,
+        _ => false,
+    }
+}
+
+/// Whether a command sets the clock of this house to this time.
+pub(crate) fn sets_clock(command: &Command, house: HouseNo, time: u64) -> bool
+    ensures { OnTrue result (command.now ≡ command'.Clock house time) }
+{
+    match command {
+        Command::Clock(h, t) => *h == house && *t == time,
+        _ => false,
+    }
+}
+
+/// Whether a command is a crash of this house.
+pub(crate) fn crashes(command: &Command, house: HouseNo) -> bool
+    ensures { OnTrue result (command.now ≡ command'.Crash house) }
+{
+    match command {
+        Command::Crash(h) => *h == house,
+        _ => false,
+    }
+}
+
+/// Whether a command starts this house.
+pub(crate) fn starts(command: &Command, house: HouseNo) -> bool
+    ensures { OnTrue result (command.now ≡ command'.Start house) }
+{
+    match command {
+        Command::Start(h) => *h == house,
+        _ => false,
+    }
+}
+
+// Whether an update creates an entry of this name.
+fn creates(update: &Update, name: &SimpleName) -> bool
+    ensures { OnTrue result (update.now ≡ update'.Create name.now) }
+{
+    match update {
+        Update::Create(n) => n == name,
+        _ => false,
+    }
+}
+
+// Whether two full names are the same.
+fn is_same_name(name: &FullName, other: &FullName) -> bool
+    ensures { OnTrue result (name.now ≡ other.now) }
+{
+    name == other
+}
+
+// Whether an update makes a link of this name to this target.
+fn links(update: &Update, name: &SimpleName, target: &FullName) -> bool
+    ensures { OnTrue result (update.now ≡ update'.MakeLink name.now target.now) }
+{
+    match update {
+        Update::MakeLink(n, t) => n == name && is_same_name(t, target),
+        _ => false,
+    }
+}
+
+// Whether it deletes the entry of this name.
+fn deletes(update: &Update, name: &SimpleName) -> bool
+    ensures { OnTrue result (update.now ≡ update'.Delete name.now) }
+{
+    match update {
+        Update::Delete(n) => n == name,
+        _ => false,
+    }
+}
+
+// Whether it adds this value.
+fn adds(update: &Update, name: &SimpleName, attr: &AttrName, value: &Value) -> bool
+    ensures { OnTrue result (update.now ≡ update'.Add name.now attr.now value.now) }
+{
+    match update {
+        Update::Add(n, a, v) => n == name && a == attr && v == value,
+        _ => false,
+    }
+}
+
+// Whether it removes this value.
+fn removes(update: &Update, name: &SimpleName, attr: &AttrName, value: &Value) -> bool
+    ensures { OnTrue result (update.now ≡ update'.Remove name.now attr.now value.now) }
+{
+    match update {
+        Update::Remove(n, a, v) => n == name && a == attr && v == value,
+        _ => false,
+    }
+}
+
+// Whether it puts this value.
+fn puts(update: &Update, name: &SimpleName, attr: &AttrName, value: &Value) -> bool
+    ensures { OnTrue result (update.now ≡ update'.Put name.now attr.now value.now) }
+{
+    match update {
+        Update::Put(n, a, v) => n == name && a == attr && v == value,
+        _ => false,
+    }
+}
+
+// Whether it clears this attribute.
+fn clears(update: &Update, name: &SimpleName, attr: &AttrName) -> bool
+    ensures { OnTrue result (update.now ≡ update'.Clear name.now attr.now) }
+{
+    match update {
+        Update::Clear(n, a) => n == name && a == attr,
+        _ => false,
+    }
+}
+
+// Whether a command is this update of this directory at this house.
+fn updates(command: &Command, house: HouseNo, dir: DirId, update: &Update) -> bool
+    ensures { OnTrue result (update_command house dir update.now ≡ Some command.now) }
+{
+    match command {
+        Command::Create(h, d, n) => *h == house && *d == dir && creates(update, n),
+        Command::Link(h, d, n, t) => *h == house && *d == dir && links(update, n, t),
+        Command::Delete(h, d, n) => *h == house && *d == dir && deletes(update, n),
+        Command::Add(h, d, n, a, v) => *h == house && *d == dir && adds(update, n, a, v),
+        Command::Remove(h, d, n, a, v) => *h == house && *d == dir && removes(update, n, a, v),
+        Command::Put(h, d, n, a, v) => *h == house && *d == dir && puts(update, n, a, v),
+        Command::Clear(h, d, n, a) => *h == house && *d == dir && clears(update, n, a),
+        _ => false,
+    }
+}
+
+// Whether two lists have the same houses, secondary alike.
+fn are_same(listeds: &Listeds, others: &Listeds) -> bool
+    ensures { OnTrue result (listeds.now ≡ others.now) }
+{
+    listeds.list() == others.list()
+}
+
+// Whether two lists have the same houses.
+fn are_same_houses(houses: &HouseNos, others: &HouseNos) -> bool
+    ensures { OnTrue result (houses.now ≡ others.now) }
+{
+    houses.list() == others.list()
+}
+
+// Whether a command founds the root at this house, with these others.
+fn founds(command: &Command, house: HouseNo, others: &Listeds) -> bool
+    ensures { OnTrue result (command.now ≡ command'.Root house others.now) }
+{
+    match command {
+        Command::Root(m, ls) => *m == house && are_same(ls, others),
+        _ => false,
+    }
+}
+
+// Whether a command makes this child of this directory at this house, which is its master.
+fn makes_child(
+    command: &Command,
+    house: HouseNo,
+    dir: DirId,
+    name: &SimpleName,
+    others: &Listeds,
+) -> bool
+    ensures { OnTrue result (command.now ≡ command'.Mkdir house dir name.now house others.now) }
+{
+    match command {
+        Command::Mkdir(h, d, n, m, ls) => {
+            *h == house && *d == dir && n == name && *m == house && are_same(ls, others)
+        }
+        _ => false,
+    }
+}
+
+// Whether a command changes at this house where a child leads: to these houses.
+fn repoints(
+    command: &Command,
+    house: HouseNo,
+    dir: DirId,
+    name: &SimpleName,
+    master: HouseNo,
+    others: &HouseNos,
+) -> bool
+    ensures { OnTrue result
+        (command.now ≡ command'.Repoint house dir name.now master others.now) }
+{
+    match command {
+        Command::Repoint(h, d, n, m, rs) => {
+            *h == house && *d == dir && n == name && *m == master && are_same_houses(rs, others)
+        }
+        _ => false,
+    }
+}
+
+// Whether a command is a skulk of this directory at this house.
+fn skulks(command: &Command, house: HouseNo, dir: DirId) -> bool
+    ensures { OnTrue result (command.now ≡ command'.Skulk house dir) }
+{
+    match command {
+        Command::Skulk(h, d) => *h == house && *d == dir,
+        _ => false,
+    }
+}
+
+// Whether a command is an epoch of this directory at this house.
+fn enters(command: &Command, house: HouseNo, dir: DirId) -> bool
+    ensures { OnTrue result ((ls : List Listed) × (command.now ≡ command'.Epoch dir house ls)) }
+{
+    match command {
+        Command::Epoch(d, m, _) => *d == dir && *m == house,
+        _ => false,
+    }
+}
+
+// Whether a command delivers the message of this serial number.
+fn delivers(command: &Command, serial: u64) -> bool
+    ensures { OnTrue result (command.now ≡ command'.Deliver serial) }
+{
+    match command {
+        Command::Deliver(n) => *n == serial,
+        _ => false,
+    }
+}
+
+/// Whether a command is the order at this house: the number of a new directory, the list of an
+/// epoch, and what a message has in it are compared apart.
+pub(crate) fn is_order(command: &Command, house: HouseNo, order: &LoggedOrder, serial: u64) -> bool
+    ensures { OnTrue result (IsCommandOf house order.now serial command.now) }
+{
+    match order {
+        LoggedOrder::Root(others) => founds(command, house, others),
+        LoggedOrder::Mkdir(dir, name, _, others) => {
+            makes_child(command, house, *dir, name, others)
+        }
+        LoggedOrder::Repoint(dir, name, master, others) => {
+            repoints(command, house, *dir, name, *master, others)
+        }
+        LoggedOrder::Update(dir, update) => updates(command, house, *dir, update),
+        LoggedOrder::Skulk(dir) => skulks(command, house, *dir),
+        LoggedOrder::Epoch(dir, _, _) => enters(command, house, *dir),
+        LoggedOrder::Take(_) => delivers(command, serial),
+    }
+}

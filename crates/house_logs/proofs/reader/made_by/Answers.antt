@@ -1,0 +1,12 @@
+use Rattle.std.proofs.Common.{Ok, Some, ap, ◌∙◌, rules, arith}
+use Rattle.std.proofs.lemmas.Grind.{common_steps}
+use Rattle.house_lines.specs.declared.line.HouseLine.{HouseLine}
+use Rattle.house_logs.proofs.reader.made_by.Goals as goal
+
+pub returns-in-House : goal.returns-in-House
+returns-in-House c = record {
+  says = (rw c.in-Some.is at c.in_ok-says.ensures) ∙ ap (λ (s : HouseLine). Ok (Some s)) c.in-House.is;
+  posts = first_of (search rules, grind (arith, common_steps));
+  answer = first_of (search rules, grind (arith, common_steps));
+  image_is = c.in_ok-octets_of-in-House.ensures;
+}

@@ -1,0 +1,5 @@
+pub mod Orders
+pub mod TurnTexts
+pub mod Records
+pub mod Logs
+pub mod Reads

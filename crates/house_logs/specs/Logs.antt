@@ -1,0 +1,67 @@
+-- The journal of a house: its segments, the records of these, and the entries that they are.
+use Rattle.std.specs.Prelude.{◌≡◌, ℕ, ◌+◌, ◌-◌, List, [], ◌∷◌, ◌++◌, All, length, map, take, drop, Some, None, Ok, codes}
+use Rattle.cell_script.specs.Words.{words_of}
+use Rattle.house_entries.specs.Bodies.{IsBody, head_of}
+use Rattle.house_journal.specs.JournalRecords.{images}
+use Rattle.house_lines.specs.LineRows.{said_in}
+use Rattle.house_lines.specs.declared.line.HouseLine.TheVariants as asks
+use Rattle.house_segments.specs.Reading.{IsLast}
+use Rattle.house_segments.specs.declared.chain.TheConstants.{DIGEST}
+use Rattle.house_logs.specs.declared.log.HouseLog.{HouseLog}
+use Rattle.house_logs.specs.Records.{AreRecords, LastEntry}
+use Rattle.house_logs.specs.TurnTexts.{turn_text}
+
+-- ---- entries
+
+-- the body of a record of a process that has no house
+abbrev pub IsNew : List ℕ → Type 0
+IsNew body = IsBody body 0 0 (codes "new" ++ 10 ∷ []) None
+
+-- the text of the turn that makes a house
+abbrev pub making_text : (line : List ℕ) → List ℕ
+making_text line = turn_text line [] (codes "ok")
+
+-- a house is made by the record with this body, which is entry 1; and the last entry then
+pub record Begins (body : List ℕ) (log : HouseLog) (last : LastEntry) : Type 0 where
+  pub line : List ℕ
+  pub says : said_in (words_of line) ≡ Ok (Some (asks.House log.house log.node))
+  pub body_is : IsBody body 1 0 (making_text line) (Some log.image)
+  pub last_is : last ≡ record { number = 1; clock = 0; image = log.image; turn = making_text line }
+
+-- the bodies of records are those of a house: a record for each process before it was made, the one
+-- that made it, and its entries after that
+pub record IsLogOf (bodies : List (List ℕ)) (log : HouseLog) (last : LastEntry) : Type 0 where
+  pub news : List (List ℕ)
+  pub first : List ℕ
+  pub others : List (List ℕ)
+  pub begun : LastEntry
+  pub parts : bodies ≡ news ++ first ∷ others
+  pub are_new : All IsNew news
+  pub begins : Begins first log begun
+  pub records : AreRecords begun others log.entries.items last
+
+-- the journal that records with these bodies are
+abbrev pub IsJournalOf : (bodies : List (List ℕ)) → HouseLog → Type 0
+IsJournalOf bodies log = (last : LastEntry) × IsLogOf bodies log last
+
+-- ---- segments
+
+-- a record without its digest
+abbrev pub body_in : List ℕ → List ℕ
+body_in record' = take (length record' - DIGEST) record'
+
+-- the digest of the record before that the head of a segment names
+abbrev pub before_in : (head : List ℕ) → List ℕ
+before_in head = take DIGEST (drop (length head - (DIGEST + DIGEST)) head)
+
+-- octets are the segment of this number, after a record with this digest: a chain of records, whose
+-- last one has the digest after; these are the bodies of those after the head
+pub record IsSegment (number : ℕ) (before octets : List ℕ) (bodies : List (List ℕ)) (after : List ℕ)
+    : Type 0 where
+  pub last : List ℕ
+  pub chain : IsLast (head_of number []) (images octets) last after
+  pub head : List ℕ
+  pub others : List (List ℕ)
+  pub records : images octets ≡ head ∷ others
+  pub follows : before_in head ≡ before
+  pub bodies_are : bodies ≡ map body_in others

@@ -1,0 +1,13 @@
+//! The journals of houses, read: what each house did, entry by entry.
+#![tactic(auto)]
+
+mod fault;
+mod log;
+mod order;
+mod reader;
+mod text;
+
+pub use fault::LogFault;
+pub use log::{HouseLog, LogEntry, LoggedTurn, PostedOctets};
+pub use order::LoggedOrder;
+pub use reader::LogReader;

@@ -1,0 +1,487 @@
+// The journal of a house, read segment by segment.
+ghost use Rattle.std.specs.Prelude.{◌≡◌, ◌+◌, ◌++◌, ◌∷◌, [], ℕ, List, false, Ok, Some, None, All, replicate, IfOk, IfSome, OnOk, MatchOption, codes, decimal, is_none, map};
+ghost use Rattle.std.specs.Bool.{OnTrue};
+ghost use Rattle.cell_script.specs.Words.{words_of};
+ghost use Rattle.house_entries.specs.Bodies.{IsBody};
+ghost use Rattle.house_journal.specs.JournalRecords.{images};
+ghost use Rattle.house_lines.specs.LineRows.{said_in};
+ghost use Rattle.house_logs.specs.Logs.{IsJournalOf, IsNew, before_in, body_in};
+ghost use Rattle.house_logs.specs.Reads.{HasRead, IsDue, IsMadeBy, IsTurnBy, ReadsOn, ReadsRecords};
+ghost use Rattle.house_logs.specs.TurnTexts.{turn_text};
+
+use crate::fault::LogFault;
+use crate::log::{HouseLog, LogEntry, LoggedTurn, Making};
+use crate::order::{LoggedOrder, order_in};
+use crate::text::{TurnText, turn_in};
+use cds_stamps::AllocOr;
+use cell_script::Octets;
+use house_entries::{Body, head_octets, read_body};
+use house_lines::{HouseLine, parse_house_line};
+use house_segments::{DIGEST, first_record, last_record};
+use script_answers::push_number;
+use std::alloc::{AllocError, Global};
+
+/// The journal of a house as far as it was read: how many segments, and the digest of the last
+/// record; who the house is, if it was made, and its entries after that; the number, the clock and
+/// the image of the last entry, and the text of the last turn.
+#[derive(Drop)]
+pub struct LogReader {
+    segments: u64,
+    digest: [u8; DIGEST],
+    made: Option<Making>,
+    entries: Vec<LogEntry>,
+    number: u64,
+    clock: u64,
+    image: Octets,
+    turn: Vec<u8>,
+}
+
+// A copy of octets.
+fn octets_of(alloc: Global, octets: &[u8]) -> Result<Octets, AllocError>
+    ensures { IfOk result (λ o. o ≡ octets.now) }
+{
+    Ok(Octets::of(Vec::from_slice(alloc, octets)?))
+}
+
+// What a line says, if it says something.
+fn said_by(alloc: Global, line: &[u8]) -> Result<Option<HouseLine>, AllocError>
+    ensures { IfOk result
+        (λ o. IfSome o (λ says. said_in (words_of line.now) ≡ Ok (Some says))) }
+{
+    match parse_house_line(alloc, line) {
+        Ok(says) => Ok(says),
+        Err(AllocOr::Fault(_)) => Ok(None),
+        Err(AllocOr::OutOfMemory) => Err(AllocError),
+    }
+}
+
+// The line of a turn; none of a `take`, whose octets are kept already.
+fn kept_line(alloc: Global, line: &[u8], order: &LoggedOrder) -> Result<Octets, AllocError> {
+    match order {
+        LoggedOrder::Take(_) => Ok(Octets::new(alloc)),
+        _ => octets_of(alloc, line),
+    }
+}
+
+// What a text is after these octets, if it begins with them.
+fn without<'a>(front: &[u8], text: &'a [u8]) -> Option<&'a [u8]>
+    ensures { IfSome result (λ rest. text.now ≡ front.now ++ rest.now) }
+{
+    if text.len() < front.len() {
+        return None;
+    }
+    let (begin, rest) = text.split_at(front.len());
+    if begin != front {
+        return None;
+    }
+    Some(rest)
+}
+
+// The turn of these parts, if its line is one of a turn.
+fn turn_of(
+    alloc: Global,
+    clock: u64,
+    parts: TurnText<'_>,
+    image: &[u8],
+) -> Result<Option<LoggedTurn>, AllocError>
+    ensures { IfOk result (λ o. IfSome o (IsTurnBy parts.entry clock image.now)) }
+{
+    let TurnText {
+        line,
+        posts,
+        answer,
+    } = parts;
+    let Some(says) = said_by(alloc, line)? else {
+        return Ok(None);
+    };
+    let Some(order) = order_in(says) else {
+        return Ok(None);
+    };
+    Ok(Some(LoggedTurn {
+        clock,
+        line: kept_line(alloc, line, &order)?,
+        order,
+        posts,
+        answer: octets_of(alloc, answer)?,
+        image: octets_of(alloc, image)?,
+    }))
+}
+
+// The house that is made by a turn of these parts.
+fn made_by(alloc: Global, parts: &TurnText<'_>, image: &[u8]) -> Result<Option<Making>, AllocError>
+    ensures { IfOk result (λ o. IfSome o (IsMadeBy parts.now image.now)) }
+{
+    if !parts.posts.is_empty() {
+        return Ok(None);
+    }
+    if parts.answer != b"ok".as_slice() {
+        return Ok(None);
+    }
+    let Some(says) = said_by(alloc, parts.line)? else {
+        return Ok(None);
+    };
+    match &says {
+        HouseLine::House(house, node) => Ok(Some(Making {
+            house: *house,
+            node: *node,
+            image: octets_of(alloc, image)?,
+        })),
+        _ => Ok(None),
+    }
+}
+
+impl LogReader {
+    /// Of a journal of which nothing was read yet.
+    pub fn new(alloc: Global) -> LogReader
+        ensures read { HasRead result [] }
+        ensures segments { result.segments ≡ 0 }
+        ensures digest { result.digest ≡ replicate 32 0 }
+    {
+        LogReader {
+            segments: 0,
+            digest: [0; DIGEST],
+            made: None,
+            entries: Vec::new(alloc),
+            number: 0,
+            clock: 0,
+            image: Octets::new(alloc),
+            turn: Vec::new(alloc),
+        }
+    }
+
+    /// How many segments were read.
+    pub fn segments(&self) -> u64
+        ensures { result ≡ self.now.segments }
+    {
+        self.segments
+    }
+
+    /// The journal; none, if no house was made yet.
+    pub fn finish(self) -> Option<HouseLog>
+        ensures { (bodies : List (List ℕ)) → HasRead self bodies
+            → MatchOption result (All IsNew bodies) (IsJournalOf bodies) }
+    {
+        let LogReader { made, entries, .. } = self;
+        let Making { house, node, image } = made?;
+        Some(HouseLog {
+            house,
+            node,
+            image,
+            entries,
+        })
+    }
+
+    /// Reads the octets of the next segment.
+    pub fn read(&mut self, alloc: Global, octets: &[u8]) -> Result<(), AllocOr<LogFault>>
+        ensures segments { OnOk result (self.new.segments ≡ self.old.segments + 1) }
+        ensures read { (bodies : List (List ℕ)) → HasRead self.old bodies
+            → OnOk result (ReadsOn bodies octets.now self.old self.new) }
+    {
+        let Some(number) = self.segments.checked_add(1) else {
+            return Err(AllocOr::Fault(LogFault::Damaged(self.segments)));
+        };
+        let title = head_octets(alloc, number, b"")?;
+        let Some(last) = last_record(&title, octets) else {
+            return Err(AllocOr::Fault(LogFault::Damaged(number)));
+        };
+        self.read_records(alloc, number, octets)?;
+        self.digest = last.digest;
+        self.segments = number;
+        Ok(())
+    }
+
+    // Reads the records of a segment of this number.
+    fn read_records(
+        &mut self,
+        alloc: Global,
+        number: u64,
+        octets: &[u8],
+    ) -> Result<(), AllocOr<LogFault>>
+        ensures digest { self.new.digest ≡ self.old.digest }
+        ensures segments { self.new.segments ≡ self.old.segments }
+        ensures read { (bodies : List (List ℕ)) → HasRead self.old bodies
+            → OnOk result (ReadsRecords bodies octets.now self.old.digest self.new) }
+    {
+        let Some((head, rest)) = first_record(octets) else {
+            return Err(AllocOr::Fault(LogFault::Damaged(number)));
+        };
+        if !self.is_next(head) {
+            return Err(AllocOr::Fault(LogFault::NotNext(number)));
+        }
+        self.read_all(alloc, number, rest)
+    }
+
+    // Reads the records at the front of octets.
+    fn read_all(
+        &mut self,
+        alloc: Global,
+        number: u64,
+        octets: &[u8],
+    ) -> Result<(), AllocOr<LogFault>>
+        ensures digest { self.new.digest ≡ self.old.digest }
+        ensures segments { self.new.segments ≡ self.old.segments }
+        ensures read { (bodies : List (List ℕ)) → HasRead self.old bodies
+            → OnOk result (HasRead self.new (bodies ++ map body_in (images octets.now))) }
+    {
+        let mut rest = octets;
+        let mut place: u64 = 1;
+        'records: while let Some((record, behind)) = first_record(rest) {
+            place = place.saturating_add(1);
+            self.read_record(alloc, number, place, record)?;
+            rest = behind;
+        }
+        Ok(())
+    }
+
+    // Whether the head of a segment names the digest of the last record that was read.
+    fn is_next(&self, head: &[u8]) -> bool
+        ensures { OnTrue result (before_in head.now ≡ self.now.digest) }
+    {
+        if head.len() < 2 * DIGEST {
+            return false;
+        }
+        let (_, ends) = head.split_at(head.len() - 2 * DIGEST);
+        let (before, _) = ends.split_at(DIGEST);
+        before == self.digest.as_slice()
+    }
+
+    // Reads a record.
+    fn read_record(
+        &mut self,
+        alloc: Global,
+        segment: u64,
+        place: u64,
+        sealed: &[u8],
+    ) -> Result<(), AllocOr<LogFault>>
+        ensures digest { self.new.digest ≡ self.old.digest }
+        ensures segments { self.new.segments ≡ self.old.segments }
+        ensures read { (bodies : List (List ℕ)) → HasRead self.old bodies
+            → OnOk result (HasRead self.new (bodies ++ body_in sealed.now ∷ [])) }
+    {
+        if sealed.len() < DIGEST {
+            return Err(AllocOr::Fault(LogFault::BadRecord(segment, place)));
+        }
+        let (octets, _) = sealed.split_at(sealed.len() - DIGEST);
+        let Some(body) = read_body(octets) else {
+            return Err(AllocOr::Fault(LogFault::BadRecord(segment, place)));
+        };
+        if let Some(due) = self.other_number(&body) {
+            return Err(AllocOr::Fault(LogFault::NotDue(segment, body.number, due)));
+        }
+        if self.take_body(alloc, &body)? {
+            Ok(())
+        } else {
+            Err(AllocOr::Fault(LogFault::BadRecord(segment, place)))
+        }
+    }
+
+    // The number that is due, if a record has another: that of the last entry, if it is none.
+    fn other_number(&self, body: &Body<'_>) -> Option<u64> {
+        let is_entry = body.text != b"new\n".as_slice() && !body.text.starts_with(b"segment ");
+        let due = if is_entry {
+            self.number.checked_add(1)?
+        } else {
+            self.number
+        };
+        if body.number == due { None } else { Some(due) }
+    }
+
+    // Whether the number of an entry is the next one.
+    fn is_due(&self, number: u64) -> bool
+        ensures { OnTrue result (number ≡ self.now.number + 1) }
+    {
+        self.number.checked_add(1) == Some(number)
+    }
+
+    // Takes a record that has the number which is due. Whether a house writes it there.
+    fn take_body(&mut self, alloc: Global, body: &Body<'_>) -> Result<bool, AllocError>
+        ensures digest { self.new.digest ≡ self.old.digest }
+        ensures segments { self.new.segments ≡ self.old.segments }
+        ensures read { (bodies : List (List ℕ)) (octets : List ℕ) → HasRead self.old bodies
+            → IsDue octets body.now → IfOk result
+            (λ takes. OnTrue takes (HasRead self.new (bodies ++ octets ∷ []))) }
+    {
+        let Some(image) = body.image else {
+            return Ok(self.is_new(body));
+        };
+        if let Some(turn) = without(b"start\n", body.text) {
+            return self.take_start(alloc, body, turn, image);
+        }
+        if body.text.starts_with(b"segment ") {
+            return self.goes_on(alloc, body, image);
+        }
+        self.take_turn(alloc, body, image)
+    }
+
+    // Whether a record without an image is the first one of a process without a house.
+    fn is_new(&self, body: &Body<'_>) -> bool
+        ensures { OnTrue result ((self.now.made ≡ None) × ((body.now.number ≡ 0)
+            × ((body.now.clock ≡ 0) × (body.now.text.now ≡ codes "new" ++ 10 ∷ [])))) }
+    {
+        self.made.is_none()
+            && body.number == 0
+            && body.clock == 0
+            && body.text == b"new\n".as_slice()
+    }
+
+    // Whether a record has the fields of a start, after the text of the last turn.
+    fn is_start(&self, body: &Body<'_>, turn: &[u8]) -> bool
+        ensures { OnTrue result ((is_none self.now.made ≡ false)
+            × ((body.now.number ≡ self.now.number + 1) × ((body.now.clock ≡ 0)
+            × (turn.now ≡ self.now.turn.items)))) }
+    {
+        self.made.is_some()
+            && self.is_due(body.number)
+            && body.clock == 0
+            && turn == self.turn.as_slice()
+    }
+
+    // Takes the record of a start.
+    fn take_start(
+        &mut self,
+        alloc: Global,
+        body: &Body<'_>,
+        turn: &[u8],
+        image: &[u8],
+    ) -> Result<bool, AllocError>
+        ensures digest { self.new.digest ≡ self.old.digest }
+        ensures segments { self.new.segments ≡ self.old.segments }
+        ensures read { (bodies : List (List ℕ)) (octets : List ℕ) → HasRead self.old bodies
+            → IsBody octets body.now.number body.now.clock (codes "start" ++ (10 ∷ turn.now))
+            (Some image.now)
+            → IfOk result (λ takes. OnTrue takes (HasRead self.new (bodies ++ octets ∷ []))) }
+    {
+        if !self.is_start(body, turn) {
+            return Ok(false);
+        }
+        let started = octets_of(alloc, image)?;
+        self.image = octets_of(alloc, image)?;
+        self.entries.push(LogEntry::Started(started))?;
+        self.number = body.number;
+        self.clock = 0;
+        Ok(true)
+    }
+
+    // The text of the first record of a segment in the middle of a process.
+    fn segment_text(&self, alloc: Global) -> Result<Vec<u8>, AllocError>
+        ensures { IfOk result (λ v. v.items
+            ≡ codes "segment " ++ (decimal self.now.number ++ (10 ∷ self.now.turn.items))) }
+    {
+        let mut text = Vec::from_slice(alloc, b"segment ")?;
+        push_number(&mut text, self.number)?;
+        text.push(b'\n')?;
+        text.extend_from_slice(&self.turn)?;
+        Ok(text)
+    }
+
+    // Whether a record has the number, the clock and the image of the last entry.
+    fn is_last(&self, body: &Body<'_>, image: &[u8]) -> bool
+        ensures { OnTrue result ((is_none self.now.made ≡ false)
+            × ((body.now.number ≡ self.now.number) × ((body.now.clock ≡ self.now.clock)
+            × (image.now ≡ self.now.image)))) }
+    {
+        self.made.is_some()
+            && body.number == self.number
+            && body.clock == self.clock
+            && image == self.image.list()
+    }
+
+    // Whether this is the first record of a segment in the middle of a process.
+    fn goes_on(&self, alloc: Global, body: &Body<'_>, image: &[u8]) -> Result<bool, AllocError>
+        ensures read { (bodies : List (List ℕ)) (octets : List ℕ) → HasRead self.now bodies
+            → IsBody octets body.now.number body.now.clock body.now.text.now (Some image.now)
+            → IfOk result (λ goes. OnTrue goes (HasRead self.now (bodies ++ octets ∷ []))) }
+    {
+        if !self.is_last(body, image) {
+            return Ok(false);
+        }
+        let text = self.segment_text(alloc)?;
+        Ok(text.as_slice() == body.text)
+    }
+
+    // Takes the record of a turn: the first one makes the house.
+    fn take_turn(
+        &mut self,
+        alloc: Global,
+        body: &Body<'_>,
+        image: &[u8],
+    ) -> Result<bool, AllocError>
+        ensures digest { self.new.digest ≡ self.old.digest }
+        ensures segments { self.new.segments ≡ self.old.segments }
+        ensures read { (bodies : List (List ℕ)) (octets : List ℕ) → HasRead self.old bodies
+            → IsBody octets body.now.number body.now.clock body.now.text.now (Some image.now)
+            → IfOk result (λ takes. OnTrue takes (HasRead self.new (bodies ++ octets ∷ []))) }
+    {
+        if !self.is_due(body.number) {
+            return Ok(false);
+        }
+        let Some(parts) = turn_in(alloc, body.text)? else {
+            return Ok(false);
+        };
+        if self.made.is_none() {
+            return self.take_making(alloc, body, &parts, image);
+        }
+        self.push_turn(alloc, body, parts, image)
+    }
+
+    // The house is made by a turn of these parts.
+    fn take_making(
+        &mut self,
+        alloc: Global,
+        body: &Body<'_>,
+        parts: &TurnText<'_>,
+        image: &[u8],
+    ) -> Result<bool, AllocError>
+        requires none { self.old.made ≡ None }
+        requires due { body.now.number ≡ self.old.number + 1 }
+        requires text { body.now.text.now
+            ≡ turn_text parts.now.line.now parts.now.posts.items parts.now.answer.now }
+        ensures digest { self.new.digest ≡ self.old.digest }
+        ensures segments { self.new.segments ≡ self.old.segments }
+        ensures read { (bodies : List (List ℕ)) (octets : List ℕ) → HasRead self.old bodies
+            → IsBody octets body.now.number body.now.clock body.now.text.now (Some image.now)
+            → IfOk result (λ takes. OnTrue takes (HasRead self.new (bodies ++ octets ∷ []))) }
+    {
+        if body.clock != 0 {
+            return Ok(false);
+        }
+        let Some(made) = made_by(alloc, parts, image)? else {
+            return Ok(false);
+        };
+        self.turn = Vec::from_slice(alloc, body.text)?;
+        self.image = octets_of(alloc, image)?;
+        self.made = Some(made);
+        self.number = body.number;
+        self.clock = 0;
+        Ok(true)
+    }
+
+    // Takes a turn of these parts.
+    fn push_turn(
+        &mut self,
+        alloc: Global,
+        body: &Body<'_>,
+        parts: TurnText<'_>,
+        image: &[u8],
+    ) -> Result<bool, AllocError>
+        requires some { is_none self.old.made ≡ false }
+        requires due { body.now.number ≡ self.old.number + 1 }
+        requires text { body.now.text.now
+            ≡ turn_text parts.line.now parts.posts.items parts.answer.now }
+        ensures digest { self.new.digest ≡ self.old.digest }
+        ensures segments { self.new.segments ≡ self.old.segments }
+        ensures read { (bodies : List (List ℕ)) (octets : List ℕ) → HasRead self.old bodies
+            → IsBody octets body.now.number body.now.clock body.now.text.now (Some image.now)
+            → IfOk result (λ takes. OnTrue takes (HasRead self.new (bodies ++ octets ∷ []))) }
+    {
+        let Some(turn) = turn_of(alloc, body.clock, parts, image)? else {
+            return Ok(false);
+        };
+        self.turn = Vec::from_slice(alloc, body.text)?;
+        self.image = octets_of(alloc, image)?;
+        self.entries.push(LogEntry::Turned(turn))?;
+        self.number = body.number;
+        self.clock = body.clock;
+        Ok(true)
+    }
+}

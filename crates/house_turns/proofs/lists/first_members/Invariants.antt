@@ -1,9 +1,0 @@
-use Rattle.std.proofs.Common.{[], drop}
-use Rattle.cell_script.specs.Listings.{houses_in, secondaries_in}
-use Rattle.house_directory.specs.HouseMessages.{numbers_of}
-use Rattle.cds_cell.proofs.MemberLists.{ListsRest}
-use Rattle.house_turns.proofs.lists.first_members.Given as goal
-
-abbrev pub invariant-loop-house : goal.invariant-loop-house
-invariant-loop-house l =
-    ListsRest [] 1 l.master.0 (numbers_of (houses_in l.others)) (numbers_of (secondaries_in l.others)) (drop l.house-index l.house-items) l.list.items

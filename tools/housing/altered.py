@@ -1,0 +1,410 @@
+"""The journals of a cell, with one thing altered at a time: what `cdsexplain` is tried with. Numbers and sums are made right again, unless
+a row says that they are as they were."""
+import copy
+import os
+import random
+import shutil
+
+import journals
+from cell import Cell
+from net import Net
+from processes import Process, take_lines
+
+# What the houses of the cell do. Of the messages some are lost, and some come later.
+SESSION = """
+house 1 00000000000a
+house 2 00000000000b
+house 3 00000000000c
+root 1 2 s3
+clock 1 50
+create 1 1 a
+put 1 1 a A 00
+create 3 1 b
+mkdir 1 1 sub 1 s2
+link 1 1 l /.:/a
+create 2 2 c
+crash 2
+start 2
+clock 3 70
+add 3 1 b A 01
+skulk 1 1
+epoch 1 1 2 s3
+delete 1 1 a
+epoch 2 2 s1 3
+repoint 1 1 sub 2 1
+crash 1
+start 1
+skulk 2 2
+clock 2 60
+remove 2 2 c A 02
+skulk 1 1
+epoch 1 1 s3
+clear 3 1 b A
+epoch 1 1 2 s3
+crash 3
+start 3
+""".split("\n")[1:-1]
+LOST, DELAYED = 10, 20
+# A cell whose folders are small.
+SMALL = ["house 1 00000000000a", "house 2 00000000000b", "root 1 2", "create 1 1 a"]
+
+
+def worked(folder, program, seed, session, lost=LOST, delayed=DELAYED):
+    """The folders of a cell that worked."""
+    chance = random.Random(seed)
+    cell = Cell(folder, program, Net(chance, loss=lost), delayed, lambda text: None)
+    for line in session:
+        cell.answer(line.split())
+    cell.close()
+    return {house: cell.path(house) for house in cell.houses()}
+
+
+class Item:
+    """A record of a segment: `new`, `segment`, `start`, or a turn with its own lines."""
+
+    def __init__(self, record):
+        self.kind = record.kind if record.kind in ("new", "segment", "start") else "turn"
+        self.number, self.clock, self.image = record.number, record.clock, record.image
+        self.lines = record.lines if self.kind == "turn" else []
+
+    @property
+    def is_entry(self):
+        return self.kind in ("start", "turn")
+
+    @property
+    def posts(self):
+        """The places of its posts among its lines."""
+        return range(1, len(self.lines) - 1)
+
+    def body(self, turn):
+        """Its octets, after this turn."""
+        said = {"new": ["new"], "start": ["start", *turn], "segment": [f"segment {self.number}", *turn]}.get(self.kind, self.lines)
+        text = "".join(f"{line}\n" for line in said).encode("ascii")
+        fields = self.number.to_bytes(8, "big") + self.clock.to_bytes(8, "big")
+        fields += bytes([self.image is not None]) + len(text).to_bytes(4, "big")
+        return fields + text + (self.image or b"")
+
+
+class Journal:
+    """The journal of a house: its segments, each a list of items."""
+
+    def __init__(self, folder):
+        self.segments = [[Item(record) for record in segment.records] for segment in journals.segments(folder)]
+
+    def copy(self):
+        return copy.deepcopy(self)
+
+    def places(self):
+        """The segment and the place there of each entry, in their order."""
+        return [(at, place) for at, items in enumerate(self.segments) for place, item in enumerate(items) if item.is_entry]
+
+    def item(self, entry):
+        """The entry of this number."""
+        at, place = self.places()[entry - 1]
+        return self.segments[at][place]
+
+    def entries(self):
+        """The numbers of its entries, each with its item."""
+        return [(number, self.item(number)) for number in range(1, len(self.places()) + 1)]
+
+    def turns(self):
+        """Those that are turns and did not make the house."""
+        return [(number, item) for number, item in self.entries() if item.kind == "turn" and number > 1]
+
+    def renumber(self):
+        number = 0
+        for item in (item for items in self.segments for item in items):
+            number += item.is_entry
+            item.number = number
+        return self
+
+    def octets(self):
+        """Those of its segments."""
+        before, turn = journals.NO_SUM, []
+        for number, items in enumerate(self.segments, 1):
+            bodies = []
+            for item in items:
+                turn = item.lines if item.kind == "turn" else turn
+                bodies.append(item.body(turn))
+            octets = b"".join(journals.chained(number, before, bodies))
+            before = octets[-journals.SUM - 1 : -1]
+            yield octets
+
+    def write(self, folder):
+        shutil.rmtree(folder, ignore_errors=True)
+        os.makedirs(folder)
+        for number, octets in enumerate(self.octets(), 1):
+            with open(f"{folder}/{number}", "wb") as file:
+                file.write(octets)
+
+
+def other(text):
+    """A text whose last character is another digit."""
+    return text[:-1] + ("1" if text[-1] != "1" else "2")
+
+
+def other_octets(octets, place):
+    changed = bytearray(octets)
+    changed[place] ^= 1
+    return bytes(changed)
+
+
+class Case:
+    """Folders of a cell, in one of which an entry of a house is altered; or none in particular."""
+
+    def __init__(self, house, entry, folders):
+        self.house, self.entry, self.folders = house, entry, folders
+        # What is to be told of it, where a replay cannot know that.
+        self.due = None
+
+    @property
+    def own_folder(self):
+        """How what is told of the altered folder begins."""
+        place = next(place for place, folder in enumerate(self.folders, 1) if folder.endswith("/altered"))
+        return f"folder {place}: segment "
+
+
+class Alterations:
+    """The cases of a cell, row by row. `room` is a folder for what is altered."""
+
+    def __init__(self, room, program, seed=1):
+        self.room, self.program, self.chance = room, program, random.Random(seed)
+        self.folders = worked(f"{room}/cell", program, seed, SESSION)
+        self.journals = {house: Journal(folder) for house, folder in self.folders.items()}
+
+    # ---- cases
+
+    def with_folder(self, house, entry, folder):
+        """A case with this folder of a house."""
+        return Case(house, entry, [*(self.folders | {house: folder}).values()])
+
+    def with_journal(self, house, entry, journal):
+        """A case with this journal of a house."""
+        journal.write(f"{self.room}/altered")
+        return self.with_folder(house, entry, f"{self.room}/altered")
+
+    def each(self, entries, alter):
+        """A case of each of these entries of all journals; `alter` changes a journal at one."""
+        for house, journal in self.journals.items():
+            for number, _ in entries(journal):
+                altered = journal.copy()
+                if alter(house, altered, number) is not False:
+                    yield self.with_journal(house, number, altered)
+
+    def each_item(self, entries, alter):
+        """The same, where an item alone is changed."""
+        return self.each(entries, lambda _, journal, number: alter(journal.item(number)))
+
+    def each_post(self, alter):
+        for house, journal in self.journals.items():
+            for number, item in journal.turns():
+                for place in item.posts:
+                    altered = journal.copy()
+                    alter(altered.item(number).lines, place)
+                    yield self.with_journal(house, number, altered)
+
+    # ---- an entry is another
+
+    def clock(self):
+        def alter(item):
+            item.clock += 1
+
+        return self.each_item(Journal.entries, alter)
+
+    def line(self):
+        def alter(item):
+            item.lines[0] = other(item.lines[0])
+
+        return self.each_item(Journal.turns, alter)
+
+    def answer(self):
+        def alter(item):
+            item.lines[-1] = other(item.lines[-1])
+
+        return self.each_item(Journal.turns, alter)
+
+    def image(self):
+        def alter(item):
+            item.image = other_octets(item.image, self.chance.randrange(len(item.image)))
+
+        return self.each_item(Journal.entries, alter)
+
+    def post(self):
+        def alter(lines, place):
+            lines[place] = other(lines[place])
+
+        return self.each_post(alter)
+
+    def receiver(self):
+        def alter(lines, place):
+            word, to, octets = lines[place].split(" ")
+            lines[place] = f"{word} {int(to) % len(self.folders) + 1} {octets}"
+
+        for case in self.each_post(alter):
+            case.due = f"house {case.house} entry {case.entry}: posted what the replay does not post"
+            yield case
+
+    def no_post(self):
+        def alter(lines, place):
+            del lines[place]
+
+        return self.each_post(alter)
+
+    def posts_to(self, house):
+        """The messages to a house that were posted, each once."""
+        items = [item for journal in self.journals.values() for _, item in journal.turns()]
+        words = [item.lines[place].split(" ") for item in items for place in item.posts]
+        return [*dict.fromkeys(octets for _, to, octets in words if int(to) == house)]
+
+    def posts_to_others(self, house):
+        own = self.posts_to(house)
+        return [octets for to in self.folders if to != house for octets in self.posts_to(to) if octets not in own]
+
+    def taken(self):
+        def alter(house, journal, number):
+            item = journal.item(number)
+            if not item.lines[0].startswith("take "):
+                return False
+            item.lines[0] = f"take {self.chance.choice(self.posts_to_others(house))}"
+            return True
+
+        return self.each(Journal.turns, alter)
+
+    # ---- entries are others
+
+    def left_out(self):
+        def alter(_, journal, number):
+            at, place = journal.places()[number - 1]
+            del journal.segments[at][place]
+            journal.renumber()
+
+        return self.each(lambda journal: journal.entries()[1:], alter)
+
+    def left_out_and_not_numbered(self):
+        def alter(_, journal, number):
+            at, place = journal.places()[number - 1]
+            del journal.segments[at][place]
+
+        return self.each(lambda journal: journal.entries()[1:-1], alter)
+
+    def twice(self):
+        def alter(_, journal, number):
+            at, place = journal.places()[number - 1]
+            journal.segments[at].insert(place, copy.deepcopy(journal.segments[at][place]))
+            journal.renumber()
+
+        return self.each(Journal.turns, alter)
+
+    def exchanged(self):
+        def alter(_, journal, number):
+            (at, place), (behind, next_place) = journal.places()[number - 1 : number + 1]
+            one, two = journal.segments[at], journal.segments[behind]
+            one[place], two[next_place] = two[next_place], one[place]
+            journal.renumber()
+
+        return self.each(lambda journal: journal.entries()[1:-1], alter)
+
+    # ---- folders are others
+
+    def altered_copy(self, house):
+        """A folder that is that of a house."""
+        shutil.rmtree(f"{self.room}/altered", ignore_errors=True)
+        return shutil.copytree(self.folders[house], f"{self.room}/altered")
+
+    def no_segment(self):
+        for house, journal in self.journals.items():
+            for number in range(1, len(journal.segments) + 1):
+                os.remove(f"{self.altered_copy(house)}/{number}")
+                yield self.with_folder(house, None, f"{self.room}/altered")
+
+    def two_folders(self):
+        """A front of a house's folder beside it; and a house of its number or its node."""
+        for house, journal in self.journals.items():
+            for front in self.fronts(journal):
+                front.write(f"{self.room}/altered")
+                yield Case(house, 1, [*self.folders.values(), f"{self.room}/altered"])
+            node = journal.item(1).lines[0].split(" ")[2]
+            for line in (f"house {house} 0000000000ff", f"house 9 {node}"):
+                shutil.rmtree(f"{self.room}/altered", ignore_errors=True)
+                os.makedirs(f"{self.room}/altered")
+                self.given(f"{self.room}/altered", [line])
+                yield Case(house, 1, [*self.folders.values(), f"{self.room}/altered"])
+
+    def fronts(self, journal):
+        """What a journal was after each of its entries but the last one."""
+        for at, place in journal.places()[:-1]:
+            front = journal.copy()
+            front.segments = [*front.segments[:at], front.segments[at][: place + 1]]
+            yield front
+
+    def given(self, folder, lines):
+        process = Process(self.program, folder)
+        process.answer()
+        process.send(lines)
+        answers = [process.answer()[-1] for _ in lines]
+        process.close()
+        return answers
+
+    def earlier(self):
+        for house, journal in self.journals.items():
+            for number, front in enumerate(self.fronts(journal), 1):
+                yield self.with_journal(house, number, front)
+
+    def old_copy(self):
+        for house, journal in self.journals.items():
+            for number, front in enumerate(self.fronts(journal), 1):
+                front.write(f"{self.room}/altered")
+                self.given(f"{self.room}/altered", ["put 1 b A 77"])
+                yield self.with_folder(house, number, f"{self.room}/altered")
+
+    def misdirected(self):
+        """A message that another house was sent is given to a house, which takes it."""
+        for house in self.folders:
+            for octets in self.posts_to_others(house):
+                if self.given(self.altered_copy(house), take_lines(octets))[-1].startswith(("ok taken", "ok complete")):
+                    yield self.with_folder(house, len(self.journals[house].places()) + 2, f"{self.room}/altered")
+
+    def cut(self):
+        """The only segment of a house of a small cell, cut after each of its octets."""
+        small = worked(f"{self.room}/small", self.program, 1, SMALL, lost=0, delayed=0)
+        with open(f"{small[1]}/1", "rb") as file:
+            octets = file.read()
+        os.makedirs(f"{self.room}/cut/altered")
+        for size in range(len(octets)):
+            with open(f"{self.room}/cut/altered/1", "wb") as file:
+                file.write(octets[:size])
+            yield Case(1, None, [f"{self.room}/cut/altered", small[2]])
+
+    def rotten(self):
+        for house, journal in self.journals.items():
+            for number, octets in enumerate(journal.octets(), 1):
+                for _ in range(ROTTEN):
+                    with open(f"{self.altered_copy(house)}/{number}", "wb") as file:
+                        file.write(other_octets(octets, self.chance.randrange(len(octets))))
+                    yield self.with_folder(house, None, f"{self.room}/altered")
+
+
+# So many octets of each segment are changed.
+ROTTEN = 10
+
+ROWS = {
+    "a clock is another": Alterations.clock,
+    "the last octet of a line is another": Alterations.line,
+    "the last octet of an answer is another": Alterations.answer,
+    "an octet of an image is another": Alterations.image,
+    "the last octet of a message that was posted is another": Alterations.post,
+    "a message was posted to another house": Alterations.receiver,
+    "a message was not posted": Alterations.no_post,
+    "the message that was taken is one to another house": Alterations.taken,
+    "an entry is left out": Alterations.left_out,
+    "an entry is left out, and the numbers are as they were": Alterations.left_out_and_not_numbered,
+    "an entry is there twice": Alterations.twice,
+    "an entry is exchanged with the next one": Alterations.exchanged,
+    "a segment is missing": Alterations.no_segment,
+    "a second folder of a house, or a second house of a node": Alterations.two_folders,
+    "a folder is one of before, after each of its entries": Alterations.earlier,
+    "the same, and the house went on": Alterations.old_copy,
+    "a house was given a message to another one, and took it": Alterations.misdirected,
+    "a folder is cut after each octet of its last segment": Alterations.cut,
+    "an octet of a segment is another, and the sums are as they were": Alterations.rotten,
+}
