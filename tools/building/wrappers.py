@@ -63,8 +63,10 @@ TABLE = (
     ("a house that ends otherwise", "echo 10 | ./cdshouse links", 10, "", ""),
     ("no folder", "./cdshouse 2>&1 | head -n 1", 0, "usage: ./cdshouse FOLDER       is the house that the folder keeps: lines in, answers out\n", ""),
     ("two folders", "./cdshouse links links 2>errors", 2, "", ""),
-    ("journals that are explained", "echo 0 house | ./cdsexplain links", 0, "house\n", ""),
-    ("an entry that is not explained", "echo 3 | ./cdsexplain links crates", 3, "", ""),
+    ("journals that are explained", "mkdir -p h1; : >h1/1; echo 0 house | ./cdsexplain h1", 0, "house\n", ""),
+    ("an entry that is not explained", "mkdir -p h1; : >h1/1; echo 3 | ./cdsexplain h1 h1", 3, "", ""),
+    ("a folder to explain that is not there", "echo 4 | ./cdsexplain nowhere", 4, "", "cdsexplain: nowhere is no folder\n"),
+    ("the folder of a cell", "echo 0 | ./cdsexplain crates 2>&1 | head -n 1", 0, "cdsexplain: crates has no segments: name the folder of each house, such as mycell/h1\n", ""),
     ("nothing to explain", "./cdsexplain 2>&1 | head -n 1", 0, "usage: ./cdsexplain FOLDER..     writes a script of `cdsreplay run` that explains the journals of these houses\n", ""),
     ("closed ends", "./cdsreplay run <&-", 1, "", "cdsreplay: standard input or standard output is closed\n"),
 )
@@ -215,7 +217,8 @@ def handed_over(room, _):
         os.makedirs(f"{other}/crates/{name}/out")
         for file in (f"crates/{name}/out/{name}", f"out/built-{name}"):
             shutil.copy(f"{one}/{file}", f"{other}/{file}")
-    for words in (["./cdsreplay", "run"], ["./cdsmend", "1"], ["./cdshouse", "crates"], ["./cdsexplain", "crates"]) * 2:
+    write(f"{other}/h1/1", "")
+    for words in (["./cdsreplay", "run"], ["./cdsmend", "1"], ["./cdshouse", "crates"], ["./cdsexplain", "h1"]) * 2:
         ran = subprocess.run(words, cwd=other, input="0 1 ok\n", capture_output=True, text=True, env=without_rt(), timeout=SECONDS)
         if (ran.returncode, ran.stdout, ran.stderr) != (0, "1 ok\n", ""):
             return f"{words[0]} ends with {ran.returncode}, {ran.stdout!r} and {ran.stderr!r}"
