@@ -69,8 +69,8 @@ pub(crate) fn log_of(rt: &HostRuntime, folder: &str) -> Result<Option<HouseLog>,
         Err(error) => return Err(fault_of(error)),
     };
     let mut reader = LogReader::new(rt.alloc());
-    'segments: while reader.segments() < most {
-        let octets = segment_octets(rt, folder, reader.segments().saturating_add(1))?;
+    for before in 0..most {
+        let octets = segment_octets(rt, folder, before + 1)?;
         match reader.read(rt.alloc(), &octets) {
             Ok(()) => {}
             Err(AllocOr::Fault(fault)) => return Err(FolderFault::BadLog(fault)),
