@@ -117,10 +117,11 @@ impl Segment {
     }
 }
 
-/// The sums before the records of a segment and of its last one.
+/// The sums before the records of a segment and of its last one; and whether it has a record after its first one, as all that houses leave.
 pub struct Sums {
     pub before: Sum,
     pub last: Sum,
+    pub is_begun: bool,
 }
 
 /// The record after an open gate at this place.
@@ -150,7 +151,7 @@ fn was_counted(octets: &[u8], gate: usize, before: &Sum) -> bool {
     is_whole.is_some_and(|record| opened.get(1 + LENGTH + record.len()) == Some(&1))
 }
 
-/// Takes the records in the octets of segment `number`, one or more; nothing where they are no such segment, or damaged.
+/// Takes the records in the octets of segment `number` after its first one; nothing where they are no such segment, or damaged.
 pub fn read(octets: &[u8], number: u64, mut take: impl FnMut(Record)) -> Option<Sums> {
     let head = record_at(octets, 0)?;
     let (mut sum, size) = body_of(head, None)?;
@@ -165,8 +166,7 @@ pub fn read(octets: &[u8], number: u64, mut take: impl FnMut(Record)) -> Option<
         sum = next;
         gate += 1 + LENGTH + record.len();
     }
-    let is_whole = gate > begin && !was_counted(octets, gate, &sum);
-    if is_whole { Some(Sums { before, last: sum }) } else { None }
+    if was_counted(octets, gate, &sum) { None } else { Some(Sums { before, last: sum, is_begun: gate > begin }) }
 }
 
 /// The folder of a house, which no other process has.
@@ -212,7 +212,7 @@ impl Folder {
         let mut octets = Vec::new();
         file.read_to_end(&mut octets).map_err(|_| NotOpened::Unreadable)?;
         let mut last = None;
-        folder.sum = read(&octets, number, |record| last = Some(record)).ok_or(NotOpened::Unreadable)?.last;
+        folder.sum = read(&octets, number, |record| last = Some(record)).filter(|sums| sums.is_begun).ok_or(NotOpened::Unreadable)?.last;
         Ok((folder, last))
     }
 

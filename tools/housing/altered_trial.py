@@ -36,7 +36,8 @@ def entries_of(folders):
     found = []
     for at, folder in enumerate(folders, 1):
         try:
-            own = journals.entries(folder)
+            # (a segment with its first record alone, which no house leaves, has no entry to explain)
+            own = journals.entries(folder, fewest=1)
         except journals.Damaged:
             return None, at
         for entry in own:

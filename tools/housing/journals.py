@@ -72,11 +72,11 @@ def listed(octets):
 class Segment:
     """One file of a folder: its records, the sum of the last record before it, and that of its last one."""
 
-    def __init__(self, path, number):
+    def __init__(self, path, number, fewest=2):
         with open(path, "rb") as file:
             octets = file.read()
         found, gate = listed(octets)
-        if len(found) < 2:
+        if len(found) < fewest:
             raise Damaged(f"{path}: {len(found)} records")
         head = HEAD % number
         if len(found[0]) != len(head) + 2 * SUM or not found[0].startswith(head):
@@ -118,11 +118,11 @@ def numbers(folder):
     return sorted(int(name) for name in os.listdir(folder) if name.isdigit() and name[0] != "0")
 
 
-def segments(folder):
-    """The segments of a folder, each of which follows the one before."""
+def segments(folder, fewest=2):
+    """The segments of a folder, each of which follows the one before, and has so many records or more: two in the folder of a house."""
     last = None
     for number in numbers(folder):
-        segment = Segment(f"{folder}/{number}", number)
+        segment = Segment(f"{folder}/{number}", number, fewest)
         if last and number != last.number + 1:
             raise Damaged(f"{folder}: segment {last.number + 1} is missing")
         if last and segment.before != last.last or number == 1 and segment.before != NO_SUM:
@@ -141,10 +141,10 @@ def check_repeated(record, last, turn):
         raise Damaged(f"{record.place}: segment {last.number} was due")
 
 
-def entries(folder):
+def entries(folder, fewest=2):
     """The entries of a house from the first on: its turns and its starts, by their numbers."""
     found, turn = [], None
-    records = [record for segment in segments(folder) for record in segment.records]
+    records = [record for segment in segments(folder, fewest) for record in segment.records]
     for record in records:
         if record.kind == "new":
             if found or (record.number, record.clock, record.image, record.lines) != (0, 0, None, ["new"]):
