@@ -153,8 +153,8 @@ def signalled(number):
 
     def call(room, _):
         copy_with_stub(room)
-        # (whoever is run beside a shell ignores an interrupt, and so would all that it starts)
-        how = {"stdin": subprocess.PIPE, "stdout": subprocess.PIPE, "preexec_fn": lambda: signal.signal(signal.SIGINT, signal.SIG_DFL)}
+        # (whoever is run beside a shell ignores an interrupt, or with nohup the end of a terminal, and so would all that it starts)
+        how = {"stdin": subprocess.PIPE, "stdout": subprocess.PIPE, "preexec_fn": lambda: signal.signal(number, signal.SIG_DFL)}
         with subprocess.Popen(["./cdsreplay", "run"], cwd=room, text=True, **how) as ran:
             ran.stdin.write("wait\n")
             ran.stdin.flush()
