@@ -1,4 +1,6 @@
 """Tests of `cdsexplain`: its scripts, its statuses, and what it says of journals that no cell has. (With the plain house of bench/.)"""
+import importlib.machinery
+import importlib.util
 import itertools
 import os
 import shutil
@@ -13,6 +15,14 @@ from tool_tests import given, session, worked
 # The most lines of a script.
 MOST_LINES = 1 << 24
 EXAMPLE = f"{building.ROOT}/examples/killed"
+
+
+def loaded(tool):
+    """A tool of this repository, as a module."""
+    loader = importlib.machinery.SourceFileLoader(tool.replace("-", "_"), f"{building.ROOT}/tools/{tool}")
+    module = importlib.util.module_from_spec(importlib.util.spec_from_loader(loader.name, loader))
+    loader.exec_module(module)
+    return module
 
 
 def ran(kit, folders):
@@ -67,6 +77,20 @@ def test_example(room, kit):
         script.seek(0)
         assert subprocess.run([kit.plain, "run"], stdin=script, capture_output=True, check=True).stdout == answers.read()
     assert ran(kit, folders) == (0, script_of(folders))
+
+
+def test_refused_memory(room, kit):
+    """Where any one of its allocations is refused, it ends with status 6 and a front of the script, or does without."""
+    folders = [f"{EXAMPLE}/h{house}" for house in (1, 2, 3)]
+    if not shutil.which("cc"):
+        return
+    refusing = loaded("refuse-memory")
+    runs = refusing.Runs(kit.explainer, folders, refusing.compiled(room), b"", room)
+    status, whole = runs.ran(0)
+    count = runs.calls()
+    assert status == 0 and count > 100, (status, count)
+    faults = {at: refusing.fault(*runs.ran(at), whole) for at in range(1, count + 1)}
+    assert not any(faults.values()), [it for it in faults.items() if it[1]][:5]
 
 
 def test_statuses(room, kit):
