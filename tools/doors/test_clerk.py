@@ -109,6 +109,18 @@ class ClerkTest(unittest.TestCase):
         self.asked(2, "dump 1", "dump epoch 1 allupto none members 1:1:m 2:1:r", *lines, "end")
         self.said(f"binding {BINDING}", "end 1")
 
+    def test_an_older_house_tells_at_high_confidence_if_it_is_the_master(self) -> None:
+        first = "dump epoch 1 allupto none members 1:1:m 2:1:r"
+        self.give("do 1 read high /.:/a A")
+        for ask in [self.ask() for _ in range(3)]:
+            self.hear(ask, "fault UnknownCommand 1")
+            # (house 2 is the master by the lists of houses 1 and 2)
+            told = ["refused NoReplica"] if ask.house == 3 else [first.replace("1:1:m 2:1:r", "1:1:r 2:1:m"), "end"]
+            self.asked(ask.house, "dump 1", *told)
+        self.asked(2, "dump 1", first, "end")
+        self.asked(1, "dump 1", first, "entry a object 1@a live", "attr A none", "value 00 present 1@a", "end")
+        self.said("ok 1 00")
+
     def test_a_search_asks_for_all_that_it_lacks_at_once_and_says_what_it_did_not_reach(self) -> None:
         self.give("do 1 import low /.:/all " + WANTED)
         self.asked(2, "status 1", ROOT)

@@ -21,12 +21,16 @@ from housing import building
 ROOT = building.ROOT
 INTERFACE = "a0000000-0000-0000-0000-000000000001:1.0"
 BINDING = "ncacn_ip_tcp:10.0.0.1[1025]"
-# A house that answers nothing after its start, and one that cannot start.
+# A house that hangs with a question.
 HANGS = """echo 0 new
 while read -r line; do
     case "$line" in dump*) exec sleep 20;; *) echo 1 refused NoHouse;; esac
 done"""
-BROKEN = "exit 9"
+# A house that answers one question late.
+IS_LATE = """echo 0 new
+while read -r line; do
+    case "$line" in "dump 7") sleep 1; echo 1 dump late; echo 1 end;; *) echo 2 refused NoHouse;; esac
+done"""
 
 
 class Room(unittest.TestCase):
@@ -162,6 +166,16 @@ class DoorTest(Room):
         self.assertLess(time.monotonic() - began, 0.25)
         self.assertIn("because it is silent", client.ask("status")[2])
         self.assertIn("house 1 is silent: dump 1", self.log())
+
+    def test_a_late_answer_is_nobodys(self) -> None:
+        self.house = self.played(IS_LATE)
+        client = self.open(head="patience = 0.3")
+        self.until(lambda: self.up(client, 1))
+        self.assertEqual(client.ask("@1 dump 7"), ["refused Down"])
+        while (said := client.ask("@1 dump 2")) == ["refused Down"]:
+            time.sleep(0.02)
+        self.assertEqual(said, ["refused NoHouse"])
+        self.assertIn(" late 1 ", client.ask("status")[2])
 
     def test_a_house_that_is_killed_is_started_again_and_says_its_last_turn(self) -> None:
         client = self.open(houses=(1, 2))

@@ -63,7 +63,7 @@ class NumbersTest(unittest.TestCase):
         self.done("root 1 2", 1, "ok")
         self.give("mkdir 1 1 a 1")
         self.give("mkdir 2 1 b 2")
-        self.assertEqual(len(self.house(2).asked), 0)
+        self.assertEqual((len(self.house(1).asked), len(self.house(2).asked)), (1, 0))
         self.assertEqual(self.house(1).answer("ok 2 1@00000000000a"), "mkdir 1 a 2")
         self.assertEqual(self.house(2).answer("ok 3 1@00000000000b"), "mkdir 1 b 3")
         self.assertEqual(self.said[1:], [["ok 2 1@00000000000a"], ["ok 3 1@00000000000b"]])
