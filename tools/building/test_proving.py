@@ -24,7 +24,7 @@ cat "{kit}/says"
 """
 RT = """#!/bin/sh
 echo "$@; $(sed -n 's/^Cpus_allowed_list:[[:space:]]*//p' /proc/self/status)" >>"{kit}/words"
-[ "$2" != bad ]
+[ "$2" != bad ] && [ ! -e "{kit}/fails" ]
 """
 ROWS = {"low": "low: std_io", "middle": "middle: low hex", "cdsmend": "cdsmend: middle"}
 
@@ -140,6 +140,12 @@ class OfTheGate(WithKit):
             self.assertTrue(ByGate(self.room, 1, self.speaker).prove("cdsmend", 1))
         (room, name), = self.installed
         self.assertEqual((name, room == self.room), ("cdsmend", False))
+
+    def test_a_program_that_did_not_pass_is_not_installed(self) -> None:
+        write(f"{self.kit}/fails", "")
+        with mock.patch.object(proving.sources, "copy_to", lambda room, names: None):
+            self.assertFalse(ByGate(self.room, 1, self.speaker).prove("cdsmend", 1))
+        self.assertEqual(self.installed, [])
 
     def test_no_processor_is_given_twice(self) -> None:
         with mock.patch.object(os, "sched_getaffinity", lambda _: {0, 1, 2, 3}):
