@@ -13,10 +13,10 @@ class Failed(Exception):
     """The program gave no answers that can be used."""
 
 
-def path(given):
+def path(given, is_to_be_proved=False):
     """The path of the program: the one that is given, the proved one of these sources, or one that is not proved."""
     try:
-        return choosing.chosen("cdsreplay", given)
+        return choosing.chosen("cdsreplay", given, is_to_be_proved)
     except choosing.NoProgram as error:
         raise Failed("there is no program to ask") from error
 
