@@ -1,0 +1,344 @@
+-- A skulk whose messages are delivered is complete.
+use Rattle.std.proofs.Common.{◌≡◌, ℕ, ◌⊎◌, inl, inr, Bool, true, false, ◌&&◌, cond, List, [], ◌∷◌, ◌++◌, Some, refl, sym, ap, ◌∙◌, subst, ⊎_elim}
+use Rattle.std.proofs.Common.{eqb, ◌||◌}
+use Rattle.cds_stamps.specs.declared.stamp.Stamp.{Stamp}
+use Rattle.cds_stamps.specs.Members.{Member, others_of, is_listed}
+use Rattle.cell_model.specs.Bodies.{round_of}
+use Rattle.cell_model.specs.Cells.{Phase, Idle, Gathering, Spreading, Replica, Held, House, Copy, Body, Gather, Gathered, Spread, SpreadAck, Advance, Message, Cell, IsHeld, empty_cell}
+use Rattle.cell_model.specs.Commands as commands
+use Rattle.cell_model.specs.Commands.{Command, Complete}
+use Rattle.cell_model.specs.Completions.{CompletesBy, with_last, IsLastAck}
+use Rattle.cell_model.specs.Sets.{In, has}
+use Rattle.cell_model.specs.Turns.{HouseStep, copy_of, merge_copy, later_up_to, takes, take_and_answer, reply, to_others, floor_after, all_answered}
+use Rattle.cell_model.specs.Turns.{take}
+use Rattle.cell_model.specs.Steps.{at_house, message_at, outcome, replay}
+use Rattle.cell_model.proofs.Lists.{In-append_right, has-from_In, append_nil}
+use Rattle.cell_model.proofs.Terms.{In-others_of}
+use Rattle.cell_model.proofs.Facts.{view}
+use Rattle.cell_model.proofs.Views.{In-of_dir}
+use Rattle.cell_model.proofs.Moves.{message_posted}
+use Rattle.cell_model.proofs.Completing.{answers_lem}
+use Rattle.cell_model.proofs.Passages.{slot_after}
+use Rattle.cell_model.proofs.Rounds.{Round}
+use Rattle.cell_model.proofs.Rows.{Own}
+use Rattle.cell_model.proofs.Runs.{replay-append, roll_of}
+use Rattle.fair_runs.specs.Fairness.{IsUndisturbed, IsDelivered, IsFair, IsComplete, SkulksEnd}
+use Rattle.fair_runs.proofs.Phases.{Asked}
+use Rattle.fair_runs.proofs.Takes.{gather_take, spread_take, gathered_take, ack_take, deliver_take}
+use Rattle.fair_runs.proofs.Begun.{Begun, Questioned, begun}
+use Rattle.fair_runs.proofs.Courses as courses
+
+-- all of these answered
+answered_to : (xs a : List ℕ) → ((x : ℕ) → In x xs → In x a) → all_answered xs a ≡ true
+answered_to [] a all = refl
+answered_to (x ∷ xs) a all =
+    ap (λ (b : Bool). b && all_answered xs a) (has-from_In x a (all x (inl refl))) ∙ answered_to xs a (λ y i. all y (inr i))
+
+-- each of these is there, or what all want
+all_or : (xs a : List ℕ) (W : Type 0) → ((x : ℕ) → In x xs → In x a ⊎ W) → ((x : ℕ) → In x xs → In x a) ⊎ W
+all_or [] a W each = inl (λ x i. elim i [ ])
+all_or (x ∷ xs) a W each = by_first (each x (inl refl)) (all_or xs a W (λ y i. each y (inr i)))
+  where
+    by_first : In x a ⊎ W → ((y : ℕ) → In y xs → In y a) ⊎ W → ((y : ℕ) → In y (x ∷ xs) → In y a) ⊎ W
+    by_first (inr w) rest = inr w
+    by_first (inl i) (inr w) = inr w
+    by_first (inl i) (inl rest) = inl (λ y j. ⊎_elim (λ (e : y ≡ x). subst (λ (z : ℕ). In z a) (sym e) i) (λ z. rest y z) j)
+
+module _ (start late : List Command) (h d k : ℕ) (t : Stamp) (calm : IsUndisturbed start late h d k t) (fair : IsFair start late d t)
+    (another : ℕ) (other : In another (others_of h ((roll_of d (start ++ late)).list k))) where
+  abbrev At : List Command → Phase → Type 0
+  At past f = courses.At start late h d k t calm past f
+
+  abbrev Over : List Command → Type 0
+  Over past = courses.Over start late h d k t calm past
+
+  abbrev Stage : List Command → Type 0
+  Stage past = courses.Stage start late h d k t calm another other past
+
+  abbrev Heard : List Command → ℕ → Type 0
+  Heard past y = courses.Heard start late h d k t calm another other past y
+
+  abbrev HeardTwice : List Command → ℕ → Type 0
+  HeardTwice past y = courses.HeardTwice start late h d k t calm another other past y
+
+  abbrev others : List ℕ
+  others = others_of h ((roll_of d (start ++ late)).list k)
+
+  -- the master is listed in its epoch
+  master_listed : (past left : List Command) → past ++ left ≡ late → is_listed h ((roll_of d (start ++ late)).list k) ≡ true
+  master_listed past left e =
+      let here = calm past left e in
+      let ok = (courses.reached start late h d k t calm past left e).sound.held h here.replica here.held in
+      subst (λ (z : ℕ). is_listed h ((roll_of d (start ++ late)).list z) ≡ true) here.epoch ok.listed.1.0
+
+  -- what the delivery of a message does, and what it leaves
+  done : (past : List Command) (n : ℕ) (m : Message) (s : HouseStep) → message_at (replay (start ++ past)) n ≡ Some m
+      → ((replay (start ++ past)).house m.receiver).up ≡ true → take ((replay (start ++ past)).house m.receiver) m ≡ s
+      → outcome (replay (start ++ past)) (commands.Deliver n) ≡ at_house (replay (start ++ past)) m.receiver s
+  done past n m s at up e = deliver_take (replay (start ++ past)) n m at up ∙ ap (at_house (replay (start ++ past)) m.receiver) e
+
+  -- an answer that a delivery posts is delivered
+  comes : (past left : List Command) (n : ℕ) (z : Message) → past ++ commands.Deliver n ∷ left ≡ late → z.dir ≡ d → round_of z.body ≡ Some t
+      → In z (outcome (replay (start ++ past)) (commands.Deliver n)).cell.bag → IsDelivered start late z
+  comes past left n z e dir round i =
+      let c : Command = commands.Deliver n in
+      let i' = subst (λ (g : Cell). In z g.bag) (sym (courses.cell_next start late h d k t calm past c)) i in
+      fair z (courses.ends_posted start late h d k t calm left (past ++ c ∷ []) (courses.one_more start late h d k t calm past left c e) z dir i') dir round
+
+  -- an answer that was posted, and is delivered to the master
+  record Answer (from : ℕ) (b : Replica → Body) : Type 0 where
+    letter : Message
+    sent : Replica
+    comes_there : IsDelivered start late letter
+    dir : letter.dir ≡ d
+    receiver : letter.receiver ≡ h
+    sender : letter.sender ≡ from
+    epoch : letter.epoch ≡ k
+    body : letter.body ≡ b sent
+
+  -- a house that is asked answers, and its answer is delivered
+  answer_to : (m : Message) (ask : Body) (b : Replica → Body) (R : Replica → Replica)
+      → ((now : House) (q : Replica) → Own now m ask q → take now m ≡ take_and_answer now m (Held (R q)) (reply now m (b q)))
+      → ((q : Replica) → round_of (b q) ≡ Some t) → m.dir ≡ d → m.sender ≡ h → m.epoch ≡ k → m.body ≡ ask → IsDelivered start late m → Answer m.receiver b
+  answer_to m ask b R took round dir from epoch body w =
+      let g : Cell = replay (start ++ w.past) in
+      let now : House = g.house m.receiver in
+      let held : IsHeld g m.receiver d w.replica = subst (λ (v : ℕ). IsHeld g m.receiver v w.replica) dir w.held in
+      let list = courses.listed start late h d k t calm w.past (commands.Deliver w.serial ∷ w.left) w.parts m.receiver w.replica held (w.epoch ∙ epoch) in
+      let own : Own now m ask w.replica = record {
+        is = body;
+        held = w.held;
+        epoch = sym w.epoch;
+        member = ap (λ (v : ℕ). is_listed v w.replica.members) from ∙ ap (is_listed h) list
+            ∙ master_listed w.past (commands.Deliver w.serial ∷ w.left) w.parts;
+      } in
+      let z : Message = record {
+        receiver = m.sender;
+        dir = m.dir;
+        sender = m.receiver;
+        epoch = m.epoch;
+        floor = floor_after now m;
+        body = b w.replica;
+      } in
+      let after = done w.past w.serial m _ w.message w.up (took now w.replica own) in
+      let i = subst (λ (o : Cell). In z o.bag) (ap (λ o. o.cell) (sym after)) (In-append_right z g.bag (z ∷ []) (inl refl)) in
+      record {
+        letter = z;
+        sent = w.replica;
+        comes_there = comes w.past w.left w.serial z w.parts dir (round w.replica) i;
+        dir = dir;
+        receiver = from;
+        sender = refl;
+        epoch = epoch;
+        body = refl;
+      }
+
+  -- what the master holds after a delivery
+  at_after : (past : List Command) (n : ℕ) (z : Message) (R : Replica) (posts : List Message) (answer : List ℕ → commands.Answer)
+      → outcome (replay (start ++ past)) (commands.Deliver n)
+      ≡ at_house (replay (start ++ past)) z.receiver (takes ((replay (start ++ past)).house z.receiver) z (Held R) posts answer) → z.receiver ≡ h → z.dir ≡ d
+      → R.epoch ≡ k → At (past ++ commands.Deliver n ∷ []) R.phase
+  at_after past n z R posts answer e to dir epoch =
+      let g : Cell = replay (start ++ past) in
+      let held = subst (λ (c : Cell). IsHeld c z.receiver z.dir R) (ap (λ o. o.cell) (sym e))
+      (slot_after g z.receiver z.dir (floor_after (g.house z.receiver) z) (Held R)) in
+      let held' = subst (λ (x : ℕ). IsHeld (outcome g (commands.Deliver n)).cell x d R) to
+      (subst (λ (x : ℕ). IsHeld (outcome g (commands.Deliver n)).cell z.receiver x R) dir held) in
+      record {
+        replica = R;
+        held = subst (λ (c : Cell). IsHeld c h d R) (sym (courses.cell_next start late h d k t calm past (commands.Deliver n))) held';
+        epoch = epoch;
+        phase = refl;
+      }
+
+  -- an answer, as its master takes it
+  own_at : (past left : List Command) (e : past ++ left ≡ late) (f : Phase) (a : At past f) (z : Message) (b : Body) (y : ℕ)
+      → In y (others_of h ((roll_of d (start ++ late)).list k)) → z.dir ≡ d → z.receiver ≡ h → z.sender ≡ y → z.epoch ≡ k → z.body ≡ b
+      → Own ((replay (start ++ past)).house z.receiver) z b a.replica
+  own_at past left e f a z b y i dir to from epoch body =
+      let g : Cell = replay (start ++ past) in
+      let list = courses.listed start late h d k t calm past left e h a.replica a.held a.epoch in
+      record {
+        is = body;
+        held = ap (λ (x : ℕ). (g.house x).slots z.dir) to ∙ ap (g.house h).slots dir ∙ a.held;
+        epoch = epoch ∙ sym a.epoch;
+        member = ap (λ (v : ℕ). is_listed v a.replica.members) from ∙ ap (is_listed y) list ∙ (In-others_of y h ((roll_of d (start ++ late)).list k) i).1;
+      }
+
+  module _ (begun : Begun (replay (start ++ [])) h d t) (epoch_0 : begun.replica.epoch ≡ k) where
+    at_0 : Stage []
+    at_0 = courses.first []
+        (record { replica = begun.replica; held = begun.held; epoch = epoch_0; phase = begun.phase })
+        (courses.at_first start late h d k t calm another other)
+
+    stage_at : (past left : List Command) → past ++ left ≡ late → Stage past
+    stage_at past left e = courses.stage_run start late h d k t calm another other past [] left e at_0
+
+    -- the answer of the first round is heard
+    hears : (z : Message) (copy : Copy) (y : ℕ) → In y others → z.dir ≡ d → z.receiver ≡ h → z.sender ≡ y → z.epoch ≡ k → z.body ≡ Gathered t copy
+        → IsDelivered start late z → Heard late y
+    hears z copy y i dir to from epoch body w = by_stage (stage_at w.past (commands.Deliver w.serial ∷ w.left) w.parts)
+      where
+        g : Cell
+        g = replay (start ++ w.past)
+
+        later : Heard (w.past ++ commands.Deliver w.serial ∷ []) y → Heard late y
+        later = courses.heard_on start late h d k t calm another other w.left (w.past ++ commands.Deliver w.serial ∷ []) y
+            (courses.one_more start late h d k t calm w.past w.left (commands.Deliver w.serial) w.parts)
+
+        from_there : Heard w.past y → Heard late y
+        from_there = courses.heard_on start late h d k t calm another other (commands.Deliver w.serial ∷ w.left) w.past y w.parts
+
+        by_all : (b : List ℕ) (at : At w.past (Gathering t b)) (c : Bool)
+            → outcome (replay (start ++ w.past)) (commands.Deliver w.serial)
+            ≡ at_house (replay (start ++ w.past)) z.receiver
+            (cond c
+            (take_and_answer ((replay (start ++ w.past)).house z.receiver) z (Held (record (merge_copy at.replica copy) { phase = Spreading t [] }))
+            (to_others ((replay (start ++ w.past)).house z.receiver) z at.replica (Spread t (copy_of (merge_copy at.replica copy)))))
+            (take_and_answer ((replay (start ++ w.past)).house z.receiver) z (Held (record (merge_copy at.replica copy) { phase = Gathering t (z.sender ∷ b) }))
+            []))
+            → Heard late y
+        by_all b at true e =
+            later (courses.in_second [] (at_after w.past w.serial z (record (merge_copy at.replica copy) { phase = Spreading t [] })
+            (to_others ((replay (start ++ w.past)).house z.receiver) z at.replica (Spread t (copy_of (merge_copy at.replica copy)))) commands.Taken e to dir
+            at.epoch))
+        by_all b at false e =
+            later (courses.in_first (z.sender ∷ b) (at_after w.past w.serial z (record (merge_copy at.replica copy) { phase = Gathering t (z.sender ∷ b) }) []
+            commands.Taken e to dir at.epoch) (inl (sym from)))
+
+        by_stage : Stage w.past → Heard late y
+        by_stage (courses.second b at some asked) = from_there (courses.in_second b at)
+        by_stage (courses.over o) = from_there (courses.at_end o)
+        by_stage (courses.first b at some) =
+            by_all b at (all_answered (others_of z.receiver at.replica.members) (z.sender ∷ b))
+            (done w.past w.serial z _ w.message w.up (gathered_take ((replay (start ++ w.past)).house z.receiver) z t copy b at.replica
+            (own_at w.past (commands.Deliver w.serial ∷ w.left) w.parts (Gathering t b) at z (Gathered t copy) y i dir to from epoch body) at.phase))
+
+    -- so is each other member
+    heard_first : (y : ℕ) → In y others → Heard late y
+    heard_first y i =
+        let q : Questioned (replay (start ++ [])) h d k t y = subst (λ (z : ℕ). Questioned (replay (start ++ [])) h d z t y) epoch_0
+        (begun.asked y (subst (λ (l : List ℕ). In y l)
+        (sym (courses.its_others start late h d k t calm another other [] late refl begun.replica begun.held epoch_0)) i)) in
+        let a : Answer q.message.receiver (λ r. Gathered t (copy_of r)) = answer_to q.message (Gather t) (λ r. Gathered t (copy_of r)) (λ r. r)
+        (λ now r own. gather_take now q.message t r own) (λ r. refl) q.dir q.sender q.epoch q.body
+        (fair q.message (courses.ends_posted start late h d k t calm late [] refl q.message q.dir q.posted) q.dir (ap round_of q.body)) in
+        hears a.letter (copy_of a.sent) y i a.dir a.receiver (a.sender ∙ q.receiver) a.epoch a.body a.comes_there
+
+    -- the answer of the second round is heard
+    hears_twice : (z : Message) (y : ℕ) → In y others → z.dir ≡ d → z.receiver ≡ h → z.sender ≡ y → z.epoch ≡ k → z.body ≡ SpreadAck t
+        → IsDelivered start late z → HeardTwice late y
+    hears_twice z y i dir to from epoch body w = by_stage (stage_at w.past (commands.Deliver w.serial ∷ w.left) w.parts)
+      where
+        later : HeardTwice (w.past ++ commands.Deliver w.serial ∷ []) y → HeardTwice late y
+        later = courses.twice_on start late h d k t calm another other w.left (w.past ++ commands.Deliver w.serial ∷ []) y
+            (courses.one_more start late h d k t calm w.past w.left (commands.Deliver w.serial) w.parts)
+
+        by_all : (b : List ℕ) (at : At w.past (Spreading t b)) (c : Bool)
+            → outcome (replay (start ++ w.past)) (commands.Deliver w.serial)
+            ≡ at_house (replay (start ++ w.past)) z.receiver
+            (cond c
+            (takes ((replay (start ++ w.past)).house z.receiver) z
+            (Held (record at.replica { all_up_to = later_up_to at.replica.all_up_to t; phase = Idle }))
+            (to_others ((replay (start ++ w.past)).house z.receiver) z at.replica (Advance t)) (Complete t))
+            (take_and_answer ((replay (start ++ w.past)).house z.receiver) z (Held (record at.replica { phase = Spreading t (z.sender ∷ b) })) []))
+            → HeardTwice late y
+        by_all b at true e =
+            later (courses.at_end_too (record { early = w.past; serial = w.serial; rest = []; parts = refl; serials = _; answer = ap (λ o. o.answer) e }))
+        by_all b at false e =
+            later (courses.twice (z.sender ∷ b) (at_after w.past w.serial z (record at.replica { phase = Spreading t (z.sender ∷ b) }) [] commands.Taken e to dir
+            at.epoch) (inl (sym from)))
+
+        -- no answer of the second round is posted in the first
+        too_early : (b : List ℕ) → At w.past (Gathering t b) → ⊥
+        too_early b at =
+            let g : Cell = replay (start ++ w.past) in
+            let reach = courses.reached start late h d k t calm w.past (commands.Deliver w.serial ∷ w.left) w.parts in
+            let posted : In z g.bag = message_posted g w.serial ((eqb w.serial 0) || has w.serial g.lost) z w.message in
+            let round = subst (λ (p : Phase). Round (roll_of d (start ++ late)) (view d g) h at.replica p) at.phase (reach.rounds h at.replica at.held) in
+            round.no_ack z (In-of_dir d g.bag z posted dir) body
+
+        by_stage : Stage w.past → HeardTwice late y
+        by_stage (courses.first b at some) = elim (too_early b at) [ ]
+        by_stage (courses.over o) = courses.twice_on start late h d k t calm another other (commands.Deliver w.serial ∷ w.left) w.past y w.parts (courses.at_end_too o)
+        by_stage (courses.second b at some asked) =
+            by_all b at (all_answered (others_of z.receiver at.replica.members) (z.sender ∷ b))
+            (done w.past w.serial z _ w.message w.up (ack_take ((replay (start ++ w.past)).house z.receiver) z t b at.replica
+            (own_at w.past (commands.Deliver w.serial ∷ w.left) w.parts (Spreading t b) at z (SpreadAck t) y i dir to from epoch body) at.phase))
+
+    -- so is each other member, if the second round runs at the end
+    heard_second : ((x : ℕ) → In x others → Asked (replay (start ++ late)) h d k t x) → (y : ℕ) → In y others → HeardTwice late y
+    heard_second asked y i =
+        let q = asked y i in
+        let a : Answer q.message.receiver (λ r. SpreadAck t) = answer_to q.message (Spread t q.copy) (λ r. SpreadAck t) (λ r. merge_copy r q.copy)
+        (λ now r own. spread_take now q.message t q.copy r own) (λ r. refl) q.dir q.sender q.epoch q.body (fair q.message q.posted q.dir (ap round_of q.body)) in
+        hears_twice a.letter y i a.dir a.receiver (a.sender ∙ q.receiver) a.epoch a.body a.comes_there
+
+    -- who was heard is noted in the round that runs at the end
+    noted_first : (a : List ℕ) → At late (Gathering t a) → (y : ℕ) → Heard late y → In y a ⊎ Over late
+    noted_first a at y (courses.in_first b at' i) =
+        let p = courses.one_phase start late h d k t calm late (Gathering t b) (Gathering t a) at' at in
+        let l : b ≡ a = cc in inl (subst (λ (x : List ℕ). In y x) l i)
+    noted_first a at y (courses.in_second b at') =
+        let p = courses.one_phase start late h d k t calm late (Spreading t b) (Gathering t a) at' at in absurd (cc)
+    noted_first a at y (courses.at_end o) = inr o
+
+    noted_second : (a : List ℕ) → At late (Spreading t a) → (y : ℕ) → HeardTwice late y → In y a ⊎ Over late
+    noted_second a at y (courses.twice b at' i) =
+        let p = courses.one_phase start late h d k t calm late (Spreading t b) (Spreading t a) at' at in
+        let l : b ≡ a = cc in inl (subst (λ (x : List ℕ). In y x) l i)
+    noted_second a at y (courses.at_end_too o) = inr o
+
+    -- the skulk is over
+    over : Over late
+    over = by_stage (stage_at late [] (append_nil late))
+      where
+        not_all : (a : List ℕ) → all_answered others a ≡ false → ((y : ℕ) → In y others → In y a) ⊎ Over late → Over late
+        not_all a some (inr o) = o
+        not_all a some (inl all) = let e : false ≡ true = sym some ∙ answered_to others a all in absurd (cc)
+
+        by_stage : Stage late → Over late
+        by_stage (courses.over o) = o
+        by_stage (courses.first a at some) = not_all a some (all_or others a (Over late) (λ y i. noted_first a at y (heard_first y i)))
+        by_stage (courses.second a at some asked) = not_all a some (all_or others a (Over late) (λ y i. noted_second a at y (heard_second asked y i)))
+
+    -- the delivery that ends it brings the last answer
+    last_of : (past : List Command) (n : ℕ) → CompletesBy (replay (start ++ past)) t (commands.Deliver n) → IsLastAck (replay (start ++ past)) n t
+    last_of past n (with_last _ last) = last
+
+    pub complete : IsComplete start late t
+    complete =
+        let o = over in
+        record {
+          past = o.early;
+          serial = o.serial;
+          left = o.rest;
+          parts = o.parts;
+          serials = o.serials;
+          answer = o.answer;
+          last = last_of o.early o.serial ((answers_lem (start ++ o.early) (commands.Deliver o.serial)).completes t o.serials o.answer);
+        }
+
+-- of any list of commands
+pub skulks_end_lem : (early late : List Command) → SkulksEnd early late
+skulks_end_lem early late h d t r b calm fair =
+    complete start late h d r.epoch t calm fair begins.another other begins epoch_0
+  where
+    start : List Command
+    start = early ++ commands.Skulk h d ∷ []
+
+    after : (outcome (replay early) (commands.Skulk h d)).cell ≡ replay (start ++ [])
+    after = sym (replay-append early (commands.Skulk h d ∷ []) empty_cell) ∙ ap replay (sym (append_nil start))
+
+    begins : Begun (replay (start ++ [])) h d t
+    begins = subst (λ (g : Cell). Begun g h d t) after (begun (replay early) h d t b.serials b.answer)
+
+    epoch_0 : begins.replica.epoch ≡ r.epoch
+    epoch_0 =
+        let held : IsHeld (replay start) h d begins.replica = subst (λ (l : List Command). IsHeld (replay l) h d begins.replica) (append_nil start) begins.held in
+        let slots : Held begins.replica ≡ Held r = sym held ∙ b.held in
+        let same : begins.replica ≡ r = cc in ap (λ (z : Replica). z.epoch) same
+
+    other : In begins.another (others_of h ((roll_of d (start ++ late)).list r.epoch))
+    other = subst (λ (l : List Member). In begins.another (others_of h l))
+        (courses.listed start late h d r.epoch t calm [] late refl h begins.replica begins.held epoch_0) begins.other
