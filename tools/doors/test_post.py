@@ -67,7 +67,8 @@ class PostTest(unittest.TestCase):
             self.post.post(2, octets)
         self.assertEqual((list(self.post.waiting[2]), self.counts["dropped"]), (["0c", "0d", "0e"], 2))
         # (the one under way is answered though it was dropped)
-        self.assertEqual([self.house.answer("ok taken") for _ in range(4)], ["take 0a", "take 0c", "take 0d", "take 0e"])
+        taken = [self.house.answer("ok taken") for _ in range(4)]
+        self.assertEqual(taken, ["take 0a", "take 0c", "take 0d", "take 0e"])
 
     def test_a_refusal_is_in_the_log(self) -> None:
         self.post.post(2, MESSAGE)
