@@ -93,6 +93,14 @@ class SkulksTest(unittest.TestCase):
         self.skulks.mark(MESSAGE)
         self.assertEqual(self.skulks.changed, {1})
 
+    def test_what_is_no_state_is_none(self) -> None:
+        lines = ["", "ok", "ok epoch", "ok epoch x members", "ok epoch 1 skulk", "dump epoch 1 members 1", "ok epoch 1"]
+        for line in lines:
+            self.skulks.mark(MESSAGE)
+            self.skulks.begin_all()
+            self.house.answer(line)
+            self.assertEqual(self.house.asked, [], line)
+
     def test_a_master_that_is_here_skulks_once(self) -> None:
         self.skulks.mark(MESSAGE)
         self.skulks.begin_all()
