@@ -63,6 +63,13 @@ def epoch_line(ledger: Ledger, word: str, master: int, others: list[str]) -> str
         raise Refused("fault BadWord 4", "a further house is a number, or s and a number") from None
 
 
+def is_done(words: list[str], state: State) -> bool:
+    """Whether a house did a line of the console, by what it holds of the line's directory."""
+    if words[0] == "house":
+        return state.line != "refused NoHouse"
+    return state.epoch >= (int(words[2]) if words[0] == "epoch" else 1)
+
+
 class Numbers:
     """The commands of the console, one after the other. `moved` hears of each epoch that was begun: the house and the
     directory."""
@@ -107,7 +114,7 @@ class Numbers:
         def heard(state: State | None) -> None:
             if not self.ledger.pending:
                 self.do()
-            elif state and (state.epoch >= int(words[2]) if words[0] == "epoch" else state.epoch > 0):
+            elif state and is_done(words, state):
                 self.ledger.settle(True)
                 self.do()
             elif state and (asked.starts == self.starts or time.monotonic() - self.since > UNDER_WAY):
@@ -145,10 +152,10 @@ class Numbers:
             if not told:
                 self.done(["refused Down doubt"])
                 return
-            is_done = told[-1].startswith("ok")
+            is_ok = told[-1].startswith("ok")
             if self.ledger.pending == (number, line):
-                self.ledger.settle(is_done)
-            if is_done and words[0] == "epoch":
+                self.ledger.settle(is_ok)
+            if is_ok and words[0] == "epoch":
                 self.moved(asked, int(words[1]))
             self.done(told)
 

@@ -105,7 +105,8 @@ class ClerkTest(unittest.TestCase):
         members = "".join(f"value {name.encode().hex()} present 1@a\n" for name in ("/.:/a", "/.:/b")).splitlines()
         other = ["entry b object 1@a 2@a", "attr CDS_Towers none", f"value {TOWER} present 1@a"]
         towers = ["attr CDS_Towers none", f"value {TOWER} present 1@a", f"value {TOWER[:-2]}02 absent 1@a"]
-        lines = ["entry a object 1@a live", *towers, "entry all object 1@a live", "attr RPC_Group none", *members, *other]
+        all_of_group = ["entry all object 1@a live", "attr RPC_Group none", *members]
+        lines = ["entry a object 1@a live", *towers, *all_of_group, *other]
         self.asked(2, "dump 1", "dump epoch 1 allupto none members 1:1:m 2:1:r", *lines, "end")
         self.said(f"binding {BINDING}", "end 1")
 

@@ -120,6 +120,17 @@ class NumbersTest(unittest.TestCase):
         self.house(1).answer("ok epoch 1 allupto none skulk none entries 0 members 1:1:m")
         self.assertEqual(self.house(1).answer("ok 2"), "epoch 1 2 1:1:m")
 
+    def test_a_house_that_may_be_made(self) -> None:
+        for answer, said in (("refused NoHouse", "ok"), ("refused NoReplica", "refused HouseExists")):
+            self.give("house 1 00000000000a")
+            self.house(1).answer()
+            self.give("house 1 00000000000a")
+            self.assertEqual(self.house(1).answer(answer), "status 1")
+            if said == "ok":
+                self.house(1).answer("refused HouseExists")
+            else:
+                self.assertEqual(self.said[-1], [said])
+
     def test_a_house_is_made_once(self) -> None:
         self.assertEqual(self.done("house 1 00000000000A", 1, "ok"), "house 1 00000000000A")
         self.renew()

@@ -67,7 +67,8 @@ class PostTest(unittest.TestCase):
             self.post.post(2, octets)
         self.assertEqual((list(self.post.waiting[2]), self.counts["dropped"]), (["0c", "0d", "0e"], 2))
         # (the one under way is answered though it was dropped)
-        self.assertEqual([self.house.answer("ok taken") for _ in range(4)], ["take 0a", "take 0c", "take 0d", "take 0e"])
+        taken = [self.house.answer("ok taken") for _ in range(4)]
+        self.assertEqual(taken, ["take 0a", "take 0c", "take 0d", "take 0e"])
 
     def test_a_refusal_is_in_the_log(self) -> None:
         self.post.post(2, MESSAGE)
@@ -91,6 +92,14 @@ class SkulksTest(unittest.TestCase):
         self.assertEqual(self.skulks.changed, set())
         self.skulks.mark(MESSAGE)
         self.assertEqual(self.skulks.changed, {1})
+
+    def test_what_is_no_state_is_none(self) -> None:
+        lines = ["", "ok", "ok epoch", "ok epoch x members", "ok epoch 1 skulk", "dump epoch 1 members 1", "ok epoch 1"]
+        for line in lines:
+            self.skulks.mark(MESSAGE)
+            self.skulks.begin_all()
+            self.house.answer(line)
+            self.assertEqual(self.house.asked, [], line)
 
     def test_a_master_that_is_here_skulks_once(self) -> None:
         self.skulks.mark(MESSAGE)
