@@ -1,5 +1,5 @@
 -- A skulk from its start on, while nothing disturbs it.
-use Rattle.std.proofs.Common.{◌≡◌, ℕ, ◌≤◌, inr, true, false, List, [], ◌∷◌, ◌++◌, Option, Some, None, refl, sym, ap, ◌∙◌}
+use Rattle.std.proofs.Common.{inl, inr, ◌≡◌, ℕ, ◌≤◌, true, false, List, [], ◌∷◌, ◌++◌, Option, Some, None, refl, sym, ap, ◌∙◌}
 use Rattle.std.proofs.Common.{subst, arith, append_assoc}
 use Rattle.cds_stamps.specs.declared.stamp.Stamp.{Stamp}
 use Rattle.cds_stamps.specs.Members.{Member, master_of, others_of}
@@ -21,7 +21,7 @@ use Rattle.cell_model.proofs.Completing.{answers_lem}
 use Rattle.cell_model.proofs.Passages.{Reaching, passage_stays}
 use Rattle.cell_model.proofs.Runs.{replay-append, roll_of, fit_at, step_passage, reaching_at}
 use Rattle.fair_runs.specs.Fairness.{IsUndisturbed}
-use Rattle.fair_runs.proofs.Phases.{Asked, Goes, same, gathered, turned, acked, completed, goes}
+use Rattle.fair_runs.proofs.Phases.{Asked, Hears, Goes, same, gathered, turned, acked, completed, goes}
 use Rattle.fair_runs.proofs.Takes.{still_gathering, still_spreading}
 use Rattle.fair_runs.proofs.Joins.{joins_lem}
 
@@ -118,7 +118,7 @@ module _ (start late : List Command) (h d k : ℕ) (t : Stamp) (calm : IsUndistu
     pub epoch : before.epoch ≡ k
     pub epoch' : after.epoch ≡ k
     pub phase : before.phase ≡ f
-    pub goes : Goes h d t (outcome (replay (start ++ past)) c).cell (place_of (replay (start ++ past)) c) (outcome (replay (start ++ past)) c).answer before after
+    pub goes : Goes h d t (replay (start ++ past)) (outcome (replay (start ++ past)) c).cell (place_of (replay (start ++ past)) c) (outcome (replay (start ++ past)) c).answer before after
 
   module _ (another : ℕ) (other : In another (others_of h ((roll_of d (start ++ late)).list k))) where
     pub step : (past left : List Command) (c : Command) → past ++ c ∷ left ≡ late → (f : Phase) → running_skulk_stamp f ≡ Some t → At past f → Stepped past c f
@@ -219,13 +219,6 @@ module _ (start late : List Command) (h d k : ℕ) (t : Stamp) (calm : IsUndistu
       phase = p;
     }
 
-    -- how far the skulk is: one of the rounds runs, and another house has yet to answer in it; or it is complete
-    pub data Stage (past : List Command) : Type 0 where
-      first : (a : List ℕ) → At past (Gathering t a) → all_answered (others_of h ((roll_of d (start ++ late)).list k)) a ≡ false → Stage past
-      second : (a : List ℕ) → At past (Spreading t a) → all_answered (others_of h ((roll_of d (start ++ late)).list k)) a ≡ false
-          → ((x : ℕ) → In x (others_of h ((roll_of d (start ++ late)).list k)) → Asked (replay (start ++ past)) h d k t x) → Stage past
-      over : Over past → Stage past
-
     -- another house has yet to answer after a delivery, too
     first_on : (past left : List Command) (c : Command) (a a' ns : List ℕ) → past ++ c ∷ left ≡ late → (s : Stepped past c (Gathering t a))
         → s.after.phase ≡ Gathering t a' → (outcome (replay (start ++ past)) c).answer ≡ Taken ns
@@ -249,121 +242,109 @@ module _ (start late : List Command) (h d k : ℕ) (t : Stamp) (calm : IsUndistu
         (still_spreading g w.0 h d t s.before s.after a a' s.at (subst (λ (x : Command). IsHeld (outcome g x).cell h d s.after) w.1 s.at') s.phase p
         (subst (λ (l : List ℕ). all_answered l [] ≡ false) (sym o) at_first) (subst (λ (l : List ℕ). all_answered l a ≡ false) (sym o) some))
 
+    -- each other member was asked in the second round, with what this replica has
+    abbrev pub AreAsked : List Command → Replica → Type 0
+    AreAsked past full = (x : ℕ) → In x (others_of h ((roll_of d (start ++ late)).list k)) → Asked (replay (start ++ past)) h d k t x full
+
     -- a question stays posted
-    asked_on : (past left : List Command) (c : Command) (x : ℕ) → past ++ c ∷ left ≡ late → Asked (replay (start ++ past)) h d k t x
-        → Asked (replay (start ++ (past ++ c ∷ []))) h d k t x
-    asked_on past left c x e q = record {
-      message = q.message;
-      copy = q.copy;
-      posted = stays_posted past left c e q.message q.dir q.posted;
-      dir = q.dir;
-      receiver = q.receiver;
-      sender = q.sender;
-      epoch = q.epoch;
-      body = q.body;
-    }
+    asked_on : (past left : List Command) (c : Command) (full : Replica) → past ++ c ∷ left ≡ late → AreAsked past full → AreAsked (past ++ c ∷ []) full
+    asked_on past left c full e asked x i =
+        let q = asked x i in
+        record {
+          message = q.message;
+          copy = q.copy;
+          posted = stays_posted past left c e q.message q.dir q.posted;
+          dir = q.dir;
+          receiver = q.receiver;
+          sender = q.sender;
+          epoch = q.epoch;
+          body = q.body;
+          whole = q.whole;
+        }
 
-    stage_first : (past left : List Command) (c : Command) (a : List ℕ) → past ++ c ∷ left ≡ late → (s : Stepped past c (Gathering t a))
-        → all_answered (others_of h ((roll_of d (start ++ late)).list k)) a ≡ false
-        → Goes h d t (outcome (replay (start ++ past)) c).cell (place_of (replay (start ++ past)) c) (outcome (replay (start ++ past)) c).answer s.before s.after
-        → Stage (past ++ c ∷ [])
-    stage_first past left c a e s some (same p) = first a (at_next past c (Gathering t a) (Gathering t a) s (p ∙ s.phase)) some
-    stage_first past left c a e s some (gathered b ns y p q answer) =
-        first (y ∷ b) (at_next past c (Gathering t a) (Gathering t (y ∷ b)) s q) (first_on past left c a (y ∷ b) ns e s q answer some)
-    stage_first past left c a e s some (turned b p q asked) =
-        let o = its_others past (c ∷ left) e s.before s.at s.epoch in
-        second [] (at_next past c (Gathering t a) (Spreading t []) s q) at_first
-        (λ x i. subst (λ (z : Cell). Asked z h d k t x) (sym (cell_next past c))
-        (subst (λ (z : ℕ). Asked (outcome (replay (start ++ past)) c).cell h d z t x) s.epoch (asked x (subst (λ (l : List ℕ). In x l) (sym o) i))))
-    stage_first past left c a e s some (acked b ns y p q answer) = let z : Gathering t a ≡ Spreading t b = sym s.phase ∙ p in absurd (cc)
-    stage_first past left c a e s some (completed ns answer p) = over (completes_there past left c (Gathering t a) ns e s answer p)
+    -- Q is what the master's replica has of a house that was heard, and P what it has once all were
+    module _ (Q : ℕ → Replica → Type 0) (P : Replica → Type 0)
+        (hearing : (past left : List Command) (c : Command) (f : Phase) → past ++ c ∷ left ≡ late → (s : Stepped past c f) → (y : ℕ)
+        → Hears (replay (start ++ past)) d t y s.after → Q y s.after)
+        (keeping : (past left : List Command) (c : Command) (f : Phase) → past ++ c ∷ left ≡ late → (s : Stepped past c f) → (y : ℕ) → Q y s.before
+        → Q y s.after)
+        (filling : (past left : List Command) (c : Command) (f : Phase) → past ++ c ∷ left ≡ late → (s : Stepped past c f)
+        → ((y : ℕ) → In y (others_of h ((roll_of d (start ++ late)).list k)) → Q y s.after) → P s.after) where
+      -- how far the skulk is: one of the rounds runs, another house has yet to answer in it, and of those that answered this holds; or it is
+      -- complete
+      pub data Stage (first_has second_has : List ℕ → Type 0) (past : List Command) : Type 0 where
+        first : (a : List ℕ) (at : At past (Gathering t a)) → all_answered (others_of h ((roll_of d (start ++ late)).list k)) a ≡ false
+            → ((y : ℕ) → In y a → Q y at.replica) → first_has a → Stage first_has second_has past
+        second : (a : List ℕ) → At past (Spreading t a) → all_answered (others_of h ((roll_of d (start ++ late)).list k)) a ≡ false → (full : Replica) → P full
+            → AreAsked past full → second_has a → Stage first_has second_has past
+        over : Over past → (full : Replica) → P full → AreAsked past full → Stage first_has second_has past
 
-    stage_second : (past left : List Command) (c : Command) (a : List ℕ) → past ++ c ∷ left ≡ late → (s : Stepped past c (Spreading t a))
-        → all_answered (others_of h ((roll_of d (start ++ late)).list k)) a ≡ false
-        → ((x : ℕ) → In x (others_of h ((roll_of d (start ++ late)).list k)) → Asked (replay (start ++ past)) h d k t x)
-        → Goes h d t (outcome (replay (start ++ past)) c).cell (place_of (replay (start ++ past)) c) (outcome (replay (start ++ past)) c).answer s.before s.after
-        → Stage (past ++ c ∷ [])
-    stage_second past left c a e s some asked (same p) =
-        second a (at_next past c (Spreading t a) (Spreading t a) s (p ∙ s.phase)) some (λ x i. asked_on past left c x e (asked x i))
-    stage_second past left c a e s some asked (gathered b ns y p q answer) = let z : Spreading t a ≡ Gathering t b = sym s.phase ∙ p in absurd (cc)
-    stage_second past left c a e s some asked (turned b p q told) = let z : Spreading t a ≡ Gathering t b = sym s.phase ∙ p in absurd (cc)
-    stage_second past left c a e s some asked (acked b ns y p q answer) =
-        second (y ∷ b) (at_next past c (Spreading t a) (Spreading t (y ∷ b)) s q) (second_on past left c a (y ∷ b) ns e s q answer some)
-        (λ x i. asked_on past left c x e (asked x i))
-    stage_second past left c a e s some asked (completed ns answer p) = over (completes_there past left c (Spreading t a) ns e s answer p)
+      -- who was heard after one more answer
+      heard_in : (past left : List Command) (c : Command) (a b : List ℕ) (y : ℕ) → past ++ c ∷ left ≡ late → (s : Stepped past c (Gathering t a)) → a ≡ b
+          → ((x : ℕ) → In x a → Q x s.before) → Hears (replay (start ++ past)) d t y s.after → (x : ℕ) → In x (y ∷ b) → Q x s.after
+      heard_in past left c a b y e s l noted w x (inl z) = subst (λ (v : ℕ). Q v s.after) (sym z) (hearing past left c (Gathering t a) e s y w)
+      heard_in past left c a b y e s l noted w x (inr i) =
+          keeping past left c (Gathering t a) e s x (noted x (subst (λ (v : List ℕ). In x v) (sym l) i))
 
-    stage_step : (past left : List Command) (c : Command) → past ++ c ∷ left ≡ late → Stage past → Stage (past ++ c ∷ [])
-    stage_step past left c e (first a at some) = let s = step past left c e (Gathering t a) refl at in stage_first past left c a e s some s.goes
-    stage_step past left c e (second a at some asked) =
-        let s = step past left c e (Spreading t a) refl at in stage_second past left c a e s some asked s.goes
-    stage_step past left c e (over o) = over (over_on past c o)
+      module _ (W V : List ℕ → Type 0) (more : (y : ℕ) (a : List ℕ) → W a → W (y ∷ a)) (turn : (a : List ℕ) → W a → V [])
+          (more_again : (y : ℕ) (a : List ℕ) → V a → V (y ∷ a)) where
+        stage_first : (past left : List Command) (c : Command) (a : List ℕ) → past ++ c ∷ left ≡ late → (s : Stepped past c (Gathering t a))
+            → all_answered (others_of h ((roll_of d (start ++ late)).list k)) a ≡ false → ((y : ℕ) → In y a → Q y s.before) → W a
+            → Goes h d t (replay (start ++ past)) (outcome (replay (start ++ past)) c).cell (place_of (replay (start ++ past)) c)
+            (outcome (replay (start ++ past)) c).answer s.before s.after
+            → Stage W V (past ++ c ∷ [])
+        unfolding at_next
+        stage_first past left c a e s some noted has_it (same p) =
+            first a (at_next past c (Gathering t a) (Gathering t a) s (p ∙ s.phase)) some (λ y i. keeping past left c (Gathering t a) e s y (noted y i)) has_it
+        stage_first past left c a e s some noted has_it (gathered b ns y p q answer w) =
+            let v : Gathering t a ≡ Gathering t b = sym s.phase ∙ p in
+            let l : a ≡ b = cc in
+            first (y ∷ b) (at_next past c (Gathering t a) (Gathering t (y ∷ b)) s q) (first_on past left c a (y ∷ b) ns e s q answer some)
+            (λ x i. heard_in past left c a b y e s l noted w x i) (more y b (subst W l has_it))
+        stage_first past left c a e s some noted has_it (turned b y p q asked all w) =
+            let v : Gathering t a ≡ Gathering t b = sym s.phase ∙ p in
+            let l : a ≡ b = cc in
+            let o = its_others past (c ∷ left) e s.before s.at s.epoch in
+            second [] (at_next past c (Gathering t a) (Spreading t []) s q) at_first s.after
+            (filling past left c (Gathering t a) e s
+            (λ x i. heard_in past left c a b y e s l noted w x (all x (subst (λ (z : List ℕ). In x z) (sym o) i))))
+            (λ x i. subst (λ (z : Cell). Asked z h d k t x s.after) (sym (cell_next past c))
+            (subst (λ (z : ℕ). Asked (outcome (replay (start ++ past)) c).cell h d z t x s.after) s.epoch (asked x (subst (λ (z : List ℕ). In x z) (sym o) i)))) (turn a has_it)
+        stage_first past left c a e s some noted has_it (acked b ns y p q answer) = let z : Gathering t a ≡ Spreading t b = sym s.phase ∙ p in absurd (cc)
+        stage_first past left c a e s some noted has_it (completed b ns q answer p) = let z : Gathering t a ≡ Spreading t b = sym s.phase ∙ q in absurd (cc)
 
-    -- at each moment
-    pub stage_run : (mid past left : List Command) → past ++ (mid ++ left) ≡ late → Stage past → Stage (past ++ mid)
-    stage_run [] past left e s = subst (λ (l : List Command). Stage l) (sym (append_nil past)) s
-    stage_run (c ∷ mid) past left e s =
-        subst (λ (l : List Command). Stage l) (append_assoc past (c ∷ []) mid)
-        (stage_run mid (past ++ c ∷ []) left (one_more past (mid ++ left) c e) (stage_step past (mid ++ left) c e s))
+        -- those that answered so far
+        list_is : (past : List Command) (c : Command) (a b : List ℕ) (s : Stepped past c (Spreading t a)) → s.before.phase ≡ Spreading t b → a ≡ b
+        list_is past c a b s p = let z : Spreading t a ≡ Spreading t b = sym s.phase ∙ p in cc
 
-    -- ---- who was heard
+        stage_second : (past left : List Command) (c : Command) (a : List ℕ) → past ++ c ∷ left ≡ late → (s : Stepped past c (Spreading t a))
+            → all_answered (others_of h ((roll_of d (start ++ late)).list k)) a ≡ false → (full : Replica) → P full → AreAsked past full → V a
+            → Goes h d t (replay (start ++ past)) (outcome (replay (start ++ past)) c).cell (place_of (replay (start ++ past)) c)
+            (outcome (replay (start ++ past)) c).answer s.before s.after
+            → Stage W V (past ++ c ∷ [])
+        stage_second past left c a e s some full has_all asked has_it (same p) =
+            second a (at_next past c (Spreading t a) (Spreading t a) s (p ∙ s.phase)) some full has_all (asked_on past left c full e asked) has_it
+        stage_second past left c a e s some full has_all asked has_it (gathered b ns y p q answer w) =
+            let z : Spreading t a ≡ Gathering t b = sym s.phase ∙ p in absurd (cc)
+        stage_second past left c a e s some full has_all asked has_it (turned b y p q told all w) =
+            let z : Spreading t a ≡ Gathering t b = sym s.phase ∙ p in absurd (cc)
+        stage_second past left c a e s some full has_all asked has_it (acked b ns y p q answer) =
+            second (y ∷ b) (at_next past c (Spreading t a) (Spreading t (y ∷ b)) s q) (second_on past left c a (y ∷ b) ns e s q answer some) full has_all
+            (asked_on past left c full e asked) (more_again y b (subst V (list_is past c a b s p) has_it))
+        stage_second past left c a e s some full has_all asked has_it (completed b ns q answer p) =
+            over (completes_there past left c (Spreading t a) ns e s answer p) full has_all (asked_on past left c full e asked)
 
-    -- the house was heard in the first round
-    pub data Heard (past : List Command) (y : ℕ) : Type 0 where
-      in_first : (a : List ℕ) → At past (Gathering t a) → In y a → Heard past y
-      in_second : (a : List ℕ) → At past (Spreading t a) → Heard past y
-      at_end : Over past → Heard past y
+        pub stage_step : (past left : List Command) (c : Command) → past ++ c ∷ left ≡ late → Stage W V past → Stage W V (past ++ c ∷ [])
+        unfolding step
+        stage_step past left c e (first a at some noted has_it) =
+            let s = step past left c e (Gathering t a) refl at in stage_first past left c a e s some noted has_it s.goes
+        stage_step past left c e (second a at some full has_all asked has_it) =
+            let s = step past left c e (Spreading t a) refl at in stage_second past left c a e s some full has_all asked has_it s.goes
+        stage_step past left c e (over o full has_all asked) = over (over_on past c o) full has_all (asked_on past left c full e asked)
 
-    -- and in the second one
-    pub data HeardTwice (past : List Command) (y : ℕ) : Type 0 where
-      twice : (a : List ℕ) → At past (Spreading t a) → In y a → HeardTwice past y
-      at_end_too : Over past → HeardTwice past y
-
-    heard_first : (past left : List Command) (c : Command) (y : ℕ) (a : List ℕ) → past ++ c ∷ left ≡ late → (s : Stepped past c (Gathering t a)) → In y a
-        → Goes h d t (outcome (replay (start ++ past)) c).cell (place_of (replay (start ++ past)) c) (outcome (replay (start ++ past)) c).answer s.before s.after
-        → Heard (past ++ c ∷ []) y
-    heard_first past left c y a e s i (same p) = in_first a (at_next past c (Gathering t a) (Gathering t a) s (p ∙ s.phase)) i
-    heard_first past left c y a e s i (gathered b ns z p q answer) =
-        let v : Gathering t a ≡ Gathering t b = sym s.phase ∙ p in
-        let l : a ≡ b = cc in
-        in_first (z ∷ b) (at_next past c (Gathering t a) (Gathering t (z ∷ b)) s q) (inr (subst (λ (x : List ℕ). In y x) l i))
-    heard_first past left c y a e s i (turned b p q asked) = in_second [] (at_next past c (Gathering t a) (Spreading t []) s q)
-    heard_first past left c y a e s i (acked b ns z p q answer) = let v : Gathering t a ≡ Spreading t b = sym s.phase ∙ p in absurd (cc)
-    heard_first past left c y a e s i (completed ns answer p) = at_end (completes_there past left c (Gathering t a) ns e s answer p)
-
-    heard_second : (past left : List Command) (c : Command) (y : ℕ) (a : List ℕ) → past ++ c ∷ left ≡ late → (s : Stepped past c (Spreading t a))
-        → Goes h d t (outcome (replay (start ++ past)) c).cell (place_of (replay (start ++ past)) c) (outcome (replay (start ++ past)) c).answer s.before s.after
-        → Heard (past ++ c ∷ []) y
-    heard_second past left c y a e s (same p) = in_second a (at_next past c (Spreading t a) (Spreading t a) s (p ∙ s.phase))
-    heard_second past left c y a e s (gathered b ns z p q answer) = let v : Spreading t a ≡ Gathering t b = sym s.phase ∙ p in absurd (cc)
-    heard_second past left c y a e s (turned b p q asked) = let v : Spreading t a ≡ Gathering t b = sym s.phase ∙ p in absurd (cc)
-    heard_second past left c y a e s (acked b ns z p q answer) = in_second (z ∷ b) (at_next past c (Spreading t a) (Spreading t (z ∷ b)) s q)
-    heard_second past left c y a e s (completed ns answer p) = at_end (completes_there past left c (Spreading t a) ns e s answer p)
-
-    pub heard_on : (left past : List Command) (y : ℕ) → past ++ left ≡ late → Heard past y → Heard late y
-    heard_on [] past y e w = subst (λ (l : List Command). Heard l y) (sym (append_nil past) ∙ e) w
-    heard_on (c ∷ left) past y e (in_first a at i) =
-        let s = step past left c e (Gathering t a) refl at in
-        heard_on left (past ++ c ∷ []) y (one_more past left c e) (heard_first past left c y a e s i s.goes)
-    heard_on (c ∷ left) past y e (in_second a at) =
-        let s = step past left c e (Spreading t a) refl at in
-        heard_on left (past ++ c ∷ []) y (one_more past left c e) (heard_second past left c y a e s s.goes)
-    heard_on (c ∷ left) past y e (at_end o) = heard_on left (past ++ c ∷ []) y (one_more past left c e) (at_end (over_on past c o))
-
-    heard_twice : (past left : List Command) (c : Command) (y : ℕ) (a : List ℕ) → past ++ c ∷ left ≡ late → (s : Stepped past c (Spreading t a)) → In y a
-        → Goes h d t (outcome (replay (start ++ past)) c).cell (place_of (replay (start ++ past)) c) (outcome (replay (start ++ past)) c).answer s.before s.after
-        → HeardTwice (past ++ c ∷ []) y
-    heard_twice past left c y a e s i (same p) = twice a (at_next past c (Spreading t a) (Spreading t a) s (p ∙ s.phase)) i
-    heard_twice past left c y a e s i (gathered b ns z p q answer) = let v : Spreading t a ≡ Gathering t b = sym s.phase ∙ p in absurd (cc)
-    heard_twice past left c y a e s i (turned b p q asked) = let v : Spreading t a ≡ Gathering t b = sym s.phase ∙ p in absurd (cc)
-    heard_twice past left c y a e s i (acked b ns z p q answer) =
-        let v : Spreading t a ≡ Spreading t b = sym s.phase ∙ p in
-        let l : a ≡ b = cc in
-        twice (z ∷ b) (at_next past c (Spreading t a) (Spreading t (z ∷ b)) s q) (inr (subst (λ (x : List ℕ). In y x) l i))
-    heard_twice past left c y a e s i (completed ns answer p) = at_end_too (completes_there past left c (Spreading t a) ns e s answer p)
-
-    pub twice_on : (left past : List Command) (y : ℕ) → past ++ left ≡ late → HeardTwice past y → HeardTwice late y
-    twice_on [] past y e w = subst (λ (l : List Command). HeardTwice l y) (sym (append_nil past) ∙ e) w
-    twice_on (c ∷ left) past y e (twice a at i) =
-        let s = step past left c e (Spreading t a) refl at in
-        twice_on left (past ++ c ∷ []) y (one_more past left c e) (heard_twice past left c y a e s i s.goes)
-    twice_on (c ∷ left) past y e (at_end_too o) = twice_on left (past ++ c ∷ []) y (one_more past left c e) (at_end_too (over_on past c o))
+        -- at each moment
+        pub stage_run : (mid past left : List Command) → past ++ (mid ++ left) ≡ late → Stage W V past → Stage W V (past ++ mid)
+        stage_run [] past left e s = subst (λ (l : List Command). Stage W V l) (sym (append_nil past)) s
+        stage_run (c ∷ mid) past left e s =
+            subst (λ (l : List Command). Stage W V l) (append_assoc past (c ∷ []) mid)
+            (stage_run mid (past ++ c ∷ []) left (one_more past (mid ++ left) c e) (stage_step past (mid ++ left) c e s))

@@ -23,7 +23,7 @@ use Rattle.cell_model.proofs.Rounds.{Round}
 use Rattle.cell_model.proofs.Rows.{Own}
 use Rattle.cell_model.proofs.Runs.{replay-append, roll_of}
 use Rattle.fair_runs.specs.Fairness.{IsUndisturbed, IsDelivered, IsFair, IsComplete, SkulksEnd}
-use Rattle.fair_runs.proofs.Phases.{Asked}
+use Rattle.fair_runs.proofs.Phases.{Asked, Hears}
 use Rattle.fair_runs.proofs.Takes.{gather_take, spread_take, gathered_take, ack_take, deliver_take}
 use Rattle.fair_runs.proofs.Begun.{Begun, Questioned, begun}
 use Rattle.fair_runs.proofs.Courses as courses
@@ -45,21 +45,27 @@ all_or (x ∷ xs) a W each = by_first (each x (inl refl)) (all_or xs a W (λ y i
     by_first (inl i) (inl rest) = inl (λ y j. ⊎_elim (λ (e : y ≡ x). subst (λ (z : ℕ). In z a) (sym e) i) (λ z. rest y z) j)
 
 module _ (start late : List Command) (h d k : ℕ) (t : Stamp) (calm : IsUndisturbed start late h d k t) (fair : IsFair start late d t)
-    (another : ℕ) (other : In another (others_of h ((roll_of d (start ++ late)).list k))) where
+    (another : ℕ) (other : In another (others_of h ((roll_of d (start ++ late)).list k))) (Q : ℕ → Replica → Type 0) (P : Replica → Type 0)
+    (hearing : (past left : List Command) (c : Command) (f : Phase) → past ++ c ∷ left ≡ late → (s : courses.Stepped start late h d k t calm past c f)
+    → (y : ℕ) → Hears (replay (start ++ past)) d t y s.after → Q y s.after)
+    (keeping : (past left : List Command) (c : Command) (f : Phase) → past ++ c ∷ left ≡ late → (s : courses.Stepped start late h d k t calm past c f)
+    → (y : ℕ) → Q y s.before → Q y s.after)
+    (filling : (past left : List Command) (c : Command) (f : Phase) → past ++ c ∷ left ≡ late → (s : courses.Stepped start late h d k t calm past c f)
+    → ((y : ℕ) → In y (others_of h ((roll_of d (start ++ late)).list k)) → Q y s.after) → P s.after) where
   abbrev At : List Command → Phase → Type 0
   At past f = courses.At start late h d k t calm past f
 
-  abbrev Over : List Command → Type 0
-  Over past = courses.Over start late h d k t calm past
-
+  -- how far the skulk is
   abbrev Stage : List Command → Type 0
-  Stage past = courses.Stage start late h d k t calm another other past
+  Stage past = courses.Stage start late h d k t calm another other Q P hearing keeping filling (λ a. Unit {0}) (λ a. Unit {0}) past
 
+  -- and the house was heard in the first round
   abbrev Heard : List Command → ℕ → Type 0
-  Heard past y = courses.Heard start late h d k t calm another other past y
+  Heard past y = courses.Stage start late h d k t calm another other Q P hearing keeping filling (λ a. In y a) (λ a. Unit {0}) past
 
+  -- and the first round is over, and the house was heard in the second
   abbrev HeardTwice : List Command → ℕ → Type 0
-  HeardTwice past y = courses.HeardTwice start late h d k t calm another other past y
+  HeardTwice past y = courses.Stage start late h d k t calm another other Q P hearing keeping filling (λ a. ⊥) (λ a. In y a) past
 
   abbrev others : List ℕ
   others = others_of h ((roll_of d (start ++ late)).list k)
@@ -169,27 +175,61 @@ module _ (start late : List Command) (h d k : ℕ) (t : Stamp) (calm : IsUndistu
     at_0 : Stage []
     at_0 = courses.first []
         (record { replica = begun.replica; held = begun.held; epoch = epoch_0; phase = begun.phase })
-        (courses.at_first start late h d k t calm another other)
+        (courses.at_first start late h d k t calm another other) (λ y i. elim i [ ]) tt
+
+    stage_step : (past left : List Command) (c : Command) → past ++ c ∷ left ≡ late → Stage past → Stage (past ++ c ∷ [])
+    stage_step past left c e s =
+        courses.stage_step start late h d k t calm another other Q P hearing keeping filling (λ a. Unit {0}) (λ a. Unit {0}) (λ y a w. tt) (λ a w. tt) (λ y a w. tt) past left c e s
+
+    -- what was heard stays so
+    heard_on : (left past : List Command) (y : ℕ) → past ++ left ≡ late → Heard past y → Heard late y
+    heard_on left past y e w =
+        subst (λ (l : List Command). Heard l y) e
+        (courses.stage_run start late h d k t calm another other Q P hearing keeping filling (λ a. In y a) (λ a. Unit {0}) (λ z a i. inr i) (λ a i. tt) (λ z a i. tt) left past []
+        (ap (λ (l : List Command). past ++ l) (append_nil left) ∙ e) w)
+
+    twice_on : (left past : List Command) (y : ℕ) → past ++ left ≡ late → HeardTwice past y → HeardTwice late y
+    twice_on left past y e w =
+        subst (λ (l : List Command). HeardTwice l y) e
+        (courses.stage_run start late h d k t calm another other Q P hearing keeping filling (λ a. ⊥) (λ a. In y a) (λ z a i. i) (λ a i. elim i [ ]) (λ z a i. inr i) left past []
+        (ap (λ (l : List Command). past ++ l) (append_nil left) ∙ e) w)
+
+    -- two phases at one moment
+    one : (past : List Command) (f f' : Phase) → At past f → At past f' → f ≡ f'
+    one past f f' a b = courses.one_phase start late h d k t calm past f f' a b
 
     stage_at : (past left : List Command) → past ++ left ≡ late → Stage past
-    stage_at past left e = courses.stage_run start late h d k t calm another other past [] left e at_0
+    stage_at past left e = courses.stage_run start late h d k t calm another other Q P hearing keeping filling (λ a. Unit {0}) (λ a. Unit {0}) (λ y a w. tt) (λ a w. tt) (λ y a w. tt) past [] left e at_0
 
     -- the answer of the first round is heard
     hears : (z : Message) (copy : Copy) (y : ℕ) → In y others → z.dir ≡ d → z.receiver ≡ h → z.sender ≡ y → z.epoch ≡ k → z.body ≡ Gathered t copy
         → IsDelivered start late z → Heard late y
     hears z copy y i dir to from epoch body w = by_stage (stage_at w.past (commands.Deliver w.serial ∷ w.left) w.parts)
       where
-        g : Cell
-        g = replay (start ++ w.past)
+        next : List Command
+        next = w.past ++ commands.Deliver w.serial ∷ []
 
-        later : Heard (w.past ++ commands.Deliver w.serial ∷ []) y → Heard late y
-        later = courses.heard_on start late h d k t calm another other w.left (w.past ++ commands.Deliver w.serial ∷ []) y
-            (courses.one_more start late h d k t calm w.past w.left (commands.Deliver w.serial) w.parts)
+        e_next : (w.past ++ commands.Deliver w.serial ∷ []) ++ w.left ≡ late
+        e_next = courses.one_more start late h d k t calm w.past w.left (commands.Deliver w.serial) w.parts
 
-        from_there : Heard w.past y → Heard late y
-        from_there = courses.heard_on start late h d k t calm another other (commands.Deliver w.serial ∷ w.left) w.past y w.parts
+        -- where the second round has begun
+        in_second : At (w.past ++ commands.Deliver w.serial ∷ []) (Spreading t []) → Stage (w.past ++ commands.Deliver w.serial ∷ [])
+            → Heard (w.past ++ commands.Deliver w.serial ∷ []) y
+        in_second at (courses.first b at' some noted _) =
+            let p = one (w.past ++ commands.Deliver w.serial ∷ []) (Spreading t []) (Gathering t b) at at' in absurd (cc)
+        in_second at (courses.second b at' some full has_all asked _) = courses.second b at' some full has_all asked tt
+        in_second at (courses.over o full has_all asked) = courses.over o full has_all asked
 
-        by_all : (b : List ℕ) (at : At w.past (Gathering t b)) (c : Bool)
+        -- where the first goes on
+        in_first : (a : List ℕ) → In y a → At (w.past ++ commands.Deliver w.serial ∷ []) (Gathering t a) → Stage (w.past ++ commands.Deliver w.serial ∷ [])
+            → Heard (w.past ++ commands.Deliver w.serial ∷ []) y
+        in_first a it at (courses.first b at' some noted _) =
+            let p = one (w.past ++ commands.Deliver w.serial ∷ []) (Gathering t a) (Gathering t b) at at' in
+            let l : a ≡ b = cc in courses.first b at' some noted (subst (λ (x : List ℕ). In y x) l it)
+        in_first a it at (courses.second b at' some full has_all asked _) = courses.second b at' some full has_all asked tt
+        in_first a it at (courses.over o full has_all asked) = courses.over o full has_all asked
+
+        by_all : Stage w.past → (b : List ℕ) (at : At w.past (Gathering t b)) (c : Bool)
             → outcome (replay (start ++ w.past)) (commands.Deliver w.serial)
             ≡ at_house (replay (start ++ w.past)) z.receiver
             (cond c
@@ -198,19 +238,24 @@ module _ (start late : List Command) (h d k : ℕ) (t : Stamp) (calm : IsUndistu
             (take_and_answer ((replay (start ++ w.past)).house z.receiver) z (Held (record (merge_copy at.replica copy) { phase = Gathering t (z.sender ∷ b) }))
             []))
             → Heard late y
-        by_all b at true e =
-            later (courses.in_second [] (at_after w.past w.serial z (record (merge_copy at.replica copy) { phase = Spreading t [] })
+        by_all s b at true e =
+            heard_on w.left (w.past ++ commands.Deliver w.serial ∷ []) y e_next
+            (in_second (at_after w.past w.serial z (record (merge_copy at.replica copy) { phase = Spreading t [] })
             (to_others ((replay (start ++ w.past)).house z.receiver) z at.replica (Spread t (copy_of (merge_copy at.replica copy)))) commands.Taken e to dir
-            at.epoch))
-        by_all b at false e =
-            later (courses.in_first (z.sender ∷ b) (at_after w.past w.serial z (record (merge_copy at.replica copy) { phase = Gathering t (z.sender ∷ b) }) []
-            commands.Taken e to dir at.epoch) (inl (sym from)))
+            at.epoch) (stage_step w.past w.left (commands.Deliver w.serial) w.parts s))
+        by_all s b at false e =
+            heard_on w.left (w.past ++ commands.Deliver w.serial ∷ []) y e_next
+            (in_first (z.sender ∷ b) (inl (sym from))
+            (at_after w.past w.serial z (record (merge_copy at.replica copy) { phase = Gathering t (z.sender ∷ b) }) [] commands.Taken e to dir at.epoch)
+            (stage_step w.past w.left (commands.Deliver w.serial) w.parts s))
 
         by_stage : Stage w.past → Heard late y
-        by_stage (courses.second b at some asked) = from_there (courses.in_second b at)
-        by_stage (courses.over o) = from_there (courses.at_end o)
-        by_stage (courses.first b at some) =
-            by_all b at (all_answered (others_of z.receiver at.replica.members) (z.sender ∷ b))
+        by_stage (courses.second b at some full has_all asked _) =
+            heard_on (commands.Deliver w.serial ∷ w.left) w.past y w.parts (courses.second b at some full has_all asked tt)
+        by_stage (courses.over o full has_all asked) =
+            heard_on (commands.Deliver w.serial ∷ w.left) w.past y w.parts (courses.over o full has_all asked)
+        by_stage (courses.first b at some noted _) =
+            by_all (courses.first b at some noted tt) b at (all_answered (others_of z.receiver at.replica.members) (z.sender ∷ b))
             (done w.past w.serial z _ w.message w.up (gathered_take ((replay (start ++ w.past)).house z.receiver) z t copy b at.replica
             (own_at w.past (commands.Deliver w.serial ∷ w.left) w.parts (Gathering t b) at z (Gathered t copy) y i dir to from epoch body) at.phase))
 
@@ -230,11 +275,29 @@ module _ (start late : List Command) (h d k : ℕ) (t : Stamp) (calm : IsUndistu
         → IsDelivered start late z → HeardTwice late y
     hears_twice z y i dir to from epoch body w = by_stage (stage_at w.past (commands.Deliver w.serial ∷ w.left) w.parts)
       where
-        later : HeardTwice (w.past ++ commands.Deliver w.serial ∷ []) y → HeardTwice late y
-        later = courses.twice_on start late h d k t calm another other w.left (w.past ++ commands.Deliver w.serial ∷ []) y
-            (courses.one_more start late h d k t calm w.past w.left (commands.Deliver w.serial) w.parts)
+        e_next : (w.past ++ commands.Deliver w.serial ∷ []) ++ w.left ≡ late
+        e_next = courses.one_more start late h d k t calm w.past w.left (commands.Deliver w.serial) w.parts
 
-        by_all : (b : List ℕ) (at : At w.past (Spreading t b)) (c : Bool)
+        -- where no round runs any more
+        in_none : At (w.past ++ commands.Deliver w.serial ∷ []) Idle → Stage (w.past ++ commands.Deliver w.serial ∷ [])
+            → HeardTwice (w.past ++ commands.Deliver w.serial ∷ []) y
+        in_none at (courses.first b at' some noted _) =
+            let p = one (w.past ++ commands.Deliver w.serial ∷ []) Idle (Gathering t b) at at' in absurd (cc)
+        in_none at (courses.second b at' some full has_all asked _) =
+            let p = one (w.past ++ commands.Deliver w.serial ∷ []) Idle (Spreading t b) at at' in absurd (cc)
+        in_none at (courses.over o full has_all asked) = courses.over o full has_all asked
+
+        -- where the second goes on
+        in_second : (a : List ℕ) → In y a → At (w.past ++ commands.Deliver w.serial ∷ []) (Spreading t a) → Stage (w.past ++ commands.Deliver w.serial ∷ [])
+            → HeardTwice (w.past ++ commands.Deliver w.serial ∷ []) y
+        in_second a it at (courses.first b at' some noted _) =
+            let p = one (w.past ++ commands.Deliver w.serial ∷ []) (Spreading t a) (Gathering t b) at at' in absurd (cc)
+        in_second a it at (courses.second b at' some full has_all asked _) =
+            let p = one (w.past ++ commands.Deliver w.serial ∷ []) (Spreading t a) (Spreading t b) at at' in
+            let l : a ≡ b = cc in courses.second b at' some full has_all asked (subst (λ (x : List ℕ). In y x) l it)
+        in_second a it at (courses.over o full has_all asked) = courses.over o full has_all asked
+
+        by_all : Stage w.past → (b : List ℕ) (at : At w.past (Spreading t b)) (c : Bool)
             → outcome (replay (start ++ w.past)) (commands.Deliver w.serial)
             ≡ at_house (replay (start ++ w.past)) z.receiver
             (cond c
@@ -243,11 +306,16 @@ module _ (start late : List Command) (h d k : ℕ) (t : Stamp) (calm : IsUndistu
             (to_others ((replay (start ++ w.past)).house z.receiver) z at.replica (Advance t)) (Complete t))
             (take_and_answer ((replay (start ++ w.past)).house z.receiver) z (Held (record at.replica { phase = Spreading t (z.sender ∷ b) })) []))
             → HeardTwice late y
-        by_all b at true e =
-            later (courses.at_end_too (record { early = w.past; serial = w.serial; rest = []; parts = refl; serials = _; answer = ap (λ o. o.answer) e }))
-        by_all b at false e =
-            later (courses.twice (z.sender ∷ b) (at_after w.past w.serial z (record at.replica { phase = Spreading t (z.sender ∷ b) }) [] commands.Taken e to dir
-            at.epoch) (inl (sym from)))
+        by_all s b at true e =
+            twice_on w.left (w.past ++ commands.Deliver w.serial ∷ []) y e_next
+            (in_none (at_after w.past w.serial z (record at.replica { all_up_to = later_up_to at.replica.all_up_to t; phase = Idle })
+            (to_others ((replay (start ++ w.past)).house z.receiver) z at.replica (Advance t)) (Complete t) e to dir at.epoch)
+            (stage_step w.past w.left (commands.Deliver w.serial) w.parts s))
+        by_all s b at false e =
+            twice_on w.left (w.past ++ commands.Deliver w.serial ∷ []) y e_next
+            (in_second (z.sender ∷ b) (inl (sym from))
+            (at_after w.past w.serial z (record at.replica { phase = Spreading t (z.sender ∷ b) }) [] commands.Taken e to dir at.epoch)
+            (stage_step w.past w.left (commands.Deliver w.serial) w.parts s))
 
         -- no answer of the second round is posted in the first
         too_early : (b : List ℕ) → At w.past (Gathering t b) → ⊥
@@ -259,48 +327,58 @@ module _ (start late : List Command) (h d k : ℕ) (t : Stamp) (calm : IsUndistu
             round.no_ack z (In-of_dir d g.bag z posted dir) body
 
         by_stage : Stage w.past → HeardTwice late y
-        by_stage (courses.first b at some) = elim (too_early b at) [ ]
-        by_stage (courses.over o) = courses.twice_on start late h d k t calm another other (commands.Deliver w.serial ∷ w.left) w.past y w.parts (courses.at_end_too o)
-        by_stage (courses.second b at some asked) =
-            by_all b at (all_answered (others_of z.receiver at.replica.members) (z.sender ∷ b))
+        by_stage (courses.first b at some noted _) = elim (too_early b at) [ ]
+        by_stage (courses.over o full has_all asked) =
+            twice_on (commands.Deliver w.serial ∷ w.left) w.past y w.parts (courses.over o full has_all asked)
+        by_stage (courses.second b at some full has_all asked _) =
+            by_all (courses.second b at some full has_all asked tt) b at (all_answered (others_of z.receiver at.replica.members) (z.sender ∷ b))
             (done w.past w.serial z _ w.message w.up (ack_take ((replay (start ++ w.past)).house z.receiver) z t b at.replica
             (own_at w.past (commands.Deliver w.serial ∷ w.left) w.parts (Spreading t b) at z (SpreadAck t) y i dir to from epoch body) at.phase))
 
     -- so is each other member, if the second round runs at the end
-    heard_second : ((x : ℕ) → In x others → Asked (replay (start ++ late)) h d k t x) → (y : ℕ) → In y others → HeardTwice late y
-    heard_second asked y i =
+    heard_second : (full : Replica) → ((x : ℕ) → In x others → Asked (replay (start ++ late)) h d k t x full) → (y : ℕ) → In y others → HeardTwice late y
+    heard_second full asked y i =
         let q = asked y i in
         let a : Answer q.message.receiver (λ r. SpreadAck t) = answer_to q.message (Spread t q.copy) (λ r. SpreadAck t) (λ r. merge_copy r q.copy)
         (λ now r own. spread_take now q.message t q.copy r own) (λ r. refl) q.dir q.sender q.epoch q.body (fair q.message q.posted q.dir (ap round_of q.body)) in
         hears_twice a.letter y i a.dir a.receiver (a.sender ∙ q.receiver) a.epoch a.body a.comes_there
 
+    -- the skulk is complete, and each other member was asked with what the master had once all were heard
+    pub record Finished : Type 0 where
+      pub over : courses.Over start late h d k t calm late
+      pub full : Replica
+      pub has_all : P full
+      pub asked : courses.AreAsked start late h d k t calm another other late full
+
     -- who was heard is noted in the round that runs at the end
-    noted_first : (a : List ℕ) → At late (Gathering t a) → (y : ℕ) → Heard late y → In y a ⊎ Over late
-    noted_first a at y (courses.in_first b at' i) =
-        let p = courses.one_phase start late h d k t calm late (Gathering t b) (Gathering t a) at' at in
+    noted_first : (a : List ℕ) → At late (Gathering t a) → (y : ℕ) → Heard late y → In y a ⊎ Finished
+    noted_first a at y (courses.first b at' some noted i) =
+        let p = one late (Gathering t b) (Gathering t a) at' at in
         let l : b ≡ a = cc in inl (subst (λ (x : List ℕ). In y x) l i)
-    noted_first a at y (courses.in_second b at') =
-        let p = courses.one_phase start late h d k t calm late (Spreading t b) (Gathering t a) at' at in absurd (cc)
-    noted_first a at y (courses.at_end o) = inr o
+    noted_first a at y (courses.second b at' some full has_all asked _) =
+        let p = one late (Spreading t b) (Gathering t a) at' at in absurd (cc)
+    noted_first a at y (courses.over o full has_all asked) = inr (record { over = o; full = full; has_all = has_all; asked = asked })
 
-    noted_second : (a : List ℕ) → At late (Spreading t a) → (y : ℕ) → HeardTwice late y → In y a ⊎ Over late
-    noted_second a at y (courses.twice b at' i) =
-        let p = courses.one_phase start late h d k t calm late (Spreading t b) (Spreading t a) at' at in
+    noted_second : (a : List ℕ) → At late (Spreading t a) → (y : ℕ) → HeardTwice late y → In y a ⊎ Finished
+    noted_second a at y (courses.first b at' some noted i) = elim i [ ]
+    noted_second a at y (courses.second b at' some full has_all asked i) =
+        let p = one late (Spreading t b) (Spreading t a) at' at in
         let l : b ≡ a = cc in inl (subst (λ (x : List ℕ). In y x) l i)
-    noted_second a at y (courses.at_end_too o) = inr o
+    noted_second a at y (courses.over o full has_all asked) = inr (record { over = o; full = full; has_all = has_all; asked = asked })
 
-    -- the skulk is over
-    over : Over late
-    over = by_stage (stage_at late [] (append_nil late))
+    -- so it is at the end
+    pub finished : Finished
+    finished = by_stage (stage_at late [] (append_nil late))
       where
-        not_all : (a : List ℕ) → all_answered others a ≡ false → ((y : ℕ) → In y others → In y a) ⊎ Over late → Over late
+        not_all : (a : List ℕ) → all_answered others a ≡ false → ((y : ℕ) → In y others → In y a) ⊎ Finished → Finished
         not_all a some (inr o) = o
         not_all a some (inl all) = let e : false ≡ true = sym some ∙ answered_to others a all in absurd (cc)
 
-        by_stage : Stage late → Over late
-        by_stage (courses.over o) = o
-        by_stage (courses.first a at some) = not_all a some (all_or others a (Over late) (λ y i. noted_first a at y (heard_first y i)))
-        by_stage (courses.second a at some asked) = not_all a some (all_or others a (Over late) (λ y i. noted_second a at y (heard_second asked y i)))
+        by_stage : Stage late → Finished
+        by_stage (courses.over o full has_all asked) = record { over = o; full = full; has_all = has_all; asked = asked }
+        by_stage (courses.first a at some noted _) = not_all a some (all_or others a Finished (λ y i. noted_first a at y (heard_first y i)))
+        by_stage (courses.second a at some full has_all asked _) =
+            not_all a some (all_or others a Finished (λ y i. noted_second a at y (heard_second full asked y i)))
 
     -- the delivery that ends it brings the last answer
     last_of : (past : List Command) (n : ℕ) → CompletesBy (replay (start ++ past)) t (commands.Deliver n) → IsLastAck (replay (start ++ past)) n t
@@ -308,7 +386,7 @@ module _ (start late : List Command) (h d k : ℕ) (t : Stamp) (calm : IsUndistu
 
     pub complete : IsComplete start late t
     complete =
-        let o = over in
+        let o = finished.over in
         record {
           past = o.early;
           serial = o.serial;
@@ -322,7 +400,8 @@ module _ (start late : List Command) (h d k : ℕ) (t : Stamp) (calm : IsUndistu
 -- of any list of commands
 pub skulks_end_lem : (early late : List Command) → SkulksEnd early late
 skulks_end_lem early late h d t r b calm fair =
-    complete start late h d r.epoch t calm fair begins.another other begins epoch_0
+    complete start late h d r.epoch t calm fair begins.another other (λ y r. Unit {0}) (λ r. Unit {0}) (λ past left c f e s y w. tt)
+    (λ past left c f e s y q. tt) (λ past left c f e s all. tt) begins epoch_0
   where
     start : List Command
     start = early ++ commands.Skulk h d ∷ []

@@ -3,10 +3,11 @@ use Rattle.std.proofs.Common.{◌≡◌, ◌≢◌, ℕ, ◌+◌, ◌≤◌, ◌
 use Rattle.std.proofs.Common.{refl, sym, ap, ◌∙◌, subst, arith}
 use Rattle.cds_stamps.specs.declared.stamp.Stamp.{Stamp}
 use Rattle.cds_stamps.specs.Members.{Member, others_of}
-use Rattle.cell_model.specs.Cells.{Phase, Idle, Gathering, Spreading, Replica, Slot, Absent, Gone, Held, House, Copy, Spread}
+use Rattle.directory.specs.Histories.{Mark}
+use Rattle.cell_model.specs.Cells.{Phase, Idle, Gathering, Gathered, Spreading, Replica, Slot, Absent, Gone, Held, House, Copy, Spread}
 use Rattle.cell_model.specs.Cells.{Join, Message, Cell, IsHeld, put}
 use Rattle.cell_model.specs.Commands.{Answer, Taken, Complete, Accepted}
-use Rattle.cell_model.specs.Sets.{In}
+use Rattle.cell_model.specs.Sets.{In, IsPart}
 use Rattle.cell_model.specs.Turns.{running_skulk_stamp, with_slot, with_marks, to_each, first_replica, epoch_replica, crashed_house, started_house}
 use Rattle.cell_model.specs.Steps.{member_list_of}
 use Rattle.cell_model.proofs.Lists.{In-append_right, eq_from}
@@ -15,7 +16,7 @@ use Rattle.cell_model.proofs.Moves.{Act, accepts, skulks, lone, updates, gives, 
 use Rattle.cell_model.proofs.Moves.{copies, keeps, leaves, new_marks, Move, stays, houses, clocks, loses, crashes, starts, acts, founds, crowns, Steps, one, mkdirs, IsUp}
 
 -- a question of the second round to this house
-pub record Asked (g : Cell) (h d k : ℕ) (t : Stamp) (x : ℕ) : Type 0 where
+pub record Asked (g : Cell) (h d k : ℕ) (t : Stamp) (x : ℕ) (r' : Replica) : Type 0 where
   pub message : Message
   pub copy : Copy
   pub posted : In message g.bag
@@ -24,16 +25,28 @@ pub record Asked (g : Cell) (h d k : ℕ) (t : Stamp) (x : ℕ) : Type 0 where
   pub sender : message.sender ≡ h
   pub epoch : message.epoch ≡ k
   pub body : message.body ≡ Spread t copy
+  pub whole : IsPart r'.history copy.history
+
+-- a house was heard in the first round: its answer, whose marks the master has then
+pub record Hears (g : Cell) (d : ℕ) (t : Stamp) (y : ℕ) (r' : Replica) : Type 0 where
+  pub message : Message
+  pub copy : Copy
+  pub posted : In message g.bag
+  pub dir : message.dir ≡ d
+  pub sender : message.sender ≡ y
+  pub body : message.body ≡ Gathered t copy
+  pub part : IsPart copy.history r'.history
 
 -- how the skulk t goes on: nothing of it changes; one more house answered in a round; the last one
 -- did, and the second round begins; or the skulk is complete
-pub data Goes (h d : ℕ) (t : Stamp) (g' : Cell) (place : Option (ℕ × ℕ)) (answer : Answer) (r r' : Replica) : Type 0 where
-  same : r'.phase ≡ r.phase → Goes h d t g' place answer r r'
-  gathered : (a ns : List ℕ) (y : ℕ) → r.phase ≡ Gathering t a → r'.phase ≡ Gathering t (y ∷ a) → answer ≡ Taken ns → Goes h d t g' place answer r r'
-  turned : (a : List ℕ) → r.phase ≡ Gathering t a → r'.phase ≡ Spreading t [] → ((x : ℕ) → In x (others_of h r.members) → Asked g' h d r.epoch t x)
-      → Goes h d t g' place answer r r'
-  acked : (a ns : List ℕ) (y : ℕ) → r.phase ≡ Spreading t a → r'.phase ≡ Spreading t (y ∷ a) → answer ≡ Taken ns → Goes h d t g' place answer r r'
-  completed : (ns : List ℕ) → answer ≡ Complete t ns → place ≡ Some (h, d) → Goes h d t g' place answer r r'
+pub data Goes (h d : ℕ) (t : Stamp) (g g' : Cell) (place : Option (ℕ × ℕ)) (answer : Answer) (r r' : Replica) : Type 0 where
+  same : r'.phase ≡ r.phase → Goes h d t g g' place answer r r'
+  gathered : (a ns : List ℕ) (y : ℕ) → r.phase ≡ Gathering t a → r'.phase ≡ Gathering t (y ∷ a) → answer ≡ Taken ns → Hears g d t y r'
+      → Goes h d t g g' place answer r r'
+  turned : (a : List ℕ) (y : ℕ) → r.phase ≡ Gathering t a → r'.phase ≡ Spreading t [] → ((x : ℕ) → In x (others_of h r.members) → Asked g' h d r.epoch t x r')
+      → ((x : ℕ) → In x (others_of h r.members) → In x (y ∷ a)) → Hears g d t y r' → Goes h d t g g' place answer r r'
+  acked : (a ns : List ℕ) (y : ℕ) → r.phase ≡ Spreading t a → r'.phase ≡ Spreading t (y ∷ a) → answer ≡ Taken ns → Goes h d t g g' place answer r r'
+  completed : (a ns : List ℕ) → r.phase ≡ Spreading t a → answer ≡ Complete t ns → place ≡ Some (h, d) → Goes h d t g g' place answer r r'
 
 -- the skulk t of d runs at its master h before a step, and after it the master is up, in the same
 -- epoch, and runs no other
@@ -65,6 +78,11 @@ epoch_in Absent = 0
 epoch_in (Gone e) = e
 epoch_in (Held r) = r.epoch
 
+abbrev history_in : Slot → List Mark
+history_in Absent = []
+history_in (Gone e) = []
+history_in (Held r) = r.history
+
 -- a change of one slot of one house, seen at any house and directory
 pub slot_changed : (f : ℕ → House) (k e floor : ℕ) (s : Slot) (h d : ℕ)
     → ((k ≡ h) × (e ≡ d) × ((put f k (with_slot (f k) e floor s) h).slots d ≡ s)) ⊎ ((put f k (with_slot (f k) e floor s) h).slots d ≡ (f h).slots d)
@@ -89,7 +107,7 @@ in_map f x (y ∷ ys) (inr i) = inr (in_map f x ys i)
 
 module _ (g g' : Cell) (h d : ℕ) (t : Stamp) (r r' : Replica) (w : Watched g g' h d t r r') where
   -- the slot is as before
-  unchanged : (p : Option (ℕ × ℕ)) (a : Answer) → (g'.house h).slots d ≡ (g.house h).slots d → Goes h d t g' p a r r'
+  unchanged : (p : Option (ℕ × ℕ)) (a : Answer) → (g'.house h).slots d ≡ (g.house h).slots d → Goes h d t g g' p a r r'
   unchanged p a e = same (ap phase_in (sym w.at' ∙ e ∙ w.at))
 
   -- a replica that the house holds before the step
@@ -109,10 +127,10 @@ module _ (g g' : Cell) (h d : ℕ) (t : Stamp) (r r' : Replica) (w : Watched g g
       let low : t.time ≤ (g.house h).floor = w.low in omega arith
 
   -- a question to each other member
-  asked : (m : Message) (u : Stamp) (copy : Copy) (q : Replica) (floor : ℕ) → u ≡ t → q ≡ r → m.receiver ≡ h → m.dir ≡ d
+  asked : (m : Message) (u : Stamp) (copy : Copy) (q : Replica) (floor : ℕ) → u ≡ t → q ≡ r → m.receiver ≡ h → m.dir ≡ d → IsPart r'.history copy.history
       → g'.bag ≡ g.bag ++ to_each (others_of m.receiver q.members) m.dir m.receiver q.epoch floor (Spread u copy)
-      → (x : ℕ) → In x (others_of h r.members) → Asked g' h d r.epoch t x
-  asked m u copy q floor is same_r i j bag x k =
+      → (x : ℕ) → In x (others_of h r.members) → Asked g' h d r.epoch t x r'
+  asked m u copy q floor is same_r i j all bag x k =
       let k' : In x (others_of m.receiver q.members) =
       subst (λ (z : Replica). In x (others_of m.receiver z.members)) (sym same_r) (subst (λ (z : ℕ). In x (others_of z r.members)) (sym i) k) in
       let z : Message = record { receiver = x; dir = m.dir; sender = m.receiver; epoch = q.epoch; floor = floor; body = Spread u copy } in
@@ -128,11 +146,25 @@ module _ (g g' : Cell) (h d : ℕ) (t : Stamp) (r r' : Replica) (w : Watched g g
         sender = i;
         epoch = ap (λ (y : Replica). y.epoch) same_r;
         body = ap (λ (s : Stamp). Spread s copy) is;
+        whole = all;
       }
+
+  -- the answer of a house
+  heard : (m : Message) (u : Stamp) (copy : Copy) (q : Replica) → u ≡ t → m.dir ≡ d → In m g.bag → m.body ≡ Gathered u copy
+      → q.history ++ copy.history ≡ r'.history → Hears g d t m.sender r'
+  heard m u copy q is j posted body marks = record {
+    message = m;
+    copy = copy;
+    posted = posted;
+    dir = j;
+    sender = refl;
+    body = body ∙ ap (λ (s : Stamp). Gathered s copy) is;
+    part = λ v l. subst (λ (z : List Mark). In v z) marks (In-append_right v q.history copy.history l);
+  }
 
   -- what the master does at this directory
   act_goes : (p : Option (ℕ × ℕ)) (x e floor : ℕ) (s : Slot) (posts : List Message) (a : Answer) (n : List Accepted) → Act g x e floor s posts a n
-      → p ≡ Some (x, e) → x ≡ h → e ≡ d → s ≡ Held r' → g'.bag ≡ g.bag ++ posts → Goes h d t g' p a r r'
+      → p ≡ Some (x, e) → x ≡ h → e ≡ d → s ≡ Held r' → g'.bag ≡ g.bag ++ posts → Goes h d t g g' p a r r'
   act_goes p x e floor s posts a n (accepts _ _ u q st ns k ok) pe i j at bag =
       same (ap phase_in (sym at) ∙ ap (λ (z : Replica). z.phase) (held_here x e q i j k.held))
   act_goes p x e floor s posts a n (skulks _ _ q u ns k master) pe i j at bag =
@@ -148,13 +180,18 @@ module _ (g g' : Cell) (h d : ℕ) (t : Stamp) (r r' : Replica) (w : Watched g g
   act_goes p x e floor s posts a n (gathers m u copy b q ns k run) pe i j at bag =
       let run' : r.phase ≡ Gathering u b = ap (λ (z : Replica). z.phase) (sym (held_here x e q i j k.held)) ∙ run in
       let is : u ≡ t = stamp_is u (Gathering u b) refl run' in
-      gathered b ns m.sender (run' ∙ ap (λ (z : Stamp). Gathering z b) is) (ap phase_in (sym at) ∙ ap (λ (z : Stamp). Gathering z (m.sender ∷ b)) is) refl
+      gathered b ns m.sender (run' ∙ ap (λ (z : Stamp). Gathering z b) is)
+      (ap phase_in (sym at) ∙ ap (λ (z : Stamp). Gathering z (m.sender ∷ b)) is) refl (heard m u copy q is j k.posted k.is (ap history_in at))
   act_goes p x e floor s posts a n (turns m u copy b q ns k run all) pe i j at bag =
       let same_r = held_here x e q i j k.held in
       let run' : r.phase ≡ Gathering u b = ap (λ (z : Replica). z.phase) (sym same_r) ∙ run in
       let is : u ≡ t = stamp_is u (Gathering u b) refl run' in
-      turned b (run' ∙ ap (λ (z : Stamp). Gathering z b) is) (ap phase_in (sym at) ∙ ap (λ (z : Stamp). Spreading z []) is)
-      (asked m u _ q _ is same_r i j bag)
+      let marks : q.history ++ copy.history ≡ r'.history = ap history_in at in
+      turned b m.sender (run' ∙ ap (λ (z : Stamp). Gathering z b) is) (ap phase_in (sym at) ∙ ap (λ (z : Stamp). Spreading z []) is)
+      (asked m u _ q _ is same_r i j (λ v l. subst (λ (z : List Mark). In v z) (sym marks) l) bag)
+      (λ v l. all v (subst (λ (z : Replica). In v (others_of m.receiver z.members)) (sym same_r)
+      (subst (λ (z : ℕ). In v (others_of z r.members)) (sym i) l)))
+      (heard m u copy q is j k.posted k.is marks)
   act_goes p x e floor s posts a n (gathers_again m u copy b q ns k run) pe i j at bag =
       same (ap phase_in (sym at) ∙ ap (λ (z : Replica). z.phase) (held_here x e q i j k.held))
   act_goes p x e floor s posts a n (spreads m u copy q ns k) pe i j at bag =
@@ -167,7 +204,8 @@ module _ (g g' : Cell) (h d : ℕ) (t : Stamp) (r r' : Replica) (w : Watched g g
       acked b ns m.sender (run' ∙ ap (λ (z : Stamp). Spreading z b) is) (ap phase_in (sym at) ∙ ap (λ (z : Stamp). Spreading z (m.sender ∷ b)) is) refl
   act_goes p x e floor s posts a n (completes m u b q ns k run all) pe i j at bag =
       let run' : r.phase ≡ Spreading u b = ap (λ (z : Replica). z.phase) (sym (held_here x e q i j k.held)) ∙ run in
-      completed ns (ap (λ (z : Stamp). Complete z ns) (stamp_is u (Spreading u b) refl run'))
+      completed b ns (run' ∙ ap (λ (z : Stamp). Spreading z b) (stamp_is u (Spreading u b) refl run'))
+      (ap (λ (z : Stamp). Complete z ns) (stamp_is u (Spreading u b) refl run'))
       (pe ∙ ap (λ (z : ℕ). Some (z, m.dir)) i ∙ ap (λ (z : ℕ). Some (h, z)) j)
   act_goes p x e floor s posts a n (advances m u q ns k) pe i j at bag =
       same (ap phase_in (sym at) ∙ ap (λ (z : Replica). z.phase) (held_here x e q i j k.held))
@@ -178,39 +216,39 @@ module _ (g g' : Cell) (h d : ℕ) (t : Stamp) (r r' : Replica) (w : Watched g g
 
   -- a change of one slot of one house, in which the master's, if it is that one, is as the step of an act says
   changed : (p : Option (ℕ × ℕ)) (f : ℕ → House) (x e floor : ℕ) (s : Slot) (a : Answer) → (f h).slots d ≡ (g.house h).slots d
-      → (g'.house h).slots d ≡ (put f x (with_slot (f x) e floor s) h).slots d → (x ≡ h → e ≡ d → s ≡ Held r' → Goes h d t g' p a r r') → Goes h d t g' p a r r'
+      → (g'.house h).slots d ≡ (put f x (with_slot (f x) e floor s) h).slots d → (x ≡ h → e ≡ d → s ≡ Held r' → Goes h d t g g' p a r r') → Goes h d t g g' p a r r'
   changed p f x e floor s a was now here = by_place (slot_changed f x e floor s h d)
     where
       by_place : ((x ≡ h) × (e ≡ d) × ((put f x (with_slot (f x) e floor s) h).slots d ≡ s))
-          ⊎ ((put f x (with_slot (f x) e floor s) h).slots d ≡ (f h).slots d) → Goes h d t g' p a r r'
+          ⊎ ((put f x (with_slot (f x) e floor s) h).slots d ≡ (f h).slots d) → Goes h d t g g' p a r r'
       by_place (inl z) = here z.0 z.1 (sym z.2 ∙ sym now ∙ w.at')
       by_place (inr z) = unchanged p a (now ∙ z ∙ was)
 
 -- what a move does
 move_goes : (g g' : Cell) (h d : ℕ) (t : Stamp) (r r' : Replica) (p : Option (ℕ × ℕ)) (a : Answer) (n : List Accepted) → Move g p g' a n
-    → Watched g g' h d t r r' → Goes h d t g' p a r r'
+    → Watched g g' h d t r r' → Goes h d t g g' p a r r'
 move_goes g g' h d t r r' p a n (stays _ q) w = unchanged g g h d t r r' w p a refl
 move_goes g g' h d t r r' p a n (houses x node new) w = by_house (eqb h x) w.at'
   where
     by_house : (b : Bool) → (cond b (record { node = node; clock = 0; floor = 0; up = true; slots = λ e. Absent }) (g.house h)).slots d ≡ Held r'
-        → Goes h d t g' p a r r'
+        → Goes h d t g g' p a r r'
     by_house true q = absurd (cc)
     by_house false q = same (ap phase_in (sym q ∙ w.at))
 move_goes g g' h d t r r' p a n (clocks x time made) w = by_house (eqb h x) refl w.at'
   where
-    by_house : (b : Bool) → eqb h x ≡ b → (cond b (record (g.house x) { clock = time }) (g.house h)).slots d ≡ Held r' → Goes h d t g' p a r r'
+    by_house : (b : Bool) → eqb h x ≡ b → (cond b (record (g.house x) { clock = time }) (g.house h)).slots d ≡ Held r' → Goes h d t g g' p a r r'
     by_house true i q = same (ap phase_in (sym q ∙ ap (λ (z : ℕ). (g.house z).slots d) (sym (eq_from h x i)) ∙ w.at))
     by_house false i q = same (ap phase_in (sym q ∙ w.at))
 move_goes g g' h d t r r' p a n (loses k) w = unchanged g g' h d t r r' w p a refl
 move_goes g g' h d t r r' p a n (crashes x up) w = by_house (eqb h x) w.up w.at'
   where
     by_house : (b : Bool) → (cond b (crashed_house (g.house x)) (g.house h)).up ≡ true → (cond b (crashed_house (g.house x)) (g.house h)).slots d ≡ Held r'
-        → Goes h d t g' p a r r'
+        → Goes h d t g g' p a r r'
     by_house true u q = absurd (cc)
     by_house false u q = same (ap phase_in (sym q ∙ w.at))
 move_goes g g' h d t r r' p a n (starts x made) w = by_house (eqb h x) refl w.at'
   where
-    by_house : (b : Bool) → eqb h x ≡ b → (cond b (started_house (g.house x)) (g.house h)).slots d ≡ Held r' → Goes h d t g' p a r r'
+    by_house : (b : Bool) → eqb h x ≡ b → (cond b (started_house (g.house x)) (g.house h)).slots d ≡ Held r' → Goes h d t g g' p a r r'
     by_house true i q = same (ap phase_in (sym q ∙ ap (λ (z : ℕ). (g.house z).slots d) (sym (eq_from h x i)) ∙ w.at))
     by_house false i q = same (ap phase_in (sym q ∙ w.at))
 move_goes g g' h d t r r' p a n (acts x e pe floor s posts _ _ act) w =
@@ -227,7 +265,7 @@ move_goes g g' h d t r r' p a n (crowns e m rs ss q up known held listed since) 
 
 -- what a command does
 pub goes : (g g' : Cell) (h d : ℕ) (t : Stamp) (r r' : Replica) (p : Option (ℕ × ℕ)) (a : Answer) (n : List Accepted) → Steps g p g' a n
-    → Watched g g' h d t r r' → Goes h d t g' p a r r'
+    → Watched g g' h d t r r' → Goes h d t g g' p a r r'
 goes g g' h d t r r' p a n (one _ _ _ move) w = move_goes g g' h d t r r' p a n move w
 goes g g' h d t r r' p a n (mkdirs x e m u rs ss q s ns _ k ok up known) w =
     by_parent (slot_changed g.house x e s.time (Held (with_marks q (new_marks q u s))) h d)
@@ -239,19 +277,19 @@ goes g g' h d t r r' p a n (mkdirs x e m u rs ss q s ns _ k ok up known) w =
     child : (k : ℕ) → g.next_dir ≡ d → ⊥
     child k i = let le : g.next_dir ≤ d = omega (arith, i) in w.known (w.next le)
 
-    by_child : (mid h).slots d ≡ (g.house h).slots d → Goes h d t g' p a r r'
+    by_child : (mid h).slots d ≡ (g.house h).slots d → Goes h d t g g' p a r r'
     by_child was =
         changed g g' h d t r r' w p mid m g.next_dir (mid m).floor (Held (first_replica (member_list_of [] 1 m rs ss))) a was refl
         (λ i j z. absurd (child 0 j))
 
-    by_parent : ((x ≡ h) × (e ≡ d) × ((mid h).slots d ≡ Held (with_marks q (new_marks q u s)))) ⊎ ((mid h).slots d ≡ (g.house h).slots d) → Goes h d t g' p a r r'
+    by_parent : ((x ≡ h) × (e ≡ d) × ((mid h).slots d ≡ Held (with_marks q (new_marks q u s)))) ⊎ ((mid h).slots d ≡ (g.house h).slots d) → Goes h d t g g' p a r r'
     by_parent (inr was) = by_child was
     by_parent (inl z) = by_slot (slot_changed mid m g.next_dir (mid m).floor (Held (first_replica (member_list_of [] 1 m rs ss))) h d)
       where
         after : Slot
         after = (put mid m (with_slot (mid m) g.next_dir (mid m).floor (Held (first_replica (member_list_of [] 1 m rs ss)))) h).slots d
 
-        by_slot : ((m ≡ h) × (g.next_dir ≡ d) × (after ≡ Held (first_replica (member_list_of [] 1 m rs ss)))) ⊎ (after ≡ (mid h).slots d) → Goes h d t g' p a r r'
+        by_slot : ((m ≡ h) × (g.next_dir ≡ d) × (after ≡ Held (first_replica (member_list_of [] 1 m rs ss)))) ⊎ (after ≡ (mid h).slots d) → Goes h d t g g' p a r r'
         by_slot (inl y) = absurd (child 0 y.1)
         by_slot (inr y) =
             same (ap phase_in (sym w.at' ∙ y ∙ z.2) ∙ ap (λ (v : Replica). v.phase) (held_here g g' h d t r r' w x e q z.0 z.1 k.held))
