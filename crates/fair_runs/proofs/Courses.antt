@@ -263,26 +263,27 @@ module _ (start late : List Command) (h d k : ℕ) (t : Stamp) (calm : IsUndistu
         }
 
     -- Q is what the master's replica has of a house that was heard, and P what it has once all were
-    module _ (Q : ℕ → Replica → Type 0) (P : Replica → Type 0)
-        (hearing : (past left : List Command) (c : Command) (f : Phase) → past ++ c ∷ left ≡ late → (s : Stepped past c f) → (y : ℕ)
+    module _ (Q : ℕ → Replica → Type 0) (P : List Command → Replica → Type 0)
+        (hearing : (past left : List Command) (c : Command) (f : Phase) → past ++ c ∷ left ≡ late → running_skulk_stamp f ≡ Some t → (s : Stepped past c f) → (y : ℕ)
         → Hears (replay (start ++ past)) d t y s.after → Q y s.after)
         (keeping : (past left : List Command) (c : Command) (f : Phase) → past ++ c ∷ left ≡ late → (s : Stepped past c f) → (y : ℕ) → Q y s.before
         → Q y s.after)
         (filling : (past left : List Command) (c : Command) (f : Phase) → past ++ c ∷ left ≡ late → (s : Stepped past c f)
-        → ((y : ℕ) → In y (others_of h ((roll_of d (start ++ late)).list k)) → Q y s.after) → P s.after) where
+        → ((y : ℕ) → In y (others_of h ((roll_of d (start ++ late)).list k)) → Q y s.after) → P (past ++ c ∷ []) s.after)
+        (lasting : (past left : List Command) (c : Command) → past ++ c ∷ left ≡ late → (full : Replica) → P past full → P (past ++ c ∷ []) full) where
       -- how far the skulk is: one of the rounds runs, another house has yet to answer in it, and of those that answered this holds; or it is
       -- complete
       pub data Stage (first_has second_has : List ℕ → Type 0) (past : List Command) : Type 0 where
         first : (a : List ℕ) (at : At past (Gathering t a)) → all_answered (others_of h ((roll_of d (start ++ late)).list k)) a ≡ false
             → ((y : ℕ) → In y a → Q y at.replica) → first_has a → Stage first_has second_has past
-        second : (a : List ℕ) → At past (Spreading t a) → all_answered (others_of h ((roll_of d (start ++ late)).list k)) a ≡ false → (full : Replica) → P full
+        second : (a : List ℕ) → At past (Spreading t a) → all_answered (others_of h ((roll_of d (start ++ late)).list k)) a ≡ false → (full : Replica) → P past full
             → AreAsked past full → second_has a → Stage first_has second_has past
-        over : Over past → (full : Replica) → P full → AreAsked past full → Stage first_has second_has past
+        over : Over past → (full : Replica) → P past full → AreAsked past full → Stage first_has second_has past
 
       -- who was heard after one more answer
       heard_in : (past left : List Command) (c : Command) (a b : List ℕ) (y : ℕ) → past ++ c ∷ left ≡ late → (s : Stepped past c (Gathering t a)) → a ≡ b
           → ((x : ℕ) → In x a → Q x s.before) → Hears (replay (start ++ past)) d t y s.after → (x : ℕ) → In x (y ∷ b) → Q x s.after
-      heard_in past left c a b y e s l noted w x (inl z) = subst (λ (v : ℕ). Q v s.after) (sym z) (hearing past left c (Gathering t a) e s y w)
+      heard_in past left c a b y e s l noted w x (inl z) = subst (λ (v : ℕ). Q v s.after) (sym z) (hearing past left c (Gathering t a) e refl s y w)
       heard_in past left c a b y e s l noted w x (inr i) =
           keeping past left c (Gathering t a) e s x (noted x (subst (λ (v : List ℕ). In x v) (sym l) i))
 
@@ -318,21 +319,21 @@ module _ (start late : List Command) (h d k : ℕ) (t : Stamp) (calm : IsUndistu
         list_is past c a b s p = let z : Spreading t a ≡ Spreading t b = sym s.phase ∙ p in cc
 
         stage_second : (past left : List Command) (c : Command) (a : List ℕ) → past ++ c ∷ left ≡ late → (s : Stepped past c (Spreading t a))
-            → all_answered (others_of h ((roll_of d (start ++ late)).list k)) a ≡ false → (full : Replica) → P full → AreAsked past full → V a
+            → all_answered (others_of h ((roll_of d (start ++ late)).list k)) a ≡ false → (full : Replica) → P past full → AreAsked past full → V a
             → Goes h d t (replay (start ++ past)) (outcome (replay (start ++ past)) c).cell (place_of (replay (start ++ past)) c)
             (outcome (replay (start ++ past)) c).answer s.before s.after
             → Stage W V (past ++ c ∷ [])
         stage_second past left c a e s some full has_all asked has_it (same p) =
-            second a (at_next past c (Spreading t a) (Spreading t a) s (p ∙ s.phase)) some full has_all (asked_on past left c full e asked) has_it
+            second a (at_next past c (Spreading t a) (Spreading t a) s (p ∙ s.phase)) some full (lasting past left c e full has_all) (asked_on past left c full e asked) has_it
         stage_second past left c a e s some full has_all asked has_it (gathered b ns y p q answer w) =
             let z : Spreading t a ≡ Gathering t b = sym s.phase ∙ p in absurd (cc)
         stage_second past left c a e s some full has_all asked has_it (turned b y p q told all w) =
             let z : Spreading t a ≡ Gathering t b = sym s.phase ∙ p in absurd (cc)
         stage_second past left c a e s some full has_all asked has_it (acked b ns y p q answer) =
-            second (y ∷ b) (at_next past c (Spreading t a) (Spreading t (y ∷ b)) s q) (second_on past left c a (y ∷ b) ns e s q answer some) full has_all
+            second (y ∷ b) (at_next past c (Spreading t a) (Spreading t (y ∷ b)) s q) (second_on past left c a (y ∷ b) ns e s q answer some) full (lasting past left c e full has_all)
             (asked_on past left c full e asked) (more_again y b (subst V (list_is past c a b s p) has_it))
         stage_second past left c a e s some full has_all asked has_it (completed b ns q answer p) =
-            over (completes_there past left c (Spreading t a) ns e s answer p) full has_all (asked_on past left c full e asked)
+            over (completes_there past left c (Spreading t a) ns e s answer p) full (lasting past left c e full has_all) (asked_on past left c full e asked)
 
         pub stage_step : (past left : List Command) (c : Command) → past ++ c ∷ left ≡ late → Stage W V past → Stage W V (past ++ c ∷ [])
         unfolding step
@@ -340,7 +341,8 @@ module _ (start late : List Command) (h d k : ℕ) (t : Stamp) (calm : IsUndistu
             let s = step past left c e (Gathering t a) refl at in stage_first past left c a e s some noted has_it s.goes
         stage_step past left c e (second a at some full has_all asked has_it) =
             let s = step past left c e (Spreading t a) refl at in stage_second past left c a e s some full has_all asked has_it s.goes
-        stage_step past left c e (over o full has_all asked) = over (over_on past c o) full has_all (asked_on past left c full e asked)
+        stage_step past left c e (over o full has_all asked) =
+            over (over_on past c o) full (lasting past left c e full has_all) (asked_on past left c full e asked)
 
         -- at each moment
         pub stage_run : (mid past left : List Command) → past ++ (mid ++ left) ≡ late → Stage W V past → Stage W V (past ++ mid)

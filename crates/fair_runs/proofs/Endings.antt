@@ -8,8 +8,8 @@ use Rattle.cell_model.specs.Cells.{Phase, Idle, Gathering, Spreading, Replica, H
 use Rattle.cell_model.specs.Commands as commands
 use Rattle.cell_model.specs.Commands.{Command, Complete}
 use Rattle.cell_model.specs.Completions.{CompletesBy, with_last, IsLastAck}
-use Rattle.cell_model.specs.Sets.{In, has}
-use Rattle.cell_model.specs.Turns.{HouseStep, copy_of, merge_copy, later_up_to, takes, take_and_answer, reply, to_others, floor_after, all_answered}
+use Rattle.cell_model.specs.Sets.{In, has, IsPart}
+use Rattle.cell_model.specs.Turns.{running_skulk_stamp, HouseStep, copy_of, merge_copy, later_up_to, takes, take_and_answer, reply, to_others, floor_after, all_answered}
 use Rattle.cell_model.specs.Turns.{take}
 use Rattle.cell_model.specs.Steps.{at_house, message_at, outcome, replay}
 use Rattle.cell_model.proofs.Lists.{In-append_right, has-from_In, append_nil}
@@ -22,7 +22,7 @@ use Rattle.cell_model.proofs.Passages.{slot_after}
 use Rattle.cell_model.proofs.Rounds.{Round}
 use Rattle.cell_model.proofs.Rows.{Own}
 use Rattle.cell_model.proofs.Runs.{replay-append, roll_of}
-use Rattle.fair_runs.specs.Fairness.{IsUndisturbed, IsDelivered, IsFair, IsComplete, SkulksEnd}
+use Rattle.fair_runs.specs.Fairness.{Begins, IsUndisturbed, IsDelivered, IsFair, IsComplete, SkulksEnd}
 use Rattle.fair_runs.proofs.Phases.{Asked, Hears}
 use Rattle.fair_runs.proofs.Takes.{gather_take, spread_take, gathered_take, ack_take, deliver_take}
 use Rattle.fair_runs.proofs.Begun.{Begun, Questioned, begun}
@@ -45,40 +45,41 @@ all_or (x ∷ xs) a W each = by_first (each x (inl refl)) (all_or xs a W (λ y i
     by_first (inl i) (inl rest) = inl (λ y j. ⊎_elim (λ (e : y ≡ x). subst (λ (z : ℕ). In z a) (sym e) i) (λ z. rest y z) j)
 
 module _ (start late : List Command) (h d k : ℕ) (t : Stamp) (calm : IsUndisturbed start late h d k t) (fair : IsFair start late d t)
-    (another : ℕ) (other : In another (others_of h ((roll_of d (start ++ late)).list k))) (Q : ℕ → Replica → Type 0) (P : Replica → Type 0)
-    (hearing : (past left : List Command) (c : Command) (f : Phase) → past ++ c ∷ left ≡ late → (s : courses.Stepped start late h d k t calm past c f)
+    (another : ℕ) (other : In another (others_of h ((roll_of d (start ++ late)).list k))) (Q : ℕ → Replica → Type 0) (P : List Command → Replica → Type 0)
+    (hearing : (past left : List Command) (c : Command) (f : Phase) → past ++ c ∷ left ≡ late → running_skulk_stamp f ≡ Some t → (s : courses.Stepped start late h d k t calm past c f)
     → (y : ℕ) → Hears (replay (start ++ past)) d t y s.after → Q y s.after)
     (keeping : (past left : List Command) (c : Command) (f : Phase) → past ++ c ∷ left ≡ late → (s : courses.Stepped start late h d k t calm past c f)
     → (y : ℕ) → Q y s.before → Q y s.after)
     (filling : (past left : List Command) (c : Command) (f : Phase) → past ++ c ∷ left ≡ late → (s : courses.Stepped start late h d k t calm past c f)
-    → ((y : ℕ) → In y (others_of h ((roll_of d (start ++ late)).list k)) → Q y s.after) → P s.after) where
+    → ((y : ℕ) → In y (others_of h ((roll_of d (start ++ late)).list k)) → Q y s.after) → P (past ++ c ∷ []) s.after)
+    (lasting : (past left : List Command) (c : Command) → past ++ c ∷ left ≡ late → (full : Replica) → P past full → P (past ++ c ∷ []) full) where
   abbrev At : List Command → Phase → Type 0
   At past f = courses.At start late h d k t calm past f
 
   -- how far the skulk is
   abbrev Stage : List Command → Type 0
-  Stage past = courses.Stage start late h d k t calm another other Q P hearing keeping filling (λ a. Unit {0}) (λ a. Unit {0}) past
+  Stage past = courses.Stage start late h d k t calm another other Q P hearing keeping filling lasting (λ a. Unit {0}) (λ a. Unit {0}) past
 
   -- and the house was heard in the first round
   abbrev Heard : List Command → ℕ → Type 0
-  Heard past y = courses.Stage start late h d k t calm another other Q P hearing keeping filling (λ a. In y a) (λ a. Unit {0}) past
+  Heard past y = courses.Stage start late h d k t calm another other Q P hearing keeping filling lasting (λ a. In y a) (λ a. Unit {0}) past
 
   -- and the first round is over, and the house was heard in the second
   abbrev HeardTwice : List Command → ℕ → Type 0
-  HeardTwice past y = courses.Stage start late h d k t calm another other Q P hearing keeping filling (λ a. ⊥) (λ a. In y a) past
+  HeardTwice past y = courses.Stage start late h d k t calm another other Q P hearing keeping filling lasting (λ a. ⊥) (λ a. In y a) past
 
   abbrev others : List ℕ
   others = others_of h ((roll_of d (start ++ late)).list k)
 
   -- the master is listed in its epoch
-  master_listed : (past left : List Command) → past ++ left ≡ late → is_listed h ((roll_of d (start ++ late)).list k) ≡ true
+  pub master_listed : (past left : List Command) → past ++ left ≡ late → is_listed h ((roll_of d (start ++ late)).list k) ≡ true
   master_listed past left e =
       let here = calm past left e in
       let ok = (courses.reached start late h d k t calm past left e).sound.held h here.replica here.held in
       subst (λ (z : ℕ). is_listed h ((roll_of d (start ++ late)).list z) ≡ true) here.epoch ok.listed.1.0
 
   -- what the delivery of a message does, and what it leaves
-  done : (past : List Command) (n : ℕ) (m : Message) (s : HouseStep) → message_at (replay (start ++ past)) n ≡ Some m
+  pub done : (past : List Command) (n : ℕ) (m : Message) (s : HouseStep) → message_at (replay (start ++ past)) n ≡ Some m
       → ((replay (start ++ past)).house m.receiver).up ≡ true → take ((replay (start ++ past)).house m.receiver) m ≡ s
       → outcome (replay (start ++ past)) (commands.Deliver n) ≡ at_house (replay (start ++ past)) m.receiver s
   done past n m s at up e = deliver_take (replay (start ++ past)) n m at up ∙ ap (at_house (replay (start ++ past)) m.receiver) e
@@ -139,6 +140,33 @@ module _ (start late : List Command) (h d k : ℕ) (t : Stamp) (calm : IsUndistu
         body = refl;
       }
 
+  -- what a house holds after it took the question of the second round: all that this brought
+  pub spread_after : (m : Message) (copy : Copy) → m.dir ≡ d → m.sender ≡ h → m.epoch ≡ k → m.body ≡ Spread t copy → (w : IsDelivered start late m)
+      → (R : Replica) × IsHeld (replay (start ++ (w.past ++ commands.Deliver w.serial ∷ []))) m.receiver d R × (R.epoch ≡ k)
+      × IsPart copy.history R.history
+  spread_after m copy dir from epoch body w =
+      let g : Cell = replay (start ++ w.past) in
+      let now : House = g.house m.receiver in
+      let held : IsHeld g m.receiver d w.replica = subst (λ (v : ℕ). IsHeld g m.receiver v w.replica) dir w.held in
+      let list = courses.listed start late h d k t calm w.past (commands.Deliver w.serial ∷ w.left) w.parts m.receiver w.replica held (w.epoch ∙ epoch) in
+      let own : Own now m (Spread t copy) w.replica = record {
+        is = body;
+        held = w.held;
+        epoch = sym w.epoch;
+        member = ap (λ (v : ℕ). is_listed v w.replica.members) from ∙ ap (is_listed h) list
+            ∙ master_listed w.past (commands.Deliver w.serial ∷ w.left) w.parts;
+      } in
+      let R : Replica = merge_copy w.replica copy in
+      let after = done w.past w.serial m _ w.message w.up (spread_take now m t copy w.replica own) in
+      let there = subst (λ (c : Cell). IsHeld c m.receiver m.dir R) (ap (λ o. o.cell) (sym after))
+      (slot_after g m.receiver m.dir (floor_after now m) (Held R)) in
+      let there' = subst (λ (x : ℕ). IsHeld (outcome g (commands.Deliver w.serial)).cell m.receiver x R) dir there in (
+        R,
+        subst (λ (c : Cell). IsHeld c m.receiver d R) (sym (courses.cell_next start late h d k t calm w.past (commands.Deliver w.serial))) there',
+        w.epoch ∙ epoch,
+        λ j i. In-append_right j w.replica.history copy.history i,
+      )
+
   -- what the master holds after a delivery
   at_after : (past : List Command) (n : ℕ) (z : Message) (R : Replica) (posts : List Message) (answer : List ℕ → commands.Answer)
       → outcome (replay (start ++ past)) (commands.Deliver n)
@@ -171,7 +199,7 @@ module _ (start late : List Command) (h d k : ℕ) (t : Stamp) (calm : IsUndistu
         member = ap (λ (v : ℕ). is_listed v a.replica.members) from ∙ ap (is_listed y) list ∙ (In-others_of y h ((roll_of d (start ++ late)).list k) i).1;
       }
 
-  module _ (begun : Begun (replay (start ++ [])) h d t) (epoch_0 : begun.replica.epoch ≡ k) where
+  module _ (was : Cell) (begun : Begun was (replay (start ++ [])) h d t) (epoch_0 : begun.replica.epoch ≡ k) where
     at_0 : Stage []
     at_0 = courses.first []
         (record { replica = begun.replica; held = begun.held; epoch = epoch_0; phase = begun.phase })
@@ -179,19 +207,19 @@ module _ (start late : List Command) (h d k : ℕ) (t : Stamp) (calm : IsUndistu
 
     stage_step : (past left : List Command) (c : Command) → past ++ c ∷ left ≡ late → Stage past → Stage (past ++ c ∷ [])
     stage_step past left c e s =
-        courses.stage_step start late h d k t calm another other Q P hearing keeping filling (λ a. Unit {0}) (λ a. Unit {0}) (λ y a w. tt) (λ a w. tt) (λ y a w. tt) past left c e s
+        courses.stage_step start late h d k t calm another other Q P hearing keeping filling lasting (λ a. Unit {0}) (λ a. Unit {0}) (λ y a w. tt) (λ a w. tt) (λ y a w. tt) past left c e s
 
     -- what was heard stays so
     heard_on : (left past : List Command) (y : ℕ) → past ++ left ≡ late → Heard past y → Heard late y
     heard_on left past y e w =
         subst (λ (l : List Command). Heard l y) e
-        (courses.stage_run start late h d k t calm another other Q P hearing keeping filling (λ a. In y a) (λ a. Unit {0}) (λ z a i. inr i) (λ a i. tt) (λ z a i. tt) left past []
+        (courses.stage_run start late h d k t calm another other Q P hearing keeping filling lasting (λ a. In y a) (λ a. Unit {0}) (λ z a i. inr i) (λ a i. tt) (λ z a i. tt) left past []
         (ap (λ (l : List Command). past ++ l) (append_nil left) ∙ e) w)
 
     twice_on : (left past : List Command) (y : ℕ) → past ++ left ≡ late → HeardTwice past y → HeardTwice late y
     twice_on left past y e w =
         subst (λ (l : List Command). HeardTwice l y) e
-        (courses.stage_run start late h d k t calm another other Q P hearing keeping filling (λ a. ⊥) (λ a. In y a) (λ z a i. i) (λ a i. elim i [ ]) (λ z a i. inr i) left past []
+        (courses.stage_run start late h d k t calm another other Q P hearing keeping filling lasting (λ a. ⊥) (λ a. In y a) (λ z a i. i) (λ a i. elim i [ ]) (λ z a i. inr i) left past []
         (ap (λ (l : List Command). past ++ l) (append_nil left) ∙ e) w)
 
     -- two phases at one moment
@@ -199,16 +227,13 @@ module _ (start late : List Command) (h d k : ℕ) (t : Stamp) (calm : IsUndistu
     one past f f' a b = courses.one_phase start late h d k t calm past f f' a b
 
     stage_at : (past left : List Command) → past ++ left ≡ late → Stage past
-    stage_at past left e = courses.stage_run start late h d k t calm another other Q P hearing keeping filling (λ a. Unit {0}) (λ a. Unit {0}) (λ y a w. tt) (λ a w. tt) (λ y a w. tt) past [] left e at_0
+    stage_at past left e = courses.stage_run start late h d k t calm another other Q P hearing keeping filling lasting (λ a. Unit {0}) (λ a. Unit {0}) (λ y a w. tt) (λ a w. tt) (λ y a w. tt) past [] left e at_0
 
     -- the answer of the first round is heard
     hears : (z : Message) (copy : Copy) (y : ℕ) → In y others → z.dir ≡ d → z.receiver ≡ h → z.sender ≡ y → z.epoch ≡ k → z.body ≡ Gathered t copy
         → IsDelivered start late z → Heard late y
     hears z copy y i dir to from epoch body w = by_stage (stage_at w.past (commands.Deliver w.serial ∷ w.left) w.parts)
       where
-        next : List Command
-        next = w.past ++ commands.Deliver w.serial ∷ []
-
         e_next : (w.past ++ commands.Deliver w.serial ∷ []) ++ w.left ≡ late
         e_next = courses.one_more start late h d k t calm w.past w.left (commands.Deliver w.serial) w.parts
 
@@ -347,7 +372,7 @@ module _ (start late : List Command) (h d k : ℕ) (t : Stamp) (calm : IsUndistu
     pub record Finished : Type 0 where
       pub over : courses.Over start late h d k t calm late
       pub full : Replica
-      pub has_all : P full
+      pub has_all : P late full
       pub asked : courses.AreAsked start late h d k t calm another other late full
 
     -- who was heard is noted in the round that runs at the end
@@ -397,20 +422,26 @@ module _ (start late : List Command) (h d k : ℕ) (t : Stamp) (calm : IsUndistu
           last = last_of o.early o.serial ((answers_lem (start ++ o.early) (commands.Deliver o.serial)).completes t o.serials o.answer);
         }
 
+-- a skulk that is answered with its stamp has begun
+pub begins_at : (early : List Command) (h d : ℕ) (t : Stamp) (r : Replica) → Begins early h d t r
+    → Begun (replay early) (replay ((early ++ commands.Skulk h d ∷ []) ++ [])) h d t
+begins_at early h d t r b =
+    subst (λ (g : Cell). Begun (replay early) g h d t)
+    (sym (replay-append early (commands.Skulk h d ∷ []) empty_cell) ∙ ap replay (sym (append_nil (early ++ commands.Skulk h d ∷ []))))
+    (begun (replay early) h d t b.serials b.answer)
+
 -- of any list of commands
 pub skulks_end_lem : (early late : List Command) → SkulksEnd early late
 skulks_end_lem early late h d t r b calm fair =
-    complete start late h d r.epoch t calm fair begins.another other (λ y r. Unit {0}) (λ r. Unit {0}) (λ past left c f e s y w. tt)
-    (λ past left c f e s y q. tt) (λ past left c f e s all. tt) begins epoch_0
+    complete start late h d r.epoch t calm fair begins.another other (λ y r. Unit {0}) (λ past r. Unit {0}) (λ past left c f e run s y w. tt)
+    (λ past left c f e s y q. tt) (λ past left c f e s all. tt) (λ past left c e full w. tt)
+    (replay early) begins epoch_0
   where
     start : List Command
     start = early ++ commands.Skulk h d ∷ []
 
-    after : (outcome (replay early) (commands.Skulk h d)).cell ≡ replay (start ++ [])
-    after = sym (replay-append early (commands.Skulk h d ∷ []) empty_cell) ∙ ap replay (sym (append_nil start))
-
-    begins : Begun (replay (start ++ [])) h d t
-    begins = subst (λ (g : Cell). Begun g h d t) after (begun (replay early) h d t b.serials b.answer)
+    begins : Begun (replay early) (replay (start ++ [])) h d t
+    begins = begins_at early h d t r b
 
     epoch_0 : begins.replica.epoch ≡ r.epoch
     epoch_0 =

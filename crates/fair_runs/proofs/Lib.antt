@@ -4,3 +4,4 @@ pub mod Joins
 pub mod Begun
 pub mod Courses
 pub mod Endings
+pub mod Converging

@@ -4,4 +4,4 @@
 
 mod laws;
 
-pub use laws::skulks_end;
+pub use laws::{cells_converge, skulks_end};
