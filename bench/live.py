@@ -4,9 +4,10 @@
     live.py [--seconds N] [--house PROGRAM] [--clerk PROGRAM] [--houses K]
 
 A cell of K houses (3) on this machine has ten servers and a group of them. One client, and then eight, each a process,
-send one command after the other for N seconds (2). Each line has the commands in a second, and the median and the 99th
-of 100 of the microseconds for one. The first row is the line `look` at a house through a pipe; the ratio of each median
-to that one's follows. Folders are in memory (/dev/shm), where a sync costs nothing.
+send one command after the other for N seconds (2). Each line has the commands in a second, the median and the 99th of
+100 of the microseconds for one, the ratio of that median to the first row's, which is the line `look` at a house
+through a pipe, and the microseconds of processor time that the door, the clerk and the houses need for one. Folders are
+in memory (/dev/shm), where a sync costs nothing.
 """
 from __future__ import annotations
 
@@ -83,13 +84,28 @@ def by_pipe(house: str, folder: str, seconds: float) -> list[float]:
     return times
 
 
-def told(name: str, clients: int, times: list[float], seconds: float, base: float) -> float:
+def processor(door: int, clerk: str) -> list[float]:
+    """Seconds of processor time of a door, its clerk, and its houses."""
+    with open(f"/proc/{door}/task/{door}/children", encoding="ascii") as file:
+        children = list(map(int, file.read().split()))
+    found = [0.0, 0.0, 0.0]
+    for pid in [door, *children]:
+        with open(f"/proc/{pid}/stat", encoding="ascii") as file:
+            ticks = file.read().rpartition(")")[2].split()[11:13]
+        with open(f"/proc/{pid}/cmdline", "rb") as file_of_words:
+            is_clerk = file_of_words.read().startswith(clerk.encode() + b"\0")
+        found[0 if pid == door else 1 if is_clerk else 2] += sum(map(int, ticks)) / os.sysconf("SC_CLK_TCK")
+    return found
+
+
+def told(name: str, clients: int, times: list[float], seconds: float, base: float, work: list[float]) -> float:
     """Prints a row. Its median."""
     times.sort()
     median, late = times[len(times) // 2], times[len(times) * 99 // 100]
     ratio = f"{median / base:.1f}" if base and clients == 1 else ""
     counts = f"{len(times) / seconds:,.0f} | {median * 1e6:,.0f} | {late * 1e6:,.0f}"
-    print(f"| {name} | {clients} | {counts} | {ratio} |", flush=True)
+    own = " | ".join(f"{each / len(times) * 1e6:,.0f}" for each in work)
+    print(f"| {name} | {clients} | {counts} | {ratio} | {own} |", flush=True)
     return median
 
 
@@ -126,18 +142,25 @@ def main() -> None:
         door = set_up(folder, house, clerk, args.houses)
         door.send_signal(signal.SIGTERM)
         door.wait()
-        print("| command | clients | a second | median | 99 of 100 | to the pipe |\n|---|---|---|---|---|---|")
-        base = told("`look` through a pipe", 1, by_pipe(house, f"{folder}/h1", args.seconds), args.seconds, 0.0)
+        print("| command | clients | a second | median | 99 of 100 | to the pipe | door | clerk | houses |")
+        print("|---|---|---|---|---|---|---|---|---|")
+        used = os.times()
+        times = by_pipe(house, f"{folder}/h1", args.seconds)
+        now = os.times()
+        work = now.children_user + now.children_system - used.children_user - used.children_system
+        base = told("`look` through a pipe", 1, times, args.seconds, 0.0, [0.0, 0.0, work])
         door = subprocess.Popen([sys.executable, f"{ROOT}/tools/door", f"{folder}/cell.toml"])
         while Client(f"{folder}/door").ask("read low /.:/s1 CDS_Towers")[-1][:2] != "ok":
             time.sleep(0.05)
         try:
             for row in ROWS:
                 for clients in CLIENTS:
+                    before = processor(door.pid, clerk)
                     with multiprocessing.Pool(clients) as pool:
                         words = [(f"{folder}/door", row, client, args.seconds) for client in range(clients)]
                         times = [each for found in pool.starmap(at_door, words, 1) for each in found]
-                    told(row, clients, times, args.seconds, base)
+                    after = processor(door.pid, clerk)
+                    told(row, clients, times, args.seconds, base, [b - a for a, b in zip(before, after, strict=True)])
         finally:
             door.send_signal(signal.SIGTERM)
             door.wait()

@@ -184,7 +184,7 @@ class Door:
         elif words == ["skulk"]:
             self.skulks.begin_all()
             say(["ok"])
-        elif words[0] in (*NUMBERED, "house"):
+        elif words[0] in (*NUMBERED, "house", "recount"):
             self.number(words, say)
         else:
             self.clerk.command(line, say, who.may)
@@ -219,7 +219,9 @@ class Door:
     def number(self, words: list[str], say: Say) -> None:
         """A command of the console, which may be behind another door."""
         console = self.houses.get(self.cell.console)
-        if self.numbers:
+        if self.numbers and words[0] == "recount":
+            self.numbers.recount(words, say)
+        elif self.numbers:
             self.numbers.command(words, say)
         elif isinstance(console, There) and console.is_reached:
             console.send_as_is(" ".join(words), " ".join(words), lambda told: say(told or ["refused Down doubt"]))

@@ -9,6 +9,7 @@ from collections.abc import Callable, Mapping
 from doors.houses import Answer, House
 from doors.states import State, ask_state
 from doors.ledger import Ledger
+from doors.recounts import Recount
 
 Say = Callable[[list[str]], None]
 # What a house was given before its stream ended may still be under way. After so long, in seconds, it is not.
@@ -42,6 +43,9 @@ def order(ledger: Ledger, words: list[str]) -> tuple[int, str]:
                 raise Refused("refused DirectoryExists")
             return house_of(master), " ".join(["root", *others])
         case ["mkdir", house, directory, name, master, *others]:
+            if not console.directories:
+                # (the first number is the root's; a ledger that is lost has to be counted again)
+                raise Refused("refused NoDirectory")
             if master != house:
                 raise Refused("fault BadWord 5", "the master of a new directory is the house that makes it")
             return house_of(house), console.mkdir_line(directory, name, others)
@@ -84,6 +88,15 @@ class Numbers:
     def command(self, words: list[str], say: Say) -> None:
         self.queue.append((words, say))
         self.next()
+
+    def recount(self, words: list[str], say: Say) -> None:
+        """`recount [- H..]`: fills a ledger that is lost. After the `-` are the houses that are gone for good."""
+        if words[1:2] not in ([], ["-"]) or not all(word.isdigit() for word in words[2:]):
+            say(["fault BadWord 2"])
+        elif self.is_busy:
+            say(["refused Unsettled 0"])
+        else:
+            Recount(self.ledger, self.houses, {int(word) for word in words[2:]}, say)
 
     def next(self) -> None:
         if self.queue and not self.is_busy:

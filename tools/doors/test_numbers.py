@@ -139,6 +139,36 @@ class NumbersTest(unittest.TestCase):
             self.assertEqual(self.said[-1], ["refused HouseExists"], line)
         self.done("house 2 00000000000b", 2, "ok")
 
+    def test_a_lost_ledger_is_counted_again(self) -> None:
+        self.give("mkdir 1 1 a 1")
+        self.assertEqual(self.said[-1], ["refused NoDirectory"])
+        self.numbers.recount(["recount"], self.said.append)
+        self.house(1).answer("directory 1 held 2", "directory 2 gone 4", "end 2")
+        self.house(2).answer("directory 1 held 1", "directory 2 held 3", "directory 7 held 1", "end 3")
+        rest = "allupto none skulk none entries 0 members"
+        self.house(1).answer(f"ok epoch 2 {rest} 1:1:r 2:1:m")
+        for state in (f"ok epoch 1 {rest} 1:1:m 2:1:r", f"ok epoch 3 {rest} 1:1:m 2:3:s", f"ok epoch 1 {rest} 2:1:m"):
+            self.house(2).answer(state)
+        self.assertEqual(self.said[-1], ["ok 3"])
+        found = Ledger(self.path).console.directories
+        self.assertEqual(found, {1: (2, {1: (1, "r"), 2: (1, "m")}), 2: (4, {}), 7: (1, {2: (1, "m")})})
+        self.assertEqual(self.done("mkdir 1 1 b 1", 1, "ok 8 9@00000000000a"), "mkdir 1 b 8")
+        self.numbers.recount(["recount"], self.said.append)
+        self.assertEqual(self.said[-1], ["refused DirectoryExists"])
+
+    def test_a_house_that_is_down_is_not_left_out_without_a_word(self) -> None:
+        self.numbers.recount(["recount"], self.said.append)
+        self.house(1).answer("directory 1 held 1", "end 1")
+        self.house(2).answer()
+        self.house(1).answer("ok epoch 1 allupto none skulk none entries 0 members 1:1:m")
+        self.assertEqual((self.said[-1], Ledger(self.path).console.directories), (["refused Down 2"], {}))
+        self.numbers.recount(["recount", "-", "2"], self.said.append)
+        self.house(1).answer("end 0")
+        self.assertEqual((self.said[-1], self.house(2).asked), (["ok 0"], []))
+        for words in (["recount", "2"], ["recount", "-", "x"]):
+            self.numbers.recount(words, self.said.append)
+            self.assertEqual(self.said[-1], ["fault BadWord 2"])
+
     def test_refusals_without_a_house(self) -> None:
         self.give("epoch 1 1")
         self.give("root 300")

@@ -53,6 +53,8 @@ OVER_PROGRAMS = (
     Part("plain-houses", "plain houses through kills and losses of power, for 20 seconds", ("tools/houses", "20", "--seed", "1"), (), 1.0, "rustc"),
     Part("houses", "houses through kills and losses of power, and their explanation, for 20 seconds",
          ("tools/houses", "20", "--seed", "1", "--program", "{cdshouse}", "--explainer", "{cdsexplain}"), (HOUSE, EXPLAINER), 1.0, "rustc"),
+    Part("scripts", "scripts on live plain houses, and a clerk, against the replay: all cases, and random ones for 10 seconds",
+         ("tools/houses", "10", "--scripts", "--seed", "1"), (), 1.0, "rustc"),
     Part("doors", "doors of three machines that are harmed, for 20 seconds",
          ("tools/door-trial", "20", "--round", "20", "--local", "--house", "{cdshouse}"), (HOUSE,), 0.5, "rustc"),
 )
