@@ -24,7 +24,8 @@ pub record Questioned (g : Cell) (h d k : ℕ) (t : Stamp) (x : ℕ) : Type 0 wh
   pub epoch : message.epoch ≡ k
   pub body : message.body ≡ Gather t
 
--- what a skulk that begins leaves: its master gathers, and asked each other member, of which there is one
+-- what a skulk that begins leaves: its master gathers, and asked each other member, of which there
+-- is one
 pub record Begun (was g : Cell) (h d : ℕ) (t : Stamp) : Type 0 where
   pub replica : Replica
   pub held : IsHeld g h d replica

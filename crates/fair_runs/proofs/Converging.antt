@@ -91,8 +91,8 @@ module _ (start late : List Command) (h d k : ℕ) (t : Stamp) (calm : IsUndistu
     pub epoch : replica.epoch ≡ k
     pub has_it : In j replica.history
 
-  -- at each moment: the houses of the epoch and its messages have such marks alone; who answered in the first round told all that it had at
-  -- the start; and no house has forgotten any of that
+  -- at each moment: the houses of the epoch and its messages have such marks alone; each answer of
+  -- the first round has all that its house had at the start; and no house has forgotten any of that
   pub record Kept (past : List Command) : Type 0 where
     pub houses : (x : ℕ) (q : Replica) (j : Mark) → IsHeld (replay (start ++ past)) x d q → q.epoch ≡ k → In j q.history → Known j
     pub messages : (m : Message) (j : Mark) → In m (replay (start ++ past)).bag → m.dir ≡ d → m.epoch ≡ k → In j (marks_in m.body) → Known j

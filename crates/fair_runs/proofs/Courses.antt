@@ -271,8 +271,8 @@ module _ (start late : List Command) (h d k : ℕ) (t : Stamp) (calm : IsUndistu
         (filling : (past left : List Command) (c : Command) (f : Phase) → past ++ c ∷ left ≡ late → (s : Stepped past c f)
         → ((y : ℕ) → In y (others_of h ((roll_of d (start ++ late)).list k)) → Q y s.after) → P (past ++ c ∷ []) s.after)
         (lasting : (past left : List Command) (c : Command) → past ++ c ∷ left ≡ late → (full : Replica) → P past full → P (past ++ c ∷ []) full) where
-      -- how far the skulk is: one of the rounds runs, another house has yet to answer in it, and of those that answered this holds; or it is
-      -- complete
+      -- how far the skulk is: one of the rounds runs, another house has yet to answer in it, and of
+      -- those that answered this holds; or it is complete
       pub data Stage (first_has second_has : List ℕ → Type 0) (past : List Command) : Type 0 where
         first : (a : List ℕ) (at : At past (Gathering t a)) → all_answered (others_of h ((roll_of d (start ++ late)).list k)) a ≡ false
             → ((y : ℕ) → In y a → Q y at.replica) → first_has a → Stage first_has second_has past

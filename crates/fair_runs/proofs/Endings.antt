@@ -368,7 +368,8 @@ module _ (start late : List Command) (h d k : ℕ) (t : Stamp) (calm : IsUndistu
         (λ now r own. spread_take now q.message t q.copy r own) (λ r. refl) q.dir q.sender q.epoch q.body (fair q.message q.posted q.dir (ap round_of q.body)) in
         hears_twice a.letter y i a.dir a.receiver (a.sender ∙ q.receiver) a.epoch a.body a.comes_there
 
-    -- the skulk is complete, and each other member was asked with what the master had once all were heard
+    -- the skulk is complete, and each other member was asked with what the master had once all were
+    -- heard
     pub record Finished : Type 0 where
       pub over : courses.Over start late h d k t calm late
       pub full : Replica

@@ -214,7 +214,8 @@ module _ (g g' : Cell) (h d : ℕ) (t : Stamp) (r r' : Replica) (w : Watched g g
       absurd (w.joins m ms copy k.posted j i k.is (ap epoch_in at ∙ sym w.epoch))
   act_goes p x e floor s posts a n (leaves m ns k low) pe i j at bag = absurd (cc)
 
-  -- a change of one slot of one house, in which the master's, if it is that one, is as the step of an act says
+  -- a change of one slot of one house, in which the master's, if it is that one, is as the step of
+  -- an act says
   changed : (p : Option (ℕ × ℕ)) (f : ℕ → House) (x e floor : ℕ) (s : Slot) (a : Answer) → (f h).slots d ≡ (g.house h).slots d
       → (g'.house h).slots d ≡ (put f x (with_slot (f x) e floor s) h).slots d → (x ≡ h → e ≡ d → s ≡ Held r' → Goes h d t g g' p a r r') → Goes h d t g g' p a r r'
   changed p f x e floor s a was now here = by_place (slot_changed f x e floor s h d)

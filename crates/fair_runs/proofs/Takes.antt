@@ -71,8 +71,8 @@ deliver_take g n m at up =
 
 -- ---- a round in which one more house answered still waits for another
 
--- how the phase of a house goes on where a message is delivered: it stays, or ends; or one more house
--- answered in a round, and another has not; or the second round begins
+-- how the phase of a house goes on where a message is delivered: it stays, or ends; or one more
+-- house answered in a round, and another has not; or the second round begins
 data After (h : ℕ) (r r' : Replica) : Type 0 where
   stays : r'.phase ≡ r.phase → After h r r'
   ends : r'.phase ≡ Idle → After h r r'

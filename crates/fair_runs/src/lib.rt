@@ -1,5 +1,5 @@
 //! Skulks whose messages come: a skulk ends, and a cell converges, in logic alone. It owns what is
-//! meant by a message that comes. It may not know the program: it stands on the model alone.
+//! meant by a message that comes. It may not know the program: it uses the model alone.
 #![tactic(auto)]
 
 mod laws;
