@@ -16,7 +16,7 @@ UNPROVED, PROVED = "unproved", "proved"
 BOTH = (UNPROVED, PROVED)
 TEST = re.compile(r"#\s*\[[^]]*\btest\b")
 # Minutes of a processor that it takes to make an unproved program, and to try the tests of a crate.
-MAKING, TRYING = 1.1, 0.6
+MAKING, TRYING = 1.1, 1.2
 
 
 @dataclasses.dataclass(frozen=True)
@@ -40,19 +40,22 @@ REPLAYERS = ("{cdsreplay}", "--mender", "{cdsmend}")
 SMALL = "runs with little memory (the cases `starved`), in which an unproved program cannot begin"
 LARGE = "runs with large inputs (the cases `large`, `load 20000`, more than a million octets), for which it is too slow"
 LEFT_OUT: dict[str, tuple[str, ...]] = {UNPROVED: (SMALL, LARGE, "`./prove` or `./test --proved` tests these, too"), PROVED: ()}
+# In the name of the longest test of the explanation.
+CUT = "cut after each octet"
 OVER_PROGRAMS = (
     Part("cases", "the cases, the examples of the pages, the wrappers", ("tools/cases", *REPLAYERS), (REPLAYER, MENDER), 0.7),
     Part("tools", "tools/why, tools/write and tools/console, as a user runs them", ("tools/try-tools", "--program", "{cdsreplay}"), (REPLAYER,), 0.6),
-    Part("pages", "the pages of tools/picture in a browser", ("tools/try-page", "{cdsreplay}"), (REPLAYER,), 1.0),
+    Part("pages", "the pages of tools/picture in a browser", ("tools/try-page", "{cdsreplay}"), (REPLAYER,), 2.1),
     Part("random", "random scripts, octets and mended cells against the plain program, for 20 seconds",
-         ("tools/fuzz", "20", "--seed", "1", "--program", *REPLAYERS), (REPLAYER, MENDER), 1.0, "rustc"),
-    Part("plain-house", "the tools of houses, and the plain house of bench/", ("tools/house-tests",), (), 1.0, "rustc"),
-    Part("house", "the house, as a process", ("tools/house-tests", "--program", "{cdshouse}"), (HOUSE,), 1.0, "rustc"),
+         ("tools/fuzz", "20", "--seed", "1", "--program", *REPLAYERS), (REPLAYER, MENDER), 0.4, "rustc"),
+    Part("plain-house", "the tools of houses, and the plain house of bench/", ("tools/house-tests",), (), 0.4, "rustc"),
+    Part("house", "the house, as a process", ("tools/house-tests", "--program", "{cdshouse}"), (HOUSE,), 0.4, "rustc"),
     Part("explanation", "the explanation of journals, also of altered ones",
-         ("tools/house-tests", "--explainer", "{cdsexplain}"), (EXPLAINER,), 1.0, "rustc"),
-    Part("plain-houses", "plain houses through kills and losses of power, for 20 seconds", ("tools/houses", "20", "--seed", "1"), (), 1.0, "rustc"),
+         ("tools/house-tests", "--explainer", "{cdsexplain}", "--without", CUT), (EXPLAINER,), 3.5, "rustc"),
+    Part("cuts", "the explanation of journals that end at any octet", ("tools/house-tests", "--explainer", "{cdsexplain}", CUT), (EXPLAINER,), 2.5, "rustc"),
+    Part("plain-houses", "plain houses through kills and losses of power, for 20 seconds", ("tools/houses", "20", "--seed", "1"), (), 0.1, "rustc"),
     Part("houses", "houses through kills and losses of power, and their explanation, for 20 seconds",
-         ("tools/houses", "20", "--seed", "1", "--program", "{cdshouse}", "--explainer", "{cdsexplain}"), (HOUSE, EXPLAINER), 1.0, "rustc"),
+         ("tools/houses", "20", "--seed", "1", "--program", "{cdshouse}", "--explainer", "{cdsexplain}"), (HOUSE, EXPLAINER), 0.2, "rustc"),
     Part("scripts", "scripts on live plain houses, and a clerk, against the replay: all cases, and random ones for 10 seconds",
          ("tools/houses", "10", "--scripts", "--seed", "1"), (), 1.0, "rustc"),
     Part("doors", "doors of three machines that are harmed, for 20 seconds",
