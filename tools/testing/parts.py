@@ -17,6 +17,8 @@ BOTH = (UNPROVED, PROVED)
 TEST = re.compile(r"#\s*\[[^]]*\btest\b")
 # Minutes of a processor that it takes to make an unproved program, and to try the tests of a crate.
 MAKING, TRYING = 1.1, 1.2
+# The seconds that a test of a crate may take without proof. (Some do a million things, and checks make that slow.)
+PATIENCE = 600
 
 
 @dataclasses.dataclass(frozen=True)
@@ -92,5 +94,5 @@ def parts(kind: str) -> list[Part]:
     found = [Part(name, f"finds the {kind} program", ("tools/build", name, f"--{kind}"), (), MAKING if kind == UNPROVED else 0.1) for name in PROGRAMS]
     if kind == UNPROVED:
         crates = [it for it in all_crates() if has_tests(it)]
-        found += [Part(it, "the tests of a crate, without proof", ("rt", "try", "--test"), (), TRYING, "rt", f"crates/{it}") for it in crates]
+        found += [Part(it, "the tests of a crate, without proof", ("env", f"RT_SECONDS={PATIENCE}", "rt", "try", "--test"), (), TRYING, "rt", f"crates/{it}") for it in crates]
     return [it for it in (*found, *OVER_PROGRAMS, *OF_SOURCES) if kind in it.kinds]
