@@ -241,6 +241,51 @@ class DoorTest(Room):
             self.assertEqual(found, (1, True, False), ran.stderr)
 
 
+class DayTest(Room):
+    """An operator's day, as docs/LIVE.md has it."""
+
+    def again(self, *houses: int) -> Client:
+        """The door ends, and begins with these houses."""
+        self.doors[-1].send_signal(signal.SIGTERM)
+        self.assertEqual(self.doors[-1].wait(30), 0)
+        client = self.open(houses=houses)
+        for house in houses:
+            self.until(lambda: self.up(client, house))
+        return client
+
+    def test_a_day(self) -> None:
+        client = self.open(houses=(1, 2))
+        self.make(client, (1, 2))
+        self.assertEqual(client.ask("mkdir 1 1 print 1 2")[0][:5], "ok 2 ")
+        self.assertEqual(client.ask("create /.:/print/lpr")[0][:3], "ok ")
+        # a house is added
+        client = self.again(1, 2, 3)
+        self.assertEqual(client.ask("house 3 00000000000c"), ["ok"])
+        self.assertEqual([client.ask(f"epoch {it} 1 2 3") for it in (1, 2)], [["ok 2"], ["ok 2"]])
+        self.assertEqual(client.ask("@1 repoint 1 print 1 2 3")[0][:3], "ok ")
+        self.until(lambda: client.ask("@3 look 2 lpr A") == ["end 0"])
+        # house 2 is lost: its number and its node are not given again
+        client = self.again(1, 3, 4)
+        self.assertEqual([client.ask(f"epoch {it} 1 3") for it in (1, 2)], [["ok 3"], ["ok 3"]])
+        self.until(lambda: " allupto none " not in client.ask("@3 dump 2")[0])
+        self.assertEqual(client.ask("house 2 00000000000d"), ["refused HouseExists"])
+        self.assertEqual(client.ask("house 4 000000000002"), ["refused HouseExists"])
+        self.assertEqual(client.ask("house 4 00000000000d"), ["ok"])
+        # a master moves
+        self.assertEqual(client.ask("epoch 2 3 1 4"), ["ok 4"])
+        self.until(lambda: client.ask("@4 look 2 lpr A") == ["end 0"])
+        self.assertEqual(client.ask("delete /.:/print/lpr")[0][-12:], "00000000000c")
+        # the ledger is lost: nothing is numbered until it is counted again
+        os.unlink(f"{self.room}/console")
+        client = self.again(1, 3, 4)
+        self.assertEqual(client.ask("mkdir 1 1 other 1"), ["refused NoDirectory"])
+        self.assertEqual(client.ask("epoch 1 1 3 4"), ["refused NoDirectory"])
+        if client.ask("@1 directories")[-1] == "end 2":
+            self.assertEqual(client.ask("recount"), ["ok 2"])
+            self.assertEqual(client.ask("epoch 2 1 3 4"), ["ok 5"])
+            self.assertEqual(client.ask("mkdir 1 1 other 1")[0][:5], "ok 3 ")
+
+
 class DoorsTest(Room):
     """Doors of several machines. (They are all here, and `door-peer` is the whole line between.)"""
 
