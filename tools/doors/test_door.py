@@ -160,12 +160,12 @@ class DoorTest(Room):
 
     def test_a_house_that_hangs_is_down_after_one_silence(self) -> None:
         self.house = self.played(HANGS)
-        client = self.open(head="patience = 0.3")
+        client = self.open(head="patience = 1.5")
         self.until(lambda: self.up(client, 1))
         self.assertEqual(client.ask("@1 dump 1"), ["refused Down"])
         began = time.monotonic()
         self.assertEqual(client.ask("@1 dump 1"), ["refused Down"])
-        self.assertLess(time.monotonic() - began, 0.25)
+        self.assertLess(time.monotonic() - began, 1.2)
         self.assertIn("because it is silent", client.ask("status")[2])
         self.assertIn("house 1 is silent: dump 1", self.log())
 
@@ -177,7 +177,7 @@ class DoorTest(Room):
         while (said := client.ask("@1 dump 2")) == ["refused Down"]:
             time.sleep(0.02)
         self.assertEqual(said, ["refused NoHouse"])
-        self.assertIn(" late 1 ", client.ask("status")[2])
+        self.assertRegex(client.ask("status")[2], " late [1-9]")
 
     def test_a_house_that_is_killed_is_started_again_and_says_its_last_turn(self) -> None:
         client = self.open(houses=(1, 2))
@@ -345,13 +345,13 @@ class DoorsTest(Room):
         self.assertIn("the door of house 2 may not send epoch 1 1", self.log("a"))
 
     def test_a_line_that_hangs(self) -> None:
-        client = self.open(head="console = 1\npatience = 0.3", tail='[house.2]\nvia = "sleep 20"')
+        client = self.open(head="console = 1\npatience = 1.5", tail='[house.2]\nvia = "sleep 20"')
         self.make(client)
         self.assertEqual(client.ask("@2 dump 1"), ["refused Down"])
         began = time.monotonic()
         self.assertEqual(client.ask("@2 dump 1"), ["refused Down"])
         self.assertEqual(client.ask("read high /.:/a A"), ["refused NoSuchName 0"])
-        self.assertLess(time.monotonic() - began, 0.25)
+        self.assertLess(time.monotonic() - began, 1.2)
 
 
 class ClientsTest(Room):
