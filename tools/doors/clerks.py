@@ -131,13 +131,14 @@ class Clerk:
             job.hear(job.said)
 
     def ask(self, number: str, job: Job | None, house: int, question: str) -> None:
-        target = self.houses.get(house)
+        target, asker = self.houses.get(house), self.stream
 
         def hear(told: Answer) -> None:
             if job:
                 job.asked.append((house, *(self.place(target) if told and target else (0, 0)), question))
-            if self.stream:
-                self.stream.send("".join(f"hear {number} {line}\n" for line in told) if told else f"down {number}\n")
+            # (another clerk gives its questions the same numbers)
+            if asker and asker is self.stream:
+                asker.send("".join(f"hear {number} {line}\n" for line in told) if told else f"down {number}\n")
 
         if not target or not job or time.monotonic() - job.since > LONGEST:
             hear(None)

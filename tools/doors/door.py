@@ -67,12 +67,15 @@ class Door:
 
     def add_here(self, number: int, folder: str, restarts: bool = True, sets_clock: bool = True) -> None:
         os.makedirs(folder, exist_ok=True)
-        post = lambda to, octets: self.post.post(to, octets)  # noqa: E731
-        house = Here(self.loop, number, self.cell.program, folder, self.note, post)
+        house = Here(self.loop, number, self.cell.program, folder, self.note, self.posted)
         house.restarts, house.sets_clock = restarts, sets_clock
         if self.trace:
             self.trace.follow(house)
         self.add(house)
+
+    def posted(self, to: int, octets: str) -> None:
+        """A house of this door posts a message."""
+        self.post.post(to, octets)
 
     def add(self, house: House) -> None:
         self.houses[house.number] = house

@@ -165,6 +165,15 @@ class ClerkTest(unittest.TestCase):
             self.asked(1, "add 1 a A 00", answer)
             self.said(answer, job=number)
 
+    def test_what_could_take_away_anothers_value_is_not_sent_again(self) -> None:
+        for number, line in enumerate(("delete 1 a", "put 1 a A 00", "clear 1 a A"), 1):
+            word, _, *rest = line.split(" ")
+            self.give(f"do {number} {word} /.:/{' '.join(rest)}")
+            self.root_at_high()
+            self.asked(1, "show high 1 a", "object", "end")
+            self.asked(1, line)
+            self.said("refused Down doubt", job=number)
+
     def test_stamps_that_are_spent_in_a_plan(self) -> None:
         self.give("do 1 groupadd /.:/g /.:/a")
         self.root_at_high()

@@ -160,12 +160,12 @@ class DoorTest(Room):
 
     def test_a_house_that_hangs_is_down_after_one_silence(self) -> None:
         self.house = self.played(HANGS)
-        client = self.open(head="patience = 0.3")
+        client = self.open(head="patience = 1.5")
         self.until(lambda: self.up(client, 1))
         self.assertEqual(client.ask("@1 dump 1"), ["refused Down"])
         began = time.monotonic()
         self.assertEqual(client.ask("@1 dump 1"), ["refused Down"])
-        self.assertLess(time.monotonic() - began, 0.25)
+        self.assertLess(time.monotonic() - began, 1.2)
         self.assertIn("because it is silent", client.ask("status")[2])
         self.assertIn("house 1 is silent: dump 1", self.log())
 
@@ -177,7 +177,7 @@ class DoorTest(Room):
         while (said := client.ask("@1 dump 2")) == ["refused Down"]:
             time.sleep(0.02)
         self.assertEqual(said, ["refused NoHouse"])
-        self.assertIn(" late 1 ", client.ask("status")[2])
+        self.assertRegex(client.ask("status")[2], " late [1-9]")
 
     def test_a_house_that_is_killed_is_started_again_and_says_its_last_turn(self) -> None:
         client = self.open(houses=(1, 2))
@@ -241,6 +241,51 @@ class DoorTest(Room):
             self.assertEqual(found, (1, True, False), ran.stderr)
 
 
+class DayTest(Room):
+    """An operator's day, as docs/LIVE.md has it."""
+
+    def again(self, *houses: int) -> Client:
+        """The door ends, and begins with these houses."""
+        self.doors[-1].send_signal(signal.SIGTERM)
+        self.assertEqual(self.doors[-1].wait(30), 0)
+        client = self.open(houses=houses)
+        for house in houses:
+            self.until(lambda: self.up(client, house))
+        return client
+
+    def test_a_day(self) -> None:
+        client = self.open(houses=(1, 2))
+        self.make(client, (1, 2))
+        self.assertEqual(client.ask("mkdir 1 1 print 1 2")[0][:5], "ok 2 ")
+        self.assertEqual(client.ask("create /.:/print/lpr")[0][:3], "ok ")
+        # a house is added
+        client = self.again(1, 2, 3)
+        self.assertEqual(client.ask("house 3 00000000000c"), ["ok"])
+        self.assertEqual([client.ask(f"epoch {it} 1 2 3") for it in (1, 2)], [["ok 2"], ["ok 2"]])
+        self.assertEqual(client.ask("@1 repoint 1 print 1 2 3")[0][:3], "ok ")
+        self.until(lambda: client.ask("@3 look 2 lpr A") == ["end 0"])
+        # house 2 is lost: its number and its node are not given again
+        client = self.again(1, 3, 4)
+        self.assertEqual([client.ask(f"epoch {it} 1 3") for it in (1, 2)], [["ok 3"], ["ok 3"]])
+        self.until(lambda: " allupto none " not in client.ask("@3 dump 2")[0])
+        self.assertEqual(client.ask("house 2 00000000000d"), ["refused HouseExists"])
+        self.assertEqual(client.ask("house 4 000000000002"), ["refused HouseExists"])
+        self.assertEqual(client.ask("house 4 00000000000d"), ["ok"])
+        # a master moves
+        self.assertEqual(client.ask("epoch 2 3 1 4"), ["ok 4"])
+        self.until(lambda: client.ask("@4 look 2 lpr A") == ["end 0"])
+        self.assertEqual(client.ask("delete /.:/print/lpr")[0][-12:], "00000000000c")
+        # the ledger is lost: nothing is numbered until it is counted again
+        os.unlink(f"{self.room}/console")
+        client = self.again(1, 3, 4)
+        self.assertEqual(client.ask("mkdir 1 1 other 1"), ["refused NoDirectory"])
+        self.assertEqual(client.ask("epoch 1 1 3 4"), ["refused NoDirectory"])
+        if client.ask("@1 directories")[-1] == "end 2":
+            self.assertEqual(client.ask("recount"), ["ok 2"])
+            self.assertEqual(client.ask("epoch 2 1 3 4"), ["ok 5"])
+            self.assertEqual(client.ask("mkdir 1 1 other 1")[0][:5], "ok 3 ")
+
+
 class DoorsTest(Room):
     """Doors of several machines. (They are all here, and `door-peer` is the whole line between.)"""
 
@@ -300,13 +345,13 @@ class DoorsTest(Room):
         self.assertIn("the door of house 2 may not send epoch 1 1", self.log("a"))
 
     def test_a_line_that_hangs(self) -> None:
-        client = self.open(head="console = 1\npatience = 0.3", tail='[house.2]\nvia = "sleep 20"')
+        client = self.open(head="console = 1\npatience = 1.5", tail='[house.2]\nvia = "sleep 20"')
         self.make(client)
         self.assertEqual(client.ask("@2 dump 1"), ["refused Down"])
         began = time.monotonic()
         self.assertEqual(client.ask("@2 dump 1"), ["refused Down"])
         self.assertEqual(client.ask("read high /.:/a A"), ["refused NoSuchName 0"])
-        self.assertLess(time.monotonic() - began, 0.25)
+        self.assertLess(time.monotonic() - began, 1.2)
 
 
 class ClientsTest(Room):

@@ -43,8 +43,10 @@ class NumbersTest(unittest.TestCase):
 
     def renew(self) -> None:
         """A console that dies, and begins again with its ledger."""
-        moved = lambda house, directory: self.moved.append((house.number, directory))  # noqa: E731
-        self.numbers = Numbers(Ledger(self.path), self.houses, moved)
+        self.numbers = Numbers(Ledger(self.path), self.houses, self.note_move)
+
+    def note_move(self, house: House, directory: int) -> None:
+        self.moved.append((house.number, directory))
 
     def house(self, number: int) -> Played:
         house = self.houses[number]
