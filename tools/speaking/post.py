@@ -1,6 +1,4 @@
 """Which messages are under way in a replay, and to whom."""
-from pictures import replay as replays
-
 DELIVERED = ("taken", "complete", "late", "early", "stale", "noreplica", "stopped after")
 
 
@@ -10,11 +8,6 @@ class Way:
     def __init__(self, message, line, text):
         self.serial, self.kind, self.sender, self.receiver = message.serial, message.kind, message.sender, message.receiver
         self.dir, self.line, self.text = message.dir, line, text
-
-
-def happened(script, answers):
-    """What happened, by the reader of the pictures."""
-    return replays.read(script, "".join(f"{it}\n" for it in answers).encode())
 
 
 def under_way(replay, ask):
