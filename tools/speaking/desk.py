@@ -31,7 +31,7 @@ class Desk:
     def __init__(self, asked, has_comments=False):
         self.program, self.has_comments = asked, has_comments
         self.lines, self.answers, self.names, self.net, self.before = [], [], naming.Names(), None, []
-        self.talk, self.reader = talk.Talk(asked.path, asked.form), None
+        self.talk, self.reader, self.post = talk.Talk(asked.path, asked.form), None, post.Post()
 
     # The script.
 
@@ -61,7 +61,7 @@ class Desk:
 
     def under_way(self):
         """The messages that are under way."""
-        return post.under_way(self.happened(), lambda serial: bytes.fromhex(self.ask(f"octets msg {serial}")[0].split()[-1]))
+        return self.post.under_way(self.happened(), lambda serial: bytes.fromhex(self.ask(f"octets msg {serial}")[0].split()[-1]))
 
     def add(self, done, *lines):
         """Adds lines to the script, and answers what the program says of them."""
@@ -104,7 +104,7 @@ class Desk:
     def back(self, kept):
         """Goes back to what was."""
         self.lines, self.answers = self.lines[: kept[0]], self.answers[: kept[1]]
-        self.names, self.net, self.reader = kept[2], kept[3], None
+        self.names, self.net, self.reader, self.post = kept[2], kept[3], None, post.Post()
         self.talk.close()
 
     def undo(self):

@@ -7,6 +7,8 @@ from collections.abc import Sequence
 
 # A question of one line that is never a fault, and no message has this serial: once it is answered, so is all before it.
 MARK = "octets msg 16777216"
+# How many octets each pipe of Linux holds.
+AT_ONCE = 4096
 
 
 class Talk:
@@ -59,18 +61,24 @@ class Talk:
     def said(self, process: subprocess.Popen[str], lines: Sequence[str], more: int) -> Answers | None:
         """What the process says to lines. It has so many lines more than the script."""
         self.count += len(lines) + 1
-        writer = threading.Thread(target=written, args=(process, lines))
-        writer.start()
+        text = "".join(f"{line}\n" for line in [*lines, MARK])
+        # (what a pipe may not hold at once is written beside the reading)
+        writer = threading.Thread(target=written, args=(process, text)) if len(text) > AT_ONCE else None
+        if writer is None:
+            written(process, text)
+        else:
+            writer.start()
         found = Answers(more)
         assert process.stdout is not None
-        for text in process.stdout:
-            number, _, rest = text.rstrip("\n").partition(" ")
+        for told in process.stdout:
+            number, _, rest = told.rstrip("\n").partition(" ")
             if int(number) == self.count:
                 break
             found.add(int(number), rest)
         else:
             found.has_ended = True
-        writer.join()
+        if writer is not None:
+            writer.join()
         return found if not found.has_ended or found.is_fault else None
 
 
@@ -86,11 +94,11 @@ class Answers:
         self.is_fault = rest.startswith("fault ")
 
 
-def written(process: subprocess.Popen[str], lines: Sequence[str]) -> None:
-    """Writes lines and the mark, as far as the process takes them."""
+def written(process: subprocess.Popen[str], text: str) -> None:
+    """Writes a text, as far as the process takes it."""
     assert process.stdin is not None
     try:
-        process.stdin.write("".join(f"{line}\n" for line in [*lines, MARK]))
+        process.stdin.write(text)
         process.stdin.flush()
     except BrokenPipeError:
         pass
