@@ -1,7 +1,7 @@
 #!/usr/bin/env python3
-"""Prints a random script for `inquire`, as `tools/fuzz` makes it from a seed: `fuzzed.py SEED PLAIN`, where PLAIN is the
-plain program of bench/. It is a process of its own: the modules of `tools/fuzz` and those of `tools/housing` have names
-in common."""
+"""Prints a random script for `inquire`, as `tools/fuzz` makes it from a seed: `fuzzed.py SEED PLAIN`, where PLAIN is
+the plain program of bench/. It is a process of its own: the modules of `tools/fuzz` and those of `tools/housing` have
+names in common."""
 from __future__ import annotations
 
 import importlib.machinery

@@ -344,6 +344,39 @@ class DoorsTest(Room):
         self.assertEqual(stream.ask(f"@1 take {MESSAGE[:12]}02{MESSAGE[14:]}")[0].split(" ")[0], "ok")
         self.assertIn("the door of house 2 may not send epoch 1 1", self.log("a"))
 
+    def machine(self, number: int) -> Client:
+        """The machine of an example's cell file, with folders of its own, and a `ssh` that does what `authorized_keys`
+        says."""
+        own = f"{self.room}/r{number}"
+        os.makedirs(own)
+        with open(f"{ROOT}/examples/live/host{number}.toml", encoding="ascii") as file:
+            text = file.read().replace("/var/lib/cds", own).replace("/run/cds", own)
+        with open(f"{own}/cell.toml", "w", encoding="ascii") as file:
+            file.write(f'program = "{self.house}"\nclerk = "{self.clerk}"\n{text}')
+        with open(f"{own}/ssh", "w", encoding="ascii") as file:
+            peer = f'{sys.executable} {ROOT}/tools/door-peer "{self.room}/r${{host#cds@host}}/peer{number}"'
+            file.write(f"#!/bin/sh\nfor host; do :; done\nexec {peer}\n")
+        os.chmod(f"{own}/ssh", 0o755)
+        with open(f"{own}/errors", "wb") as errors:
+            how = {**os.environ, "PATH": f"{own}:{os.environ['PATH']}"}
+            words = [sys.executable, f"{ROOT}/tools/door", f"{own}/cell.toml"]
+            self.doors.append(subprocess.Popen(words, stderr=errors, env=how))
+        return Client(f"{own}/door")
+
+    def test_the_examples_of_three_machines(self) -> None:
+        one, two, three = (self.machine(number) for number in (1, 2, 3))
+        for number in (1, 2, 3):
+            self.until(lambda number=number: one.ask(f"@{number} dump 1") == ["refused NoHouse"])
+        for number in (1, 2, 3):
+            self.assertEqual(one.ask(f"house {number} 00000000000{number}"), ["ok"])
+        self.assertEqual(one.ask("root 1 2 3"), ["ok"])
+        self.until(lambda: three.ask("@3 dump 1")[-1] == "end")
+        self.assertEqual(two.ask(f"export /.:/lpr {INTERFACE} {BINDING} -"), ["ok 2"])
+        line = f"import low /.:/lpr {INTERFACE} - ncacn_ip_tcp"
+        self.until(lambda: three.ask(line) == [f"binding {BINDING}", "end 1"])
+        self.assertEqual(three.ask("epoch 1 1 2"), ["ok 2"])
+        self.assertEqual(two.ask("@3 clock 5"), ["refused Forbidden"])
+
     def test_a_line_that_hangs(self) -> None:
         client = self.open(head="console = 1\npatience = 1.5", tail='[house.2]\nvia = "sleep 20"')
         self.make(client)
