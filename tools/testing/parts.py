@@ -16,9 +16,7 @@ UNPROVED, PROVED = "unproved", "proved"
 BOTH = (UNPROVED, PROVED)
 TEST = re.compile(r"#\s*\[[^]]*\btest\b")
 # Minutes of a processor that it takes to make an unproved program, and to try the tests of a crate.
-MAKING, TRYING = 1.1, 1.2
-# The seconds that a test of a crate may take without proof. (Some do a million things, and checks make that slow.)
-PATIENCE = 600
+MAKING, TRYING = 1.1, 0.9
 
 
 @dataclasses.dataclass(frozen=True)
@@ -39,8 +37,8 @@ class Part:
 REPLAYER, MENDER, HOUSE, EXPLAINER = "cdsreplay", "cdsmend", "cdshouse", "cdsexplain"
 REPLAYERS = ("{cdsreplay}", "--mender", "{cdsmend}")
 # What is left out.
-SMALL = "runs with little memory (the cases `starved`), in which an unproved program cannot begin"
-LARGE = "runs with large inputs (the cases `large`, `load 20000`, more than a million octets), for which it is too slow"
+SMALL = "runs with little memory (the cases `starved`, `test_refused_memory`): an unproved program cannot begin in so little"
+LARGE = "runs with large inputs (the cases `large`, `load 20000`, more than a million octets, tests that say so), for which it is too slow"
 LEFT_OUT: dict[str, tuple[str, ...]] = {UNPROVED: (SMALL, LARGE, "`./prove` or `./test --proved` tests these, too"), PROVED: ()}
 # In the name of the longest test of the explanation.
 CUT = "cut after each octet"
@@ -94,5 +92,5 @@ def parts(kind: str) -> list[Part]:
     found = [Part(name, f"finds the {kind} program", ("tools/build", name, f"--{kind}"), (), MAKING if kind == UNPROVED else 0.1) for name in PROGRAMS]
     if kind == UNPROVED:
         crates = [it for it in all_crates() if has_tests(it)]
-        found += [Part(it, "the tests of a crate, without proof", ("env", f"RT_SECONDS={PATIENCE}", "rt", "try", "--test"), (), TRYING, "rt", f"crates/{it}") for it in crates]
+        found += [Part(it, "the tests of a crate, without proof", ("tools/testing/crate-tests", it), (), TRYING, "rt") for it in crates]
     return [it for it in (*found, *OVER_PROGRAMS, *OF_SOURCES) if kind in it.kinds]
