@@ -114,7 +114,8 @@ class House:
         self.fell(meaning(status) if self.is_here else f"the stream ended (status {status})")
 
     def fell(self, why: str) -> None:
-        if why != self.why or self.is_up:
+        # (said once, and again after it was up)
+        if why != self.why:
             self.note(f"house {self.number} is down: {why}")
         self.why, self.is_up = why, False
         flight, self.flight = self.flight, collections.deque()
@@ -227,7 +228,7 @@ class Here(House):
 
     def started(self, told: Answer) -> None:
         if told:
-            self.start, self.is_up, self.wait = told, True, FIRST_WAIT
+            self.start, self.is_up, self.wait, self.why = told, True, FIRST_WAIT, ""
             self.note(f"house {self.number} is up, process {self.child.pid if self.child else 0}: {', '.join(told)}")
             self.on_up()
 

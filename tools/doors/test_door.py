@@ -157,6 +157,8 @@ class DoorTest(Room):
         self.assertIn("its last segment is damaged (status 9)", said[0])
         self.assertEqual(client.ask("@2 dump 1"), ["refused Down"])
         self.assertEqual(client.ask("create /.:/a")[0].split(" ")[0], "ok")
+        self.until(lambda: int(client.ask("status")[3].split(" starts ")[1].split(" ")[0]) > 3)
+        self.assertEqual(self.log().count("house 2 is down"), 1)
 
     def test_a_house_that_hangs_is_down_after_one_silence(self) -> None:
         self.house = self.played(HANGS)
