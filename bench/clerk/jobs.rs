@@ -270,6 +270,7 @@ impl<W: Write> Clerk<W> {
         };
         let said = String::from_utf8_lossy(line).into_owned();
         match said.as_str() {
+            "refused Forbidden" => self.end(number, &said),
             "refused StampsSpent" if !job.is_update() => {
                 let done = job.planned - job.plan.len();
                 self.refuse(number, &Refusal::Spent(done, Posted(1..=0)));

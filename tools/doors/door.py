@@ -190,7 +190,11 @@ class Door:
         elif words[0] in (*NUMBERED, "house", "recount"):
             self.number(words, say)
         else:
-            self.clerk.command(line, say, who.may)
+            self.clerk.command(line, say, lambda step: self.is_allowed(step, who))
+
+    def is_allowed(self, words: list[str], who: Who) -> bool:
+        """Whether the clerk may send a line to a house for somebody."""
+        return who.may(words) or not self.forbidden(words, who)
 
     def forbidden(self, words: list[str], who: Who) -> list[str]:
         self.counts["forbidden"] += 1

@@ -182,6 +182,13 @@ class ClerkTest(unittest.TestCase):
         self.asked(1, f"add 1 g RPC_Group {b'/.:/a'.hex()}", "refused StampsSpent")
         self.said("refused StampsSpent 1")
 
+    def test_what_is_forbidden_is_not_tried_again(self) -> None:
+        self.give("do 1 groupadd /.:/g /.:/a")
+        self.root_at_high()
+        self.asked(1, "show high 1 g", "refused NoSuchEntry")
+        self.asked(1, "create 1 g", "refused Forbidden")
+        self.said("refused Forbidden")
+
     def test_a_plan_has_an_end(self) -> None:
         self.give("do 1 create /.:/a")
         for _ in range(8):

@@ -134,6 +134,16 @@ class DoorTest(Room):
         self.assertEqual(client.ask("create /.:/a"), ["refused Unreachable 1"])
         self.assertIn("may not send house 1 00000000000a", self.log())
 
+    def test_a_directory_that_is_not_open_to_all(self) -> None:
+        all_may = "\n".join(f'{kind} = ["*"]' for kind in ("questions", "updates", "operation"))
+        client = self.open(tail=f'[allow]\n{all_may}\n[allow.directory]\n2 = ["nosuch"]')
+        self.make(client)
+        self.assertEqual(client.ask("mkdir 1 1 sub 1")[0][:5], "ok 2 ")
+        self.assertEqual(client.ask("create /.:/a")[0][:3], "ok ")
+        for line in ("create /.:/sub/a", f"export /.:/sub/a {INTERFACE} {BINDING} -", "@1 create 2 a"):
+            self.assertEqual(client.ask(line), ["refused Forbidden"], line)
+        self.assertEqual(self.log().count("may not send create 2 a"), 3)
+
     def test_messages_are_of_doors_and_of_their_own_houses(self) -> None:
         others = [f'[house.{at}]\nvia = "false"\n[peer.{at}]\nsocket = "p{at}"' for at in (2, 3)]
         client = self.open(tail="\n".join(others), head="console = 1")
