@@ -42,18 +42,17 @@ def failure(program, lives):
     with tempfile.TemporaryDirectory() as folder:
         os.makedirs(f"{folder}/h")
         for read, due in lives:
-            process = Process(program, f"{folder}/h")
-            process.send(read)
-            said = all_of(process, len(due))
+            said = said_in_a_life(program, f"{folder}/h", read, len(due))
             if said != due:
                 at = next((at for at, line in enumerate(due) if said[at : at + 1] != [line]), len(due))
                 return f"line {at + 1} is {said[at : at + 1]}, due is {due[at : at + 1]}"
     return None
 
 
-def all_of(process, count):
-    """So many lines that a house says; then it is killed, and what it said besides is added."""
-    found = []
+def said_in_a_life(program, folder, read, count):
+    """So many lines that a house says of these; then it is killed, and what it said besides is added."""
+    process, found = Process(program, folder), []
+    process.send(read)
     while len(found) < count and (line := process.next_line()) is not None:
         found.append(line)
     process.kill()

@@ -11,7 +11,9 @@ FIELDS = 21
 
 
 class Damaged(Exception):
-    """A folder is not what houses write."""
+    """A folder is not what houses write. `begun` is the segment of which only the first records are good, if there is one."""
+
+    begun = None
 
 
 class Record:
@@ -84,9 +86,20 @@ class Segment:
         self.path, self.number = path, number
         self.before = found[0][len(head) : -SUM]
         self.last = self.before
-        bodies = [self.body(f"{path} record {at}", record) for at, record in enumerate(found)]
-        self.records = [Record(f"{path} record {at}", body) for at, body in enumerate(bodies) if at]
-        self.check_end(octets, gate)
+        self.records = []
+        try:
+            self.read(found)
+            self.check_end(octets, gate)
+        except Damaged as fault:
+            fault.begun = self
+            raise
+
+    def read(self, found):
+        """Reads the records as far as they are good."""
+        for at, record in enumerate(found):
+            body = self.body(f"{self.path} record {at}", record)
+            if at:
+                self.records.append(Record(f"{self.path} record {at}", body))
 
     def check_end(self, octets, gate):
         """No crash leaves a gate 1 at the end, or after it a record that fits and an open gate."""
@@ -167,12 +180,22 @@ def entries(folder, fewest=2):
     return found
 
 
+def lines_of(segment):
+    """The records of a segment as text, line by line."""
+    yield f"segment {segment.number} after {segment.before.hex()}"
+    for record in segment.records:
+        image = "no image" if record.image is None else f"image {len(record.image)}"
+        yield f"{record.number} clock {record.clock} {image}"
+        yield from (f"  {line}" for line in record.lines)
+
+
 def shown(folder):
-    """The records of a folder as text, line by line."""
-    for segment in segments(folder):
-        yield f"segment {segment.number} after {segment.before.hex()}"
-        for record in segment.records:
-            image = "no image" if record.image is None else f"image {len(record.image)}"
-            yield f"{record.number} clock {record.clock} {image}"
-            yield from (f"  {line}" for line in record.lines)
-        yield f"sum {segment.last.hex()}"
+    """The records of a folder as text, line by line, up to the first one that is not good."""
+    try:
+        for segment in segments(folder):
+            yield from lines_of(segment)
+            yield f"sum {segment.last.hex()}"
+    except Damaged as fault:
+        if fault.begun:
+            yield from lines_of(fault.begun)
+        raise

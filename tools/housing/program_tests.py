@@ -309,6 +309,35 @@ def test_an_octet_behind_a_record_that_is_not_put(room, kit):
             os.remove(f"{folder}/2")
 
 
+def test_a_start_of_each_folder_gives_the_same_octets_twice(room, kit):
+    """Whoever does the lines of a folder again gets one answer and one segment, and so does whoever does those of the copy."""
+    for number, (title, lives) in enumerate([*cases.of_file(), *cases.of_page()]):
+        folder = f"{room}/{number}"
+        os.makedirs(folder)
+        for life, (read, due) in enumerate(lives):
+            cases.said_in_a_life(kit.program, folder, read, len(due))
+            copies = [shutil.copytree(folder, f"{folder}-{life}-{copy}") for copy in (1, 2)]
+            one, two = [(ran(kit, copy), contents(copy)) for copy in copies]
+            assert one == two and one[0][1] == 0, title
+
+
+def test_a_fault_of_octets_behind_lines_of_a_disk_that_fails(room, kit):
+    """Nothing is answered that the journal has not."""
+    failed = 0
+    for seed in range(1, 150):
+        folder, state = f"{room}/h{seed}", f"{room}/disk{seed}"
+        os.makedirs(folder)
+        os.makedirs(state)
+        variables = os.environ | {"LD_PRELOAD": kit.disk, "HOUSE_DISK": f"{folder} {state} {seed * 7919} 0 60 0"}
+        said, status = ran(kit, folder, [*MADE, "create 1 b", "create 1 c", "\x01"], env=variables)
+        assert status in (3, 8), (seed, status)
+        failed += status == 8
+        turns = [turn for segment in journals.segments(folder) for turn in segment.records if turn.kind != "new"]
+        assert len([line for line in said if line.split(" ")[1] == "ok"]) <= len(turns), (seed, said)
+        assert status == 8 or said[-1] == "6 fault NotAscii 1", (seed, said)
+    assert 20 < failed < 130, failed
+
+
 def is_damaged(path):
     """Whether a reader of segments, which is no house, says so."""
     try:

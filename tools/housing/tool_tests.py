@@ -183,6 +183,22 @@ def test_explanation(room, kit):
     ], done
 
 
+def test_what_is_read_of_a_damaged_folder(room, kit):
+    """All records up to the first one that is not good are shown, and then what is wrong."""
+    folder = worked(room, kit)[1]
+    whole = subprocess.run([HOUSES, "--read", folder], capture_output=True, text=True, check=True).stdout.splitlines()
+    path = f"{folder}/{journals.numbers(folder)[-1]}"
+    with open(path, "r+b") as file:
+        octets = file.read()
+        records, _ = journals.listed(octets)
+        file.seek(sum(len(record) + 9 for record in records[:-1]) + 9 + 40)
+        file.write(b"?")
+    done = subprocess.run([HOUSES, "--read", folder], capture_output=True, text=True, check=False)
+    said = done.stdout.splitlines()
+    assert (done.returncode, done.stderr) == (1, f"houses: {path} record {len(records) - 1}: the sum is another\n"), done
+    assert len(said) > 20 and said == whole[: len(said)] and whole[len(said)].split(" ")[1] == "clock", said[-3:]
+
+
 def test_explanation_of_what_no_console_did(room, kit):
     folders = worked(room, kit)
     given(kit, folders[1], ["mkdir 2 x 4"])
