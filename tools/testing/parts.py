@@ -61,8 +61,6 @@ OVER_PROGRAMS = (
     Part("doors", "doors of three machines that are harmed, for 20 seconds",
          ("tools/door-trial", "20", "--round", "20", "--local", "--house", "{cdshouse}"), (HOUSE,), 0.5, "rustc"),
 )
-OF_LIBRARY = Part("library", "the library for C from C, Python and Rust: cases, little room, refused memory, random inputs",
-                  ("tools/library-tests",), (), 4.0, "rt", kinds=(PROVED,))
 OF_SOURCES = (
     Part("rules", "whether docs/RULES.md is true and whole", ("tools/check-rules",)),
     Part("map", "whether the pages that are made of the sources are theirs", ("tools/map", "--check")),
@@ -95,4 +93,4 @@ def parts(kind: str) -> list[Part]:
     if kind == UNPROVED:
         crates = [it for it in all_crates() if has_tests(it)]
         found += [Part(it, "the tests of a crate, without proof", ("tools/testing/crate-tests", it), (), TRYING, "rt") for it in crates]
-    return [it for it in (*found, *OVER_PROGRAMS, OF_LIBRARY, *OF_SOURCES) if kind in it.kinds]
+    return [it for it in (*found, *OVER_PROGRAMS, *OF_SOURCES) if kind in it.kinds]
