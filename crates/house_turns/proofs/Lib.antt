@@ -8,6 +8,7 @@ pub mod LastTurns
 mod RunningLines
 mod SkulkWords
 pub mod Resuming
+mod Redoing
 mod Letters
 mod Outcomes
 mod Comes

@@ -138,3 +138,117 @@ segment_read entry text rest None start is reads = λ skulks last first. by skul
     by _ last (OfStart _ begins) = start last begins
     by skulks last (OfSegment others _ _ same first) =
         reads skulks last (subst (λ (t : List ℕ). SkulksFirst t skulks last) (append_cancel_left (segment_line entry) others rest (sym same ∙ is)) first)
+
+-- ---- the house of a first record
+
+-- octets that are the body of no record
+pub none_resumes : (octets : List ℕ) → ((number clock : ℕ) (text : List ℕ) (image : Option (List ℕ)) → IsBody octets number clock text image → ⊥)
+    → (h : House) → Resumes octets h → ⊥
+none_resumes octets none _ (Anew clock body) = none 0 clock (codes "new" ++ 10 ∷ []) None body
+none_resumes octets none _ (Began entry clock last image c body starts) = none entry clock (codes "start" ++ (10 ∷ last)) (Some image) body
+none_resumes octets none _ (WentOn entry clock skulks last image c body fit ends starts) =
+    none entry clock (segment_line entry ++ (running_lines skulks ++ last)) (Some image) body
+
+-- a record without an image
+module _ (octets : List ℕ) (n clock : ℕ) (text : List ℕ) (body : IsBody octets n clock text None) where
+  pub new_resumes : (o : Option House) → IfSome o (λ h. h ≡ new_house) → OnSome o (n ≡ 0) → OnSome o (text ≡ codes "new" ++ 10 ∷ [])
+      → IfSome o (Resumes octets)
+  new_resumes None new zero is = tt
+  new_resumes (Some h) new zero is =
+      subst (λ (k : House). Resumes octets k) (sym new)
+      (Anew clock (subst (λ (t : List ℕ). IsBody octets 0 clock t None) is (subst (λ (m : ℕ). IsBody octets m clock text None) zero body)))
+
+  not_new : (n ≡ 0 → text ≢ codes "new" ++ 10 ∷ []) → (h : House) → Resumes octets h → ⊥
+  not_new none _ (Anew clock' body') =
+      let same = one_record octets n clock text None 0 clock' (codes "new" ++ 10 ∷ []) None body body' in
+      none same.0 same.2
+  not_new none _ (Began entry clock' last image c body' starts) =
+      let same = (one_record octets n clock text None entry clock' (codes "start" ++ (10 ∷ last)) (Some image) body body').3 in
+      absurd (cc same)
+  not_new none _ (WentOn entry clock' skulks last image c body' fit ends starts) =
+      let same = (one_record octets n clock text None entry clock' (segment_line entry ++ (running_lines skulks ++ last)) (Some image) body body').3 in
+      absurd (cc same)
+
+  pub new_not_resumes : (o : Option House) → IfNone o (n ≡ 0 → text ≢ codes "new" ++ 10 ∷ []) → IfNone o ((h : House) → Resumes octets h → ⊥)
+  new_not_resumes (Some h) none = tt
+  new_not_resumes None none = not_new none
+
+-- a record with an image
+module _ (octets : List ℕ) (n clock : ℕ) (text image : List ℕ) (body : IsBody octets n clock text (Some image)) where
+  by_text : (skulks : List RunningSkulk) (last : List ℕ) (c : Clearinghouse) → IsFirstText n text skulks last → start_of_octets image ≡ Ok c
+      → Resumes octets (house_with (with_skulks skulks c) n clock last)
+  by_text _ last c (OfStart _ is) starts = Began n clock last image c (subst (λ (t : List ℕ). IsBody octets n clock t (Some image)) is body) starts
+  by_text skulks last c (OfSegment rest _ _ is first) starts =
+      WentOn n clock skulks last image c
+      (subst (λ (t : List ℕ). IsBody octets n clock t (Some image)) (is ∙ ap (λ (r : List ℕ). segment_line n ++ r) first.whole) body) first.fit first.ends
+      starts
+
+  made_resumes : (o : Option House) → ResumesBy n clock text image o → IfSome o (Resumes octets)
+  made_resumes None by = tt
+  made_resumes (Some h) by =
+      subst (λ (k : House). Resumes octets k) (sym by.is) (by_text by.skulks by.last by.home by.says by.starts)
+
+  pub made_resumed : (r : Result (Option House) AllocError) → IfOk r (ResumesBy n clock text image) → IfOk r (λ o. IfSome o (Resumes octets))
+  made_resumed (Err e) by = tt
+  made_resumed (Ok o) by = made_resumes o by
+
+  -- the same entry, clock and image
+  as_before : (entry clock' : ℕ) (image' : List ℕ) (c : Clearinghouse) (skulks : List RunningSkulk) (last : List ℕ) → n ≡ entry → clock ≡ clock'
+      → ◌≡◌ {A = Option (List ℕ)} (Some image) (Some image') → IsFirstText entry text skulks last → start_of_octets image' ≡ Ok c
+      → ResumesAs n clock text image (house_with (with_skulks skulks c) entry clock' last)
+  as_before entry clock' image' c skulks last entries clocks images says starts =
+      let octets_are : image ≡ image' = cc images in
+      record {
+        skulks = skulks;
+        last = last;
+        home = c;
+        says = subst (λ (e : ℕ). IsFirstText e text skulks last) (sym entries) says;
+        starts = ap start_of_octets octets_are ∙ starts;
+        is =
+            ap (λ (e : ℕ). house_with (with_skulks skulks c) e clock' last) (sym entries)
+            ∙ ap (λ (k : ℕ). house_with (with_skulks skulks c) n k last) (sym clocks);
+      }
+
+  as_it_resumes : (h : House) → Resumes octets h → ResumesAs n clock text image h
+  as_it_resumes _ (Anew clock' body') =
+      let same = (one_record octets n clock text (Some image) 0 clock' (codes "new" ++ 10 ∷ []) None body body').3 in
+      absurd (cc same)
+  as_it_resumes _ (Began entry clock' last image' c body' starts) =
+      let same = one_record octets n clock text (Some image) entry clock' (codes "start" ++ (10 ∷ last)) (Some image') body body' in
+      as_before entry clock' image' c [] last same.0 same.1 same.3 (OfStart last same.2) starts
+  as_it_resumes _ (WentOn entry clock' skulks last image' c body' fit ends starts) =
+      let rest : List ℕ = running_lines skulks ++ last in
+      let same = one_record octets n clock text (Some image) entry clock' (segment_line entry ++ rest) (Some image') body body' in
+      as_before entry clock' image' c skulks last same.0 same.1 same.3
+      (OfSegment rest skulks last same.2 (record { whole = refl; fit = fit; ends = ends })) starts
+
+  made_not_resumes : (o : Option House) → ResumesBy n clock text image o → IfNone o ((h : House) → Resumes octets h → ⊥)
+  made_not_resumes (Some h) by = tt
+  made_not_resumes None by = λ h resumes. by h (as_it_resumes h resumes)
+
+  pub made_not_resumed : (r : Result (Option House) AllocError) → IfOk r (ResumesBy n clock text image)
+      → IfOk r (λ o. IfNone o ((h : House) → Resumes octets h → ⊥))
+  made_not_resumed (Err e) by = tt
+  made_not_resumed (Ok o) by = made_not_resumes o by
+
+-- the text is none of a first record
+pub unread_first : (n clock : ℕ) (text image : List ℕ) → ((skulks : List RunningSkulk) (last : List ℕ) → IsFirstText n text skulks last → ⊥)
+    → (h : House) → ResumesAs n clock text image h → ⊥
+unread_first n clock text image none h by = none by.skulks by.last by.says
+
+-- no clearinghouse starts of the image
+pub unstarted : (n clock : ℕ) (text image : List ℕ) → ((c : Clearinghouse) → start_of_octets image ≢ Ok c) → (h : House) → ResumesAs n clock text image h → ⊥
+unstarted n clock text image none h by = none by.home by.starts
+
+-- the house that resumes
+pub resumes_as : (n clock : ℕ) (text image : List ℕ) (skulks : List RunningSkulk) (home after : Clearinghouse) (last kept : List ℕ) (h : House)
+    → IsFirstText n text skulks last → start_of_octets image ≡ Ok home → after ≡ with_skulks skulks home → kept ≡ last → h ≡ house_with after n clock kept
+    → ResumesAs n clock text image h
+resumes_as n clock text image skulks home after last kept h says starts runs same is = record {
+  skulks = skulks;
+  last = last;
+  home = home;
+  says = says;
+  starts = starts;
+  is = is ∙ ap (λ (c : Clearinghouse). house_with c n clock kept) runs ∙ ap (house_with (with_skulks skulks home) n clock) same;
+}
