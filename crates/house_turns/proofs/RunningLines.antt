@@ -27,7 +27,7 @@ use Rattle.house_turns.specs.PrivateTurns.{SkulksFirst}
 use Rattle.house_turns.specs.RunningSkulks.{AllFit, FitsRunning, round_word, running_line, running_lines}
 use Rattle.house_turns.proofs.Cuts.{cut_after, cut_before}
 use Rattle.house_turns.proofs.PlainTexts.{both_end_nowhere, more_end_nowhere, text_ends_nowhere}
-use Rattle.house_turns.proofs.SaidAgain.{decimal_digits, decimal_ends_nowhere, hex_digits, hex_ends_nowhere, no_space}
+use Rattle.house_turns.proofs.SaidAgain.{IsDigit, decimal_digits, decimal_ends_nowhere, hex_digits, hex_ends_nowhere, no_space}
 
 -- ---- octets without a separator
 
@@ -70,10 +70,10 @@ pub decimal_no_sign : (n : ℕ) → n < 2 ^ 64 → All (λ b. b ≢ 64) (decimal
 decimal_no_sign n small = digits_no_sign (decimal n) (digits_decimal (numerals_by_value (λ ds. all_ascii_digits ds ≡ true) tells_all_ascii_digits) n small)
 
 pub decimal_no_space : (n : ℕ) → All (λ b. b ≢ 32) (decimal n)
-decimal_no_space n = All-weaker _ (λ (b : ℕ). b ≢ 32) no_space (decimal n) (decimal_digits n)
+decimal_no_space n = All-weaker IsDigit (λ (b : ℕ). b ≢ 32) no_space (decimal n) (decimal_digits n)
 
 hex_no_space : (octets : List ℕ) → All (λ b. b ≢ 32) (encode_lower octets)
-hex_no_space octets = All-weaker _ (λ (b : ℕ). b ≢ 32) no_space (encode_lower octets) (hex_digits octets)
+hex_no_space octets = All-weaker IsDigit (λ (b : ℕ). b ≢ 32) no_space (encode_lower octets) (hex_digits octets)
 
 -- ---- nodes
 

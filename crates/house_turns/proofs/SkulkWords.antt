@@ -1,9 +1,9 @@
 -- The words of a skulk that runs, cut and read; and skulks that are written or run on, one by one.
-use Rattle.std.proofs.Common.{◌≡◌, ◌≢◌, ℕ, suc, ◌+◌, ◌<◌, ◌^◌, eqb, List, [], ◌∷◌, ◌++◌, length, take, drop, get_or, refl, sym, ap, subst, ◌∙◌, append_assoc, append-nil, arith}
+use Rattle.std.proofs.Common.{◌≡◌, ◌≢◌, ℕ, ◌+◌, ◌<◌, ◌^◌, eqb, List, [], ◌∷◌, ◌++◌, length, take, drop, get_or, refl, sym, ap, subst, ◌∙◌, append_assoc, append-nil, arith}
 use Rattle.std.specs.Prelude.{codes, decimal, Option, Some, None}
 use Rattle.std.specs.List.{after_first, before_first, flat_map}
 use Rattle.std.proofs.lemmas.Grind.{flat_map-append}
-use Rattle.std.proofs.Math.Seq.{drop-cons, take-suc}
+use Rattle.std.proofs.lemmas.List.{drop_more, take_more}
 use Rattle.hex.specs.Hex.{encode_lower}
 use Rattle.cds_stamps.specs.declared.stamp.Stamp.{Stamp}
 use Rattle.script_answers.specs.Texts.{node_octets, stamp_text}
@@ -51,9 +51,9 @@ node_cut s word node low is cut = cut_after 64 word (decimal s.time) (encode_low
 -- the line of one more was written
 pub lines_next : (skulks : List RunningSkulk) (i : ℕ) (r : RunningSkulk) (old text line after : List ℕ) → i < length skulks → r ≡ get_or skulks i r
     → text ≡ old ++ running_lines (take i skulks) → line ≡ text ++ running_line r → after ≡ line ++ 10 ∷ []
-    → after ≡ old ++ running_lines (take (suc i) skulks)
+    → after ≡ old ++ running_lines (take (i + 1) skulks)
 lines_next skulks i r old text line after less at so wrote ended =
-    let more : take (suc i) skulks ≡ take i skulks ++ r ∷ [] = take-suc skulks i r less ∙ ap (λ (x : RunningSkulk). take i skulks ++ x ∷ []) (sym at) in
+    let more : take (i + 1) skulks ≡ take i skulks ++ r ∷ [] = take_more skulks i r less ∙ ap (λ (x : RunningSkulk). take i skulks ++ x ∷ []) (sym at) in
     let f : RunningSkulk → List ℕ = λ r. running_line r ++ 10 ∷ [] in
     ended ∙ ap (λ (t : List ℕ). t ++ 10 ∷ []) (wrote ∙ ap (λ (t : List ℕ). t ++ running_line r) so)
     ∙ append_assoc (old ++ running_lines (take i skulks)) (running_line r) (10 ∷ [])
@@ -63,13 +63,13 @@ lines_next skulks i r old text line after less at so wrote ended =
     ∙ ap (λ (s : List RunningSkulk). old ++ running_lines s) (sym more)
 
 pub fit_next : (skulks : List RunningSkulk) (i : ℕ) (r : RunningSkulk) → i < length skulks → r ≡ get_or skulks i r → AllFit (take i skulks) → FitsRunning r
-    → AllFit (take (suc i) skulks)
+    → AllFit (take (i + 1) skulks)
 fit_next skulks i r less at fit fits =
-    subst AllFit (sym (take-suc skulks i r less ∙ ap (λ (x : RunningSkulk). take i skulks ++ x ∷ []) (sym at))) (fit_more (take i skulks) r fit fits)
+    subst AllFit (sym (take_more skulks i r less ∙ ap (λ (x : RunningSkulk). take i skulks ++ x ∷ []) (sym at))) (fit_more (take i skulks) r fit fits)
 
 -- one more runs on
 pub run_next : (skulks : List RunningSkulk) (i : ℕ) (r : RunningSkulk) (all home after : Clearinghouse) → i < length skulks → r ≡ get_or skulks i r
-    → with_skulks (drop i skulks) home ≡ all → after ≡ with_skulks (r ∷ []) home → with_skulks (drop (suc i) skulks) after ≡ all
+    → with_skulks (drop i skulks) home ≡ all → after ≡ with_skulks (r ∷ []) home → with_skulks (drop (i + 1) skulks) after ≡ all
 run_next skulks i r all home after less at so is =
-    let more : drop i skulks ≡ r ∷ drop (suc i) skulks = drop-cons skulks i r less ∙ ap (λ (x : RunningSkulk). x ∷ drop (suc i) skulks) (sym at) in
-    ap (with_skulks (drop (suc i) skulks)) is ∙ ap (λ (s : List RunningSkulk). with_skulks s home) (sym more) ∙ so
+    let more : drop i skulks ≡ r ∷ drop (i + 1) skulks = drop_more skulks i r less ∙ ap (λ (x : RunningSkulk). x ∷ drop (i + 1) skulks) (sym at) in
+    ap (with_skulks (drop (i + 1) skulks)) is ∙ ap (λ (s : List RunningSkulk). with_skulks s home) (sym more) ∙ so
