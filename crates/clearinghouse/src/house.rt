@@ -28,6 +28,7 @@ use house_directory::{
     PostedList, Sender, Skulked, Turn, post_leaves, refused,
 };
 use std::alloc::{AllocError, Global};
+use std::collections::btree_map::Iter;
 
 /// A clearinghouse: who it is, the floor of its stamps, what it has of directories, and whether it
 /// is spent.
@@ -73,6 +74,13 @@ impl Clearinghouse {
         ensures { option_copied result ≡ map.get self.now.dirs dir }
     {
         self.dirs.get(&dir)
+    }
+
+    /// What it has of directories, by their numbers, ascending.
+    pub fn directories(&self) -> Iter<'_, DirId, DirState>
+        ensures { result ≡ map.entries self.now.dirs }
+    {
+        self.dirs.iter()
     }
 
     /// The floor of its stamps: nothing that it has has a later time.

@@ -9,8 +9,8 @@ use Rattle.std.specs.Str.{bytes_eq}
 use Rattle.std.proofs.lemmas.Slice.Eq.{bytes_eq-Decides}
 use Rattle.cell_script.specs.declared.fault.ParseFault.{ParseFault}
 use Rattle.cell_script.specs.declared.fault.ParseFault.TheVariants.{WrongCount}
-use Rattle.cell_script.specs.Words.{attr_name_of, directory_of, full_name_of, house_of, listed_of, node_of, number_of, octets_of, octets_value_of, serial_of, simple_name_of}
-use Rattle.cell_script.specs.WordForms.{Form, House, Directory, Serial, Time, Node, SimpleName, FullName, AttrName, Value, Octets, Houses, Listeds}
+use Rattle.cell_script.specs.Words.{attr_name_of, confidence_of, directory_of, full_name_of, house_of, listed_of, node_of, number_of, octets_of, octets_value_of, serial_of, simple_name_of}
+use Rattle.cell_script.specs.WordForms.{Form, House, Directory, Serial, Time, Node, SimpleName, FullName, AttrName, Value, Octets, Houses, Listeds, Confidence}
 use Rattle.cell_script.specs.WordForms.{◌>>=◌, Builds, Said, Words, all_words, build_words, check_count, each_word, is_open, least_of, next_word, read_as, said_at, take_words}
 use Rattle.cell_script.specs.CommandRows.{RowOf, no_command, said_among, some_line}
 use Rattle.house_lines.specs.Listings.{after_dash, before_dash, leaving_said, list_said, members_said}
@@ -23,7 +23,7 @@ use Rattle.house_turns.specs.LineOutcomes.{HasNoEnd}
 use Rattle.house_turns.specs.Openings.{is_skulk}
 use Rattle.house_turns.proofs.PlainTexts.{both_end_nowhere, more_end_nowhere, none_end_nowhere, text_ends_nowhere}
 use Rattle.house_turns.proofs.SaidAgain.{hex_ends_nowhere}
-use Rattle.house_turns.proofs.PlainWords.{ArePlain, plain_attr, plain_directory, plain_full_name, plain_house, plain_listed, plain_member, plain_name, plain_node, plain_number, plain_octets, plain_serial, plain_value, same_word}
+use Rattle.house_turns.proofs.PlainWords.{ArePlain, plain_attr, plain_confidence, plain_directory, plain_full_name, plain_house, plain_listed, plain_member, plain_name, plain_node, plain_number, plain_octets, plain_serial, plain_value, same_word}
 
 -- ---- words that are read
 
@@ -91,6 +91,7 @@ IsWord FullName = Unit {0}
 IsWord AttrName = Unit {0}
 IsWord Value = Unit {0}
 IsWord Octets = Unit {0}
+IsWord Confidence = Unit {0}
 IsWord other = ⊥
 
 -- forms of one word each; the last one may stand for any number of words
@@ -112,6 +113,7 @@ word_taken FullName one s t is = next_said full_name_of plain_full_name s.read s
 word_taken AttrName one s t is = next_said attr_name_of plain_attr s.read s.rest t is
 word_taken Value one s t is = next_said octets_value_of plain_value s.read s.rest t is
 word_taken Octets one s t is = next_said octets_of plain_octets s.read s.rest t is
+word_taken Confidence one s t is = next_said confidence_of plain_confidence s.read s.rest t is
 word_taken other one s t is = absurd one
 
 -- a form of one word counts as one
@@ -126,6 +128,7 @@ word_counts FullName one fs = (refl, refl)
 word_counts AttrName one fs = (refl, refl)
 word_counts Value one fs = (refl, refl)
 word_counts Octets one fs = (refl, refl)
+word_counts Confidence one fs = (refl, refl)
 word_counts other one fs = absurd one
 
 -- as many words are left as these forms stand for
@@ -280,7 +283,19 @@ questions = (
   (
     directory_attr,
     begins (codes "look") refl (λ rest. refl),
-    (NoWord, begins (codes "image") refl (λ rest. refl), tt),
+    (
+      OneWord Confidence (Directory ∷ SimpleName ∷ []) tt (directory_name [] NoWord),
+      begins (codes "show") refl (λ rest. refl),
+      (
+        OneWord Directory [] tt NoWord,
+        begins (codes "status") refl (λ rest. refl),
+        (
+          NoWord,
+          begins (codes "directories") refl (λ rest. refl),
+          (NoWord, begins (codes "image") refl (λ rest. refl), tt),
+        ),
+      ),
+    ),
   ),
 )
 

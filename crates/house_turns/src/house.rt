@@ -14,7 +14,7 @@ ghost use Rattle.house_turns.specs.PrivateTurns.{AsksHome, DoesBy, DoesOrTells, 
 ghost use Rattle.house_turns.specs.HouseAnswers.{question_said};
 ghost use Rattle.house_turns.specs.PostTexts.{octets_line};
 
-use crate::asking::{dump, image, look};
+use crate::asking::ask;
 use crate::founding::{mkdir, root};
 use crate::octets::OctetBuffer;
 use crate::posts::{push_kept, push_posts};
@@ -380,9 +380,7 @@ fn come_to(
         HouseLine::Update(dir, change) => update(alloc, home, clock, number, dir, &change),
         HouseLine::Skulk(dir) => skulk(alloc, home, clock, number, dir),
         HouseLine::Epoch(dir, k, list) => epoch(alloc, home, number, dir, k, &list),
-        HouseLine::Dump(dir) => dump(alloc, home, number, dir),
-        HouseLine::Look(dir, name, attr) => look(alloc, home, number, dir, &name, &attr),
-        HouseLine::Image => image(alloc, home, number),
+        HouseLine::Ask(question) => ask(alloc, home, number, &question),
         HouseLine::Take(octets) => take(alloc, home, number, octets.list()),
         HouseLine::House(_, _) => told(alloc, number, &Answer::Done),
         HouseLine::Clock(_) => told(alloc, number, &Answer::Done),

@@ -13,6 +13,7 @@ mod posts;
 mod resuming;
 mod running;
 mod said;
+mod showing;
 mod taking;
 mod texts;
 mod turns;
