@@ -28,7 +28,6 @@ use house_directory::{
     PostedList, Sender, Skulked, Turn, post_leaves, refused,
 };
 use std::alloc::{AllocError, Global};
-use std::collections::btree_map::Iter;
 
 /// A clearinghouse: who it is, the floor of its stamps, what it has of directories, and whether it
 /// is spent.
@@ -76,11 +75,11 @@ impl Clearinghouse {
         self.dirs.get(&dir)
     }
 
-    /// What it has of directories, by their numbers, ascending.
-    pub fn directories(&self) -> Iter<'_, DirId, DirState>
-        ensures { result ≡ map.entries self.now.dirs }
+    /// What it has of directories.
+    pub fn states(&self) -> &DirStates
+        ensures { result.now ≡ self.now.dirs }
     {
-        self.dirs.iter()
+        &self.dirs
     }
 
     /// The floor of its stamps: nothing that it has has a later time.

@@ -16,3 +16,4 @@ mod Replies
 mod Recorded
 mod Joining
 mod Asked
+mod Shows

@@ -50,12 +50,7 @@ pub(crate) fn ask(
 
 // All that a house holds of a directory.
 #[tactic(auto, using(crate::proofs::Asked::dump_absent, crate::proofs::Asked::dump_held))]
-fn dump(
-    alloc: Global,
-    home: &Clearinghouse,
-    number: u32,
-    dir: DirId,
-) -> Result<Said, AllocError>
+fn dump(alloc: Global, home: &Clearinghouse, number: u32, dir: DirId) -> Result<Said, AllocError>
     ensures { IfOk result (λ s. Says number s (Tells (dump_said (map.get home.now.dirs dir)))) }
 {
     let Some(held) = held(home, dir) else {

@@ -70,12 +70,7 @@ fn push_pointer(alloc: Global, text: &mut Vec<u8>, octets: &[u8]) -> Result<(), 
 }
 
 // Adds where an entry of this kind leads.
-fn push_lead(
-    alloc: Global,
-    text: &mut Vec<u8>,
-    kind: Kind,
-    octets: &[u8],
-) -> Result<(), AllocError>
+fn push_lead(alloc: Global, text: &mut Vec<u8>, kind: Kind, octets: &[u8]) -> Result<(), AllocError>
     ensures { OnOk result (text.new.items ≡ text.old.items ++ lead_words kind octets.now) }
 {
     match kind {
@@ -108,7 +103,11 @@ fn push_lead_line(
 }
 
 /// Adds the lines of values.
-pub(crate) fn push_values(text: &mut Vec<u8>, number: u32, values: &[Value]) -> Result<(), AllocError>
+pub(crate) fn push_values(
+    text: &mut Vec<u8>,
+    number: u32,
+    values: &[Value],
+) -> Result<(), AllocError>
     ensures { OnOk result (text.new.items ≡ text.old.items
         ++ lines_text number (list_map (octets_line (codes "value ")) values.now)) }
 {
@@ -178,12 +177,7 @@ fn entry_told(alloc: Global, number: u32, entry: &EntryCell) -> Result<Said, All
 }
 
 // What shows of a name in a directory that is held.
-fn show_held(
-    alloc: Global,
-    number: u32,
-    held: &Held,
-    name: &SimpleName,
-) -> Result<Said, AllocError>
+fn show_held(alloc: Global, number: u32, held: &Held, name: &SimpleName) -> Result<Said, AllocError>
     ensures { IfOk result
         (λ s. Says number s (Tells (entry_said (map.get held.now.replica.table name.now)))) }
 {
@@ -339,11 +333,10 @@ pub(crate) fn directories(
         (λ s. Says number s (Tells (directories_said (map.entries home.now.dirs)))) }
 {
     let mut text = Vec::new(alloc);
-    let mut count = 0;
-    for (dir, state) in home.directories() {
+    let states = home.states();
+    for (dir, state) in states.iter() {
         push_directory(&mut text, number, *dir, state)?;
-        count += 1;
     }
-    push_end(&mut text, number, count)?;
+    push_end(&mut text, number, states.len())?;
     Ok(Said::Told(text))
 }
