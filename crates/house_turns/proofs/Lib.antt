@@ -7,7 +7,7 @@ mod PlainLines
 pub mod LastTurns
 mod RunningLines
 mod SkulkWords
-pub mod Resuming
+pub mod Resumptions
 mod Redoing
 mod Letters
 mod Outcomes

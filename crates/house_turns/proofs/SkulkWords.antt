@@ -1,10 +1,12 @@
 -- The words of a skulk that runs, cut and read; and skulks that are written or run on, one by one.
-use Rattle.std.proofs.Common.{◌≡◌, ◌≢◌, ℕ, suc, ◌+◌, ◌<◌, ◌^◌, eqb, List, [], ◌∷◌, ◌++◌, length, take, drop, get_or, refl, sym, ap, subst, ◌∙◌, append_assoc, append-nil, arith}
-use Rattle.std.specs.Prelude.{codes, decimal, Option, Some, None}
+use Rattle.std.proofs.Common.{◌≡◌, ◌≢◌, ℕ, ◌+◌, ◌<◌, ◌^◌, eqb, List, [], ◌∷◌, ◌++◌, length, take, drop, get_or, refl, sym, ap, subst, ◌∙◌, append_assoc, append-nil, arith}
+use Rattle.std.specs.Prelude.{codes, decimal, Option, Some, None, Result, Ok, Err, MatchResult, SomeIff}
 use Rattle.std.specs.List.{after_first, before_first, flat_map}
 use Rattle.std.proofs.lemmas.Grind.{flat_map-append}
-use Rattle.std.proofs.Math.Seq.{drop-cons, take-suc}
-use Rattle.hex.specs.Hex.{encode_lower}
+use Rattle.std.proofs.lemmas.List.{drop_more, take_more}
+use Rattle.hex.specs.Hex.{decode_sized, encode_lower}
+use Rattle.hex.specs.declared.error.FromHexError.{FromHexError}
+use Rattle.hex.proofs.HexLemmas.{decode_sized-encode_lower}
 use Rattle.cds_stamps.specs.declared.stamp.Stamp.{Stamp}
 use Rattle.script_answers.specs.Texts.{node_octets, stamp_text}
 use Rattle.clearinghouse.specs.HouseImages.{with_skulks}
@@ -12,7 +14,7 @@ use Rattle.clearinghouse.specs.declared.house.Clearinghouse.{Clearinghouse}
 use Rattle.clearinghouse.specs.declared.running.RunningSkulk.{RunningSkulk}
 use Rattle.house_turns.specs.RunningSkulks.{AllFit, FitsRunning, round_word, running_line, running_lines}
 use Rattle.house_turns.proofs.Cuts.{cut_after, cut_before}
-use Rattle.house_turns.proofs.RunningLines.{decimal_no_sign, decimal_no_space, fit_more, line_words, no_spaces, round_no_space, round_words, stamp_no_space, stamp_words}
+use Rattle.house_turns.proofs.RunningLines.{decimal_no_sign, decimal_no_space, fit_more, line_words, no_spaces, node_bytes, round_no_space, round_words, stamp_no_space, stamp_words}
 
 -- ---- cuts
 
@@ -46,14 +48,28 @@ pub node_cut : (s : Stamp) (word node : List ℕ) → s.time < 2 ^ 64 → word �
     → node ≡ encode_lower (node_octets s.node)
 node_cut s word node low is cut = cut_after 64 word (decimal s.time) (encode_lower (node_octets s.node)) node is (decimal_no_sign s.time low) cut
 
+-- ---- nodes
+
+-- the digits of a node are read
+pub node_read : (n : ℕ) (word : List ℕ) (r : Result (Unit {0}) FromHexError) (out : List ℕ) → word ≡ encode_lower (node_octets n)
+    → MatchResult (decode_sized word 6) (λ octets. (r ≡ Ok tt) × (out ≡ octets)) (λ e. r ≡ Err e) → (r ≡ Ok tt) × (out ≡ node_octets n)
+node_read n word r out is reads =
+    subst (λ (d : Result (List ℕ) FromHexError). MatchResult d (λ octets. (r ≡ Ok tt) × (out ≡ octets)) (λ e. r ≡ Err e))
+    (ap (λ (w : List ℕ). decode_sized w 6) is ∙ decode_sized-encode_lower (node_octets n) 6 refl (node_bytes n)) reads
+
+-- and its number is that of a node
+pub node_made : (o : Option ℕ) (m n : ℕ) → SomeIff o (m < 2 ^ 48) m → m ≡ n → n < 2 ^ 48 → o ≡ Some n
+node_made None m n made is small = absurd (made (subst (λ (k : ℕ). k < 2 ^ 48) (sym is) small))
+node_made (Some x) m n made is small = ap (λ (k : ℕ). Some k) (made.1 ∙ is)
+
 -- ---- one by one
 
 -- the line of one more was written
 pub lines_next : (skulks : List RunningSkulk) (i : ℕ) (r : RunningSkulk) (old text line after : List ℕ) → i < length skulks → r ≡ get_or skulks i r
     → text ≡ old ++ running_lines (take i skulks) → line ≡ text ++ running_line r → after ≡ line ++ 10 ∷ []
-    → after ≡ old ++ running_lines (take (suc i) skulks)
+    → after ≡ old ++ running_lines (take (i + 1) skulks)
 lines_next skulks i r old text line after less at so wrote ended =
-    let more : take (suc i) skulks ≡ take i skulks ++ r ∷ [] = take-suc skulks i r less ∙ ap (λ (x : RunningSkulk). take i skulks ++ x ∷ []) (sym at) in
+    let more : take (i + 1) skulks ≡ take i skulks ++ r ∷ [] = take_more skulks i r less ∙ ap (λ (x : RunningSkulk). take i skulks ++ x ∷ []) (sym at) in
     let f : RunningSkulk → List ℕ = λ r. running_line r ++ 10 ∷ [] in
     ended ∙ ap (λ (t : List ℕ). t ++ 10 ∷ []) (wrote ∙ ap (λ (t : List ℕ). t ++ running_line r) so)
     ∙ append_assoc (old ++ running_lines (take i skulks)) (running_line r) (10 ∷ [])
@@ -63,13 +79,13 @@ lines_next skulks i r old text line after less at so wrote ended =
     ∙ ap (λ (s : List RunningSkulk). old ++ running_lines s) (sym more)
 
 pub fit_next : (skulks : List RunningSkulk) (i : ℕ) (r : RunningSkulk) → i < length skulks → r ≡ get_or skulks i r → AllFit (take i skulks) → FitsRunning r
-    → AllFit (take (suc i) skulks)
+    → AllFit (take (i + 1) skulks)
 fit_next skulks i r less at fit fits =
-    subst AllFit (sym (take-suc skulks i r less ∙ ap (λ (x : RunningSkulk). take i skulks ++ x ∷ []) (sym at))) (fit_more (take i skulks) r fit fits)
+    subst AllFit (sym (take_more skulks i r less ∙ ap (λ (x : RunningSkulk). take i skulks ++ x ∷ []) (sym at))) (fit_more (take i skulks) r fit fits)
 
 -- one more runs on
 pub run_next : (skulks : List RunningSkulk) (i : ℕ) (r : RunningSkulk) (all home after : Clearinghouse) → i < length skulks → r ≡ get_or skulks i r
-    → with_skulks (drop i skulks) home ≡ all → after ≡ with_skulks (r ∷ []) home → with_skulks (drop (suc i) skulks) after ≡ all
+    → with_skulks (drop i skulks) home ≡ all → after ≡ with_skulks (r ∷ []) home → with_skulks (drop (i + 1) skulks) after ≡ all
 run_next skulks i r all home after less at so is =
-    let more : drop i skulks ≡ r ∷ drop (suc i) skulks = drop-cons skulks i r less ∙ ap (λ (x : RunningSkulk). x ∷ drop (suc i) skulks) (sym at) in
-    ap (with_skulks (drop (suc i) skulks)) is ∙ ap (λ (s : List RunningSkulk). with_skulks s home) (sym more) ∙ so
+    let more : drop i skulks ≡ r ∷ drop (i + 1) skulks = drop_more skulks i r less ∙ ap (λ (x : RunningSkulk). x ∷ drop (i + 1) skulks) (sym at) in
+    ap (with_skulks (drop (i + 1) skulks)) is ∙ ap (λ (s : List RunningSkulk). with_skulks s home) (sym more) ∙ so

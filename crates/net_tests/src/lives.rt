@@ -6,9 +6,9 @@ ghost use Rattle.house_segments.specs.Segments.{IsAt};
 use cds_base::{Lines, MemSink, MemSource};
 use house_entries::head_octets;
 use house_journal::{Disk, Leave, MemDisk};
-use house_segments::{DIGEST, Segment, last_record};
+use house_segments::{DIGEST, Segment, first_record, last_record};
 use house_serving::serve;
-use house_turns::{House, open};
+use house_turns::{House, resume};
 use std::alloc::{AllocError, Global};
 use std::test::Fail;
 
@@ -85,6 +85,54 @@ fn answers<D: Disk>(
     Ok(sink)
 }
 
+// The body of a record, which ends in a digest.
+fn body_of(record: &[u8]) -> Result<&[u8], Fail> {
+    match record.len().checked_sub(DIGEST) {
+        Some(at) => Ok(record.split_at(at).0),
+        None => Err("a record has no digest".into()),
+    }
+}
+
+// The house after the records of a segment: it resumes with the first one after the head, does the
+// others again, and ends.
+fn house_after(alloc: Global, octets: &[u8]) -> Result<House, Fail> {
+    let Some((_head, rest)) = first_record(octets) else {
+        return Err("no head is left".into());
+    };
+    let Some((first, mut rest)) = first_record(rest) else {
+        return Err("no first record is left".into());
+    };
+    let Some(mut house) = resume(alloc, body_of(first)?)? else {
+        return Err("no house resumes".into());
+    };
+    for _ in 0..octets.len() {
+        let Some((record, behind)) = first_record(rest) else {
+            break;
+        };
+        if !house.redo(alloc, body_of(record)?)? {
+            return Err("a record is another one when it is done again".into());
+        }
+        rest = behind;
+    }
+    match house.end(alloc)? {
+        Some(house) => Ok(house),
+        None => Err("no house starts of its image".into()),
+    }
+}
+
+// A house whose next segment begins is as it was: that of the house which resumes with it begins so,
+// too.
+fn goes_on(alloc: Global, house: &House) -> Result<(), Fail> {
+    let record = house.next_segment(alloc)?;
+    let Some(again) = resume(alloc, &record)? else {
+        return Err("no house resumes with a next segment".into());
+    };
+    if again.next_segment(alloc)?.as_slice() != record.as_slice() {
+        return Err("a house is another one in its next segment".into());
+    }
+    Ok(())
+}
+
 impl Folder {
     /// A folder that has nothing.
     pub fn new(alloc: Global) -> Folder {
@@ -94,7 +142,7 @@ impl Folder {
         }
     }
 
-    // The house of the last record.
+    // The house that goes on, and the digest of the last record.
     fn found(&self, alloc: Global) -> Result<Found, Fail> {
         if self.number == 0 {
             return Ok(Found {
@@ -106,11 +154,8 @@ impl Folder {
         let Some(last) = last_record(&title, &self.octets) else {
             return Err("no record is left".into());
         };
-        let Some(house) = open(alloc, last.body)? else {
-            return Err("no house is left".into());
-        };
         Ok(Found {
-            house,
+            house: house_after(alloc, &self.octets)?,
             digest: last.digest,
         })
     }
@@ -129,6 +174,7 @@ impl Folder {
         };
         let mut text = house.first_words(alloc)?;
         let sink = answers(alloc, &mut house, &mut segment, lines)?;
+        goes_on(alloc, &house)?;
         text.extend_from_slice(sink.written())?;
         let mut disk = segment.into_disk();
         disk.restart()?;
