@@ -229,7 +229,8 @@ fn push_member(text: &mut Vec<u8>, member: &Member) -> Result<(), AllocError>
     text.push(b':')?;
     push_number(text, member.since.0)?;
     text.push(b':')?;
-    text.push(letter_of(member.kind))
+    text.push(letter_of(member.kind))?;
+    Ok(())
 }
 
 // Adds members.
