@@ -1,12 +1,14 @@
 // The journal of a house, read segment by segment.
-ghost use Rattle.std.specs.Prelude.{◌≡◌, ◌+◌, ◌++◌, ◌∷◌, [], ℕ, List, false, Ok, Some, None, All, replicate, IfOk, IfSome, OnOk, MatchOption, codes, decimal, is_none, map};
+ghost use Rattle.std.specs.Prelude.{◌≡◌, ◌+◌, ◌++◌, ◌∷◌, [], ℕ, List, false, Ok, Some, None, All, replicate, IfOk, IfSome, OnOk, MatchOption, codes, decimal, is_none, map, option_copied};
 ghost use Rattle.std.specs.Bool.{OnTrue};
 ghost use Rattle.cell_script.specs.Words.{words_of};
 ghost use Rattle.house_entries.specs.Bodies.{IsBody};
 ghost use Rattle.house_journal.specs.JournalRecords.{images};
 ghost use Rattle.house_lines.specs.LineRows.{said_in};
 ghost use Rattle.house_logs.specs.Logs.{IsJournalOf, IsNew, before_in, body_in};
-ghost use Rattle.house_logs.specs.Reads.{HasRead, IsDue, IsMadeBy, IsTurnBy, ReadsOn, ReadsRecords};
+ghost use Rattle.house_logs.specs.declared.log.Making.{Making as Making'};
+ghost use Rattle.house_logs.specs.Reads.{HasRead, IsDue, IsMadeBy, IsTurnBy, ReadsOn, ReadsRecords, told_of};
+ghost use Rattle.house_logs.specs.Records.{CanBe, Shows};
 ghost use Rattle.house_logs.specs.TurnTexts.{turn_text};
 
 use crate::fault::LogFault;
@@ -22,17 +24,17 @@ use script_answers::push_number;
 use std::alloc::{AllocError, Global};
 
 /// The journal of a house as far as it was read: how many segments, and the digest of the last
-/// record; who the house is, if it was made, and its entries after that; the number, the clock and
-/// the image of the last entry, and the text of the last turn.
+/// record; who the house is, if it was made, the image with which it was, and its entries after that;
+/// the number and the clock of the last entry, and the text of the last turn.
 #[derive(Drop)]
 pub struct LogReader {
     segments: u64,
     digest: [u8; DIGEST],
     made: Option<Making>,
+    image: Option<Octets>,
     entries: Vec<LogEntry>,
     number: u64,
     clock: u64,
-    image: Octets,
     turn: Vec<u8>,
 }
 
@@ -41,6 +43,26 @@ fn octets_of(alloc: Global, octets: &[u8]) -> Result<Octets, AllocError>
     ensures { IfOk result (λ o. o ≡ octets.now) }
 {
     Ok(Octets::of(Vec::from_slice(alloc, octets)?))
+}
+
+// A copy of an image, if there is one.
+fn image_copy(alloc: Global, image: Option<&[u8]>) -> Result<Option<Octets>, AllocError>
+    ensures { IfOk result (λ o. o ≡ option_copied image.entry) }
+{
+    match image {
+        Some(octets) => Ok(Some(octets_of(alloc, octets)?)),
+        None => Ok(None),
+    }
+}
+
+// Whether no image is known, or this one.
+fn can_be(known: Option<&Octets>, image: &[u8]) -> bool
+    ensures { OnTrue result (CanBe (option_copied known.entry) image.now) }
+{
+    match known {
+        Some(other) => other.list() == image,
+        None => true,
+    }
 }
 
 // What a line says, if it says something.
@@ -82,9 +104,10 @@ fn turn_of(
     alloc: Global,
     clock: u64,
     parts: TurnText<'_>,
-    image: &[u8],
+    image: Option<&[u8]>,
 ) -> Result<Option<LoggedTurn>, AllocError>
-    ensures { IfOk result (λ o. IfSome o (IsTurnBy parts.entry clock image.now)) }
+    ensures { IfOk result
+        (λ o. IfSome o (IsTurnBy parts.entry clock (option_copied image.entry))) }
 {
     let TurnText {
         line,
@@ -103,13 +126,13 @@ fn turn_of(
         order,
         posts,
         answer: octets_of(alloc, answer)?,
-        image: octets_of(alloc, image)?,
+        image: image_copy(alloc, image)?,
     }))
 }
 
 // The house that is made by a turn of these parts.
-fn made_by(alloc: Global, parts: &TurnText<'_>, image: &[u8]) -> Result<Option<Making>, AllocError>
-    ensures { IfOk result (λ o. IfSome o (IsMadeBy parts.now image.now)) }
+fn made_by(alloc: Global, parts: &TurnText<'_>) -> Result<Option<Making>, AllocError>
+    ensures { IfOk result (λ o. IfSome o (IsMadeBy parts.now)) }
 {
     if !parts.posts.is_empty() {
         return Ok(None);
@@ -124,7 +147,6 @@ fn made_by(alloc: Global, parts: &TurnText<'_>, image: &[u8]) -> Result<Option<M
         HouseLine::House(house, node) => Ok(Some(Making {
             house: *house,
             node: *node,
-            image: octets_of(alloc, image)?,
         })),
         _ => Ok(None),
     }
@@ -141,10 +163,10 @@ impl LogReader {
             segments: 0,
             digest: [0; DIGEST],
             made: None,
+            image: None,
             entries: Vec::new(alloc),
             number: 0,
             clock: 0,
-            image: Octets::new(alloc),
             turn: Vec::new(alloc),
         }
     }
@@ -161,8 +183,13 @@ impl LogReader {
         ensures { (bodies : List (List ℕ)) → HasRead self bodies
             → MatchOption result (All IsNew bodies) (IsJournalOf bodies) }
     {
-        let LogReader { made, entries, .. } = self;
-        let Making { house, node, image } = made?;
+        let LogReader {
+            made,
+            image,
+            entries,
+            ..
+        } = self;
+        let Making { house, node } = made?;
         Some(HouseLog {
             house,
             node,
@@ -302,7 +329,10 @@ impl LogReader {
             (λ takes. OnTrue takes (HasRead self.new (bodies ++ octets ∷ []))) }
     {
         let Some(image) = body.image else {
-            return Ok(self.is_new(body));
+            if body.text == b"new\n".as_slice() {
+                return Ok(self.is_new(body));
+            }
+            return self.take_turn(alloc, body);
         };
         if let Some(turn) = without(b"start\n", body.text) {
             return self.take_start(alloc, body, turn, image);
@@ -310,7 +340,7 @@ impl LogReader {
         if body.text.starts_with(b"segment ") {
             return self.goes_on(alloc, body, image);
         }
-        self.take_turn(alloc, body, image)
+        self.take_turn(alloc, body)
     }
 
     // Whether a record without an image is the first one of a process without a house.
@@ -355,7 +385,6 @@ impl LogReader {
             return Ok(false);
         }
         let started = octets_of(alloc, image)?;
-        self.image = octets_of(alloc, image)?;
         self.entries.push(LogEntry::Started(started))?;
         self.number = body.number;
         self.clock = 0;
@@ -374,29 +403,52 @@ impl LogReader {
         Ok(text)
     }
 
-    // Whether a record has the number, the clock and the image of the last entry.
-    fn is_last(&self, body: &Body<'_>, image: &[u8]) -> bool
+    // Whether a record has the number and the clock of the last entry.
+    fn is_last(&self, body: &Body<'_>) -> bool
         ensures { OnTrue result ((is_none self.now.made ≡ false)
-            × ((body.now.number ≡ self.now.number) × ((body.now.clock ≡ self.now.clock)
-            × (image.now ≡ self.now.image)))) }
+            × ((body.now.number ≡ self.now.number) × (body.now.clock ≡ self.now.clock))) }
     {
-        self.made.is_some()
-            && body.number == self.number
-            && body.clock == self.clock
-            && image == self.image.list()
+        self.made.is_some() && body.number == self.number && body.clock == self.clock
     }
 
-    // Whether this is the first record of a segment in the middle of a process.
-    fn goes_on(&self, alloc: Global, body: &Body<'_>, image: &[u8]) -> Result<bool, AllocError>
-        ensures read { (bodies : List (List ℕ)) (octets : List ℕ) → HasRead self.now bodies
-            → IsBody octets body.now.number body.now.clock body.now.text.now (Some image.now)
-            → IfOk result (λ goes. OnTrue goes (HasRead self.now (bodies ++ octets ∷ []))) }
+    // Gives an image to the last entry. Whether that has none yet, or this one.
+    fn show(&mut self, alloc: Global, image: &[u8]) -> Result<bool, AllocError>
+        ensures digest { self.new.digest ≡ self.old.digest }
+        ensures segments { self.new.segments ≡ self.old.segments }
+        ensures made { self.new.made ≡ self.old.made }
+        ensures shows { (m : Making') → IfOk result
+            (λ has. OnTrue has (Shows (told_of m self.old) image.now (told_of m self.new))) }
     {
-        if !self.is_last(body, image) {
+        let shown = octets_of(alloc, image)?;
+        let Some(last) = self.entries.pop() else {
+            let can = can_be(self.image.as_ref(), image);
+            if can {
+                self.image = Some(shown);
+            }
+            return Ok(can);
+        };
+        let can = can_be(last.image(), image);
+        let last = if can { last.with_image(shown) } else { last };
+        self.entries.push(last)?;
+        Ok(can)
+    }
+
+    // Takes the first record of a segment in the middle of a process.
+    fn goes_on(&mut self, alloc: Global, body: &Body<'_>, image: &[u8]) -> Result<bool, AllocError>
+        ensures digest { self.new.digest ≡ self.old.digest }
+        ensures segments { self.new.segments ≡ self.old.segments }
+        ensures read { (bodies : List (List ℕ)) (octets : List ℕ) → HasRead self.old bodies
+            → IsBody octets body.now.number body.now.clock body.now.text.now (Some image.now)
+            → IfOk result (λ goes. OnTrue goes (HasRead self.new (bodies ++ octets ∷ []))) }
+    {
+        if !self.is_last(body) {
             return Ok(false);
         }
         let text = self.segment_text(alloc)?;
-        Ok(text.as_slice() == body.text)
+        if text.as_slice() != body.text {
+            return Ok(false);
+        }
+        self.show(alloc, image)
     }
 
     // Takes the record of a turn: the first one makes the house.
@@ -404,13 +456,11 @@ impl LogReader {
         &mut self,
         alloc: Global,
         body: &Body<'_>,
-        image: &[u8],
     ) -> Result<bool, AllocError>
         ensures digest { self.new.digest ≡ self.old.digest }
         ensures segments { self.new.segments ≡ self.old.segments }
         ensures read { (bodies : List (List ℕ)) (octets : List ℕ) → HasRead self.old bodies
-            → IsBody octets body.now.number body.now.clock body.now.text.now (Some image.now)
-            → IfOk result (λ takes. OnTrue takes (HasRead self.new (bodies ++ octets ∷ []))) }
+            → IsDue octets body.now → IfOk result (λ takes. OnTrue takes (HasRead self.new (bodies ++ octets ∷ []))) }
     {
         if !self.is_due(body.number) {
             return Ok(false);
@@ -419,9 +469,9 @@ impl LogReader {
             return Ok(false);
         };
         if self.made.is_none() {
-            return self.take_making(alloc, body, &parts, image);
+            return self.take_making(alloc, body, &parts);
         }
-        self.push_turn(alloc, body, parts, image)
+        self.push_turn(alloc, body, parts)
     }
 
     // The house is made by a turn of these parts.
@@ -430,7 +480,6 @@ impl LogReader {
         alloc: Global,
         body: &Body<'_>,
         parts: &TurnText<'_>,
-        image: &[u8],
     ) -> Result<bool, AllocError>
         requires none { self.old.made ≡ None }
         requires due { body.now.number ≡ self.old.number + 1 }
@@ -439,17 +488,16 @@ impl LogReader {
         ensures digest { self.new.digest ≡ self.old.digest }
         ensures segments { self.new.segments ≡ self.old.segments }
         ensures read { (bodies : List (List ℕ)) (octets : List ℕ) → HasRead self.old bodies
-            → IsBody octets body.now.number body.now.clock body.now.text.now (Some image.now)
-            → IfOk result (λ takes. OnTrue takes (HasRead self.new (bodies ++ octets ∷ []))) }
+            → IsDue octets body.now → IfOk result (λ takes. OnTrue takes (HasRead self.new (bodies ++ octets ∷ []))) }
     {
         if body.clock != 0 {
             return Ok(false);
         }
-        let Some(made) = made_by(alloc, parts, image)? else {
+        let Some(made) = made_by(alloc, parts)? else {
             return Ok(false);
         };
         self.turn = Vec::from_slice(alloc, body.text)?;
-        self.image = octets_of(alloc, image)?;
+        self.image = image_copy(alloc, body.image)?;
         self.made = Some(made);
         self.number = body.number;
         self.clock = 0;
@@ -462,7 +510,6 @@ impl LogReader {
         alloc: Global,
         body: &Body<'_>,
         parts: TurnText<'_>,
-        image: &[u8],
     ) -> Result<bool, AllocError>
         requires some { is_none self.old.made ≡ false }
         requires due { body.now.number ≡ self.old.number + 1 }
@@ -471,14 +518,12 @@ impl LogReader {
         ensures digest { self.new.digest ≡ self.old.digest }
         ensures segments { self.new.segments ≡ self.old.segments }
         ensures read { (bodies : List (List ℕ)) (octets : List ℕ) → HasRead self.old bodies
-            → IsBody octets body.now.number body.now.clock body.now.text.now (Some image.now)
-            → IfOk result (λ takes. OnTrue takes (HasRead self.new (bodies ++ octets ∷ []))) }
+            → IsDue octets body.now → IfOk result (λ takes. OnTrue takes (HasRead self.new (bodies ++ octets ∷ []))) }
     {
-        let Some(turn) = turn_of(alloc, body.clock, parts, image)? else {
+        let Some(turn) = turn_of(alloc, body.clock, parts, body.image)? else {
             return Ok(false);
         };
         self.turn = Vec::from_slice(alloc, body.text)?;
-        self.image = octets_of(alloc, image)?;
         self.entries.push(LogEntry::Turned(turn))?;
         self.number = body.number;
         self.clock = body.clock;

@@ -1,9 +1,10 @@
-use Rattle.std.proofs.Common.{◌∙◌, arith, rules}
+use Rattle.std.proofs.Common.{refl, ◌∙◌, arith, rules}
 use Rattle.std.proofs.lemmas.Grind.{common_steps}
-use Rattle.house_logs.proofs.ReadingLemmas.{segment_done}
+use Rattle.house_logs.proofs.ReadingLemmas.{read_kept, segment_done}
 use Rattle.house_logs.proofs.reader.LogReader.read.Goals as goal
 
 pub returns-clause-read : goal.returns-clause-read
 returns-clause-read c bodies has =
     segment_done _ c.read_records.new.self _ bodies c.args.octets.now c.deref.result.now _ c.in-Some.number (c.in_ok-read_records.ensures.read bodies has)
-    c.in-Some-last_record.ensures (c.deref.ensures.value ∙ c.in_ok-title.ensures) (first_of (omega arith, search rules, grind (arith, common_steps))) (λ bs h. record { is = h.is })
+    c.in-Some-last_record.ensures (c.deref.ensures.value ∙ c.in_ok-title.ensures) (first_of (omega arith, search rules, grind (arith, common_steps)))
+    (λ bs h. read_kept c.read_records.new.self _ bs refl refl refl refl refl refl h)
