@@ -1,5 +1,6 @@
 pub mod LoggedEntries
 pub mod Explained
+pub mod Causes
 pub mod PrivateComparing
 pub mod PrivateConsole
 pub mod PrivateReplays
