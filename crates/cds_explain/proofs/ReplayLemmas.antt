@@ -19,7 +19,7 @@ use Rattle.cell_runs.specs.Entries.{Started, Turned}
 use Rattle.cell_runs.specs.LineAnswers.{answer_said}
 use Rattle.cell_runs.specs.Views.{image_in, is_turn, start_seen}
 use Rattle.house_directory.specs.HouseMessages.{numbers_of}
-use Rattle.house_logs.specs.declared.log.LoggedTurn as turns
+use Rattle.house_logs.specs.declared.log.LoggedTurn.{LoggedTurn}
 use Rattle.house_logs.specs.declared.order.LoggedOrder.{LoggedOrder}
 use Rattle.house_logs.specs.declared.order.LoggedOrder.TheVariants as order
 use Rattle.script_answers.specs.Texts.{answer_line}
@@ -29,7 +29,7 @@ use Rattle.entry_lines.specs.declared.command.Said.{Said}
 use Rattle.entry_lines.specs.EntryCommands.{IsCommandOf}
 use Rattle.entry_lines.specs.SaidLines.{SaysCommand}
 use Rattle.house_logs.specs.declared.log.LogEntry.TheVariants as logged
-use Rattle.cds_explain.specs.LoggedEntries.{LoggedStart, LoggedTurn, turn_of}
+use Rattle.cds_explain.specs.LoggedEntries.{StartIs, TurnIs, turn_of}
 use Rattle.cds_explain.specs.PrivateComparing.{ArePostedAfter, DoesTurn, IsOrdered, own_of}
 use Rattle.cds_explain.specs.PrivateConsole.{HasMembers, IsListedAs, IsReady}
 use Rattle.cds_explain.specs.PrivateReplays.{DoesEntry, DoesQuietly, HasDone, HasStepped}
@@ -113,7 +113,7 @@ start_done old mid new cs h line image has stepped text lines replayer says same
   seen =
       ap (start_seen h.0 o.cell) (done_only o.answer stepped.step.answer)
       ∙ ap (λ (octets : List ℕ). Some (h.0, Started octets)) same;
-  logged = LoggedStart image;
+  logged = StartIs image;
 }
   where
     o : Outcome
@@ -163,7 +163,7 @@ ordered g h (order.Epoch d k list) serial c before is ready turn has lists = rec
         ∙ lists.1
 
 -- a line more, and its command, which is a turn of the house h
-pub turn_done : (old mid new : Replay) (cs : List model.Command) (c : Command) (line : List ℕ) (h : HouseNo) (t : turns.LoggedTurn) (serial : ℕ) (before : List Member) (a told : Answer)
+pub turn_done : (old mid new : Replay) (cs : List model.Command) (c : Command) (line : List ℕ) (h : HouseNo) (t : LoggedTurn) (serial : ℕ) (before : List Member) (a told : Answer)
     → HasDone old cs → HasStepped cs (step_of c) a old mid → new.text.items ≡ mid.text.items ++ (line ++ 10 ∷ []) → new.lines ≡ mid.lines
     → new.replayer ≡ mid.replayer → SaysCommand line c → IsCommandOf h t.order serial c → IsReady (replay cs) h.0 t.order serial
     → HasMembers (replay cs) t.order before → IsListedAs (outcome (replay cs) (step_of c)).cell t.order before → own_of a ≡ Some told
@@ -175,7 +175,7 @@ turn_done old mid new cs c line h t serial before a told has stepped text lines 
   has_done = done_more old mid new cs c line a has stepped text lines replayer says;
   entry = Turned (turn_of t (image_in o.cell h.0));
   seen = order_seen g h t.order serial c is (ordered g h t.order serial c before is ready own.0 members lists) ∙ turn_is g h.0 t o does clock;
-  logged = LoggedTurn t (image_in o.cell h.0) image;
+  logged = TurnIs t (image_in o.cell h.0) image;
 }
   where
     g : Cell

@@ -42,8 +42,8 @@ turn_of t image =
 -- an entry is that of a journal, in all that the journal has of it: it need not have the image
 -- after a turn
 pub data IsLogged : LogEntry → Entry → Type 0 where
-  LoggedStart : (image : List ℕ) → IsLogged (entry.Started image) (Started image)
-  LoggedTurn : (t : LoggedTurn) (image : List ℕ) → IfSome t.image (λ i. image ≡ i)
+  StartIs : (image : List ℕ) → IsLogged (entry.Started image) (Started image)
+  TurnIs : (t : LoggedTurn) (image : List ℕ) → IfSome t.image (λ i. image ≡ i)
       → IsLogged (entry.Turned t) (Turned (turn_of t image))
 
 -- entries are those of a journal, one after the other

@@ -1,5 +1,5 @@
 -- What was read of a journal, and one record more.
-use Rattle.std.proofs.Common.{◌≡◌, ℕ, ◌+◌, false, List, [], ◌∷◌, ◌++◌, map, Option, Some, None, refl, sym, ◌∙◌, ap, subst, append_assoc}
+use Rattle.std.proofs.Common.{◌≡◌, ℕ, ◌+◌, false, List, [], ◌∷◌, ◌++◌, map, drop, Option, Some, None, refl, sym, ◌∙◌, ap, subst, append_assoc, append-nil}
 use Rattle.std.specs.Prelude.{Ok, codes, decimal, is_none}
 use Rattle.cell_script.specs.Words.{words_of}
 use Rattle.house_entries.specs.Bodies.{IsBody, head_of}
@@ -13,8 +13,8 @@ use Rattle.house_logs.specs.declared.reader.LogReader.{LogReader}
 use Rattle.house_logs.specs.declared.text.TurnText.{TurnText}
 use Rattle.house_journal.specs.JournalRecords.{images}
 use Rattle.house_logs.specs.Logs.{IsLogOf, body_in, making_text}
-use Rattle.house_logs.specs.Reads.{HasRead, HasReadOf, IsMadeBy, IsTurnBy, ReadsOn, ReadsRecords, told_of}
-use Rattle.house_logs.specs.Records.{AreRecords, Follows, SaysTurn, SegmentRecord, Shows, StartRecord, Told, TurnRecord, after_start, after_turn}
+use Rattle.house_logs.specs.Reads.{HasRead, HasReadOf, HasReadPart, IsMadeBy, IsTurnBy, ReadsFront, ReadsOn, ReadsRecords, told_of}
+use Rattle.house_logs.specs.Records.{AreRecords, Follows, SaysTurn, SegmentRecord, Shows, StartRecord, Told, TurnRecord, after_start, after_turn, running_text}
 use Rattle.house_logs.specs.TurnTexts.{turn_text}
 use Rattle.house_segments.specs.Reading.{IsLast}
 
@@ -50,10 +50,10 @@ more_read (Some m) r new bodies octets has some next = added bodies octets (told
 -- the house is made
 pub making_read : (o : Option Making) (r new : LogReader) (bodies : List (List ℕ)) (octets line : List ℕ) (m : Making) → HasReadOf o r bodies → o ≡ None
     → said_in (words_of line) ≡ Ok (Some (asks.House m.house m.node)) → new.number ≡ r.number + 1 → new.clock ≡ 0
-    → new.turn.items ≡ making_text line → new.entries.items ≡ r.entries.items → IsBody octets (r.number + 1) 0 (making_text line) new.image
+    → new.turn.items ≡ making_text line → new.entries.items ≡ r.entries.items → new.image ≡ None → IsBody octets (r.number + 1) 0 (making_text line) None
     → HasReadOf (Some m) new (bodies ++ octets ∷ [])
-making_read (Some n) r new bodies octets line m has none says number clock turn es is = absurd (cc (none))
-making_read None r new bodies octets line m has none says number clock turn es is = record {
+making_read (Some n) r new bodies octets line m has none says number clock turn es bare is = absurd (cc (none))
+making_read None r new bodies octets line m has none says number clock turn es bare is = record {
   news = bodies;
   first = octets;
   others = [];
@@ -63,7 +63,8 @@ making_read None r new bodies octets line m has none says number clock turn es i
   begins = record {
     line = line;
     says = says;
-    body_is = subst (λ (n : ℕ). IsBody octets n 0 (making_text line) new.image) first is;
+    body_is = subst (λ (n : ℕ). IsBody octets n 0 (making_text line) None) first is;
+    bare = bare;
     alone = es ∙ has.2;
     number = number ∙ first;
     clock = clock;
@@ -106,27 +107,44 @@ took_start r new bodies octets image turn number clock has is some due timed las
       turn = turned j;
     })
 
+-- the text of such a record, by its line
+segment_says : (text rest turn : List ℕ) (number : ℕ) (running : List (List ℕ)) → text ≡ (codes "segment " ++ (decimal number ++ 10 ∷ [])) ++ rest
+    → rest ≡ running_text running ++ turn → text ≡ codes "segment " ++ (decimal number ++ (10 ∷ (running_text running ++ turn)))
+segment_says text rest turn number running is says =
+    is
+    ∙ ap (λ (r : List ℕ). (codes "segment " ++ (decimal number ++ 10 ∷ [])) ++ r) says
+    ∙ append_assoc (codes "segment ") (decimal number ++ 10 ∷ []) (running_text running ++ turn)
+    ∙ ap (λ (l : List ℕ). codes "segment " ++ l) (append_assoc (decimal number) (10 ∷ []) (running_text running ++ turn))
+
 -- the first record of a segment in the middle of a process
-pub took_segment : (r new : LogReader) (bodies : List (List ℕ)) (octets image text : List ℕ) (number clock : ℕ) → HasRead r bodies
+pub took_segment : (r new : LogReader) (bodies : List (List ℕ)) (octets image text line rest turn : List ℕ) (number clock : ℕ) (running : List (List ℕ)) → HasRead r bodies
     → IsBody octets number clock text (Some image) → is_none r.made ≡ false → number ≡ r.number → clock ≡ r.clock
-    → codes "segment " ++ (decimal r.number ++ (10 ∷ r.turn.items)) ≡ text → new.made ≡ r.made
-    → ((m : Making) → Shows (told_of m r) image (told_of m new)) → HasRead new (bodies ++ octets ∷ [])
-took_segment r new bodies octets image text number clock has is some due timed says made shows =
+    → line ≡ codes "segment " ++ (decimal r.number ++ 10 ∷ []) → text ≡ line ++ rest → rest ≡ running_text running ++ turn → turn ≡ r.turn.items
+    → new.made ≡ r.made → ((m : Making) → Shows (told_of m r) image (told_of m new)) → HasRead new (bodies ++ octets ∷ [])
+took_segment r new bodies octets image text line rest turn number clock running has is some due timed begins parts runs same made shows =
     read_with new r.made (bodies ++ octets ∷ []) made
-    (more_read r.made r new bodies octets has.is some (λ m. SegmentRecord image body (shows m)))
+    (more_read r.made r new bodies octets has.is some (λ m. SegmentRecord image (record { running = running; is = body }) (shows m)))
   where
-    body : IsBody octets r.number r.clock (codes "segment " ++ (decimal r.number ++ (10 ∷ r.turn.items))) (Some image)
+    whole : List ℕ
+    whole = codes "segment " ++ (decimal r.number ++ (10 ∷ (running_text running ++ r.turn.items)))
+
+    says : text ≡ whole
+    says =
+        segment_says text rest turn r.number running (parts ∙ ap (λ (l : List ℕ). l ++ rest) begins) runs
+        ∙ ap (λ (t : List ℕ). codes "segment " ++ (decimal r.number ++ (10 ∷ (running_text running ++ t)))) same
+
+    body : IsBody octets r.number r.clock whole (Some image)
     body =
-        subst (λ (n : ℕ). IsBody octets n r.clock (codes "segment " ++ (decimal r.number ++ (10 ∷ r.turn.items))) (Some image)) due
-        (subst (λ (k : ℕ). IsBody octets number k (codes "segment " ++ (decimal r.number ++ (10 ∷ r.turn.items))) (Some image)) timed
-        (subst (λ (t : List ℕ). IsBody octets number clock t (Some image)) (sym says) is))
+        subst (λ (n : ℕ). IsBody octets n r.clock whole (Some image)) due
+        (subst (λ (k : ℕ). IsBody octets number k whole (Some image)) timed
+        (subst (λ (t : List ℕ). IsBody octets number clock t (Some image)) says is))
 
 -- a turn
-pub took_turn : (r new : LogReader) (bodies : List (List ℕ)) (octets text : List ℕ) (image : Option (List ℕ)) (number clock : ℕ) (parts : TurnText) (t : LoggedTurn)
-    → HasRead r bodies → IsBody octets number clock text image → IsTurnBy parts clock image t → is_none r.made ≡ false → number ≡ r.number + 1
+pub took_turn : (r new : LogReader) (bodies : List (List ℕ)) (octets text : List ℕ) (number clock : ℕ) (parts : TurnText) (t : LoggedTurn)
+    → HasRead r bodies → IsBody octets number clock text None → IsTurnBy parts clock t → is_none r.made ≡ false → number ≡ r.number + 1
     → text ≡ turn_text parts.line.now parts.posts.items parts.answer.now → new.made ≡ r.made → new.image ≡ r.image → new.number ≡ number
     → new.clock ≡ clock → new.turn.items ≡ text → new.entries.items ≡ r.entries.items ++ entry.Turned t ∷ [] → HasRead new (bodies ++ octets ∷ [])
-took_turn r new bodies octets text image number clock parts t has is by some due says made kept numbered timed turned es =
+took_turn r new bodies octets text number clock parts t has is by some due says made kept numbered timed turned es =
     read_with new r.made (bodies ++ octets ∷ []) made (more_read r.made r new bodies octets has.is some one)
   where
     line : List ℕ
@@ -135,15 +153,14 @@ took_turn r new bodies octets text image number clock parts t has is by some due
     same : text ≡ turn_text line t.posts.items t.answer
     same = says ∙ (λ j. turn_text line (sym by.posts j).items (sym by.answer j))
 
-    body : IsBody octets (r.number + 1) t.clock (turn_text line t.posts.items t.answer) t.image
+    body : IsBody octets (r.number + 1) t.clock (turn_text line t.posts.items t.answer) None
     body =
-        subst (λ (n : ℕ). IsBody octets n t.clock (turn_text line t.posts.items t.answer) t.image) due
-        (subst (λ (k : ℕ). IsBody octets number k (turn_text line t.posts.items t.answer) t.image) (sym by.clock_is)
-        (subst (λ (x : List ℕ). IsBody octets number clock x t.image) same
-        (subst (λ (i : Option (List ℕ)). IsBody octets number clock text i) (sym by.image_is) is)))
+        subst (λ (n : ℕ). IsBody octets n t.clock (turn_text line t.posts.items t.answer) None) due
+        (subst (λ (k : ℕ). IsBody octets number k (turn_text line t.posts.items t.answer) None) (sym by.clock_is)
+        (subst (λ (x : List ℕ). IsBody octets number clock x None) same is))
 
     one : (m : Making) → Follows (told_of m r) octets (told_of m new)
-    one m = TurnRecord line t (record { says = by.says }) body (λ j. record {
+    one m = TurnRecord line t (record { says = by.says }) (record { is = body; bare = by.bare }) (λ j. record {
       house = m.house;
       node = m.node;
       image = kept j;
@@ -154,23 +171,22 @@ took_turn r new bodies octets text image number clock parts t has is by some due
     })
 
 -- the turn that makes the house
-pub took_making : (r new : LogReader) (bodies : List (List ℕ)) (octets text : List ℕ) (image : Option (List ℕ)) (number clock : ℕ) (parts : TurnText) (m : Making)
-    → HasRead r bodies → IsBody octets number clock text image → IsMadeBy parts m → r.made ≡ None → number ≡ r.number + 1 → clock ≡ 0
-    → text ≡ turn_text parts.line.now parts.posts.items parts.answer.now → new.made ≡ Some m → new.image ≡ image → new.number ≡ number
+pub took_making : (r new : LogReader) (bodies : List (List ℕ)) (octets text : List ℕ) (number clock : ℕ) (parts : TurnText) (m : Making)
+    → HasRead r bodies → IsBody octets number clock text None → IsMadeBy parts m → r.made ≡ None → number ≡ r.number + 1 → clock ≡ 0
+    → text ≡ turn_text parts.line.now parts.posts.items parts.answer.now → new.made ≡ Some m → new.image ≡ None → new.number ≡ number
     → new.clock ≡ 0 → new.turn.items ≡ text → new.entries.items ≡ r.entries.items → HasRead new (bodies ++ octets ∷ [])
-took_making r new bodies octets text image number clock parts m has is by none due timed says made kept numbered timed' turned es =
+took_making r new bodies octets text number clock parts m has is by none due timed says made bare numbered timed' turned es =
     read_with new (Some m) (bodies ++ octets ∷ []) made
-    (making_read r.made r new bodies octets parts.line.now m has.is none by.says (numbered ∙ due) timed' (turned ∙ same) es body)
+    (making_read r.made r new bodies octets parts.line.now m has.is none by.says (numbered ∙ due) timed' (turned ∙ same) es bare body)
   where
     same : text ≡ making_text parts.line.now
     same = says ∙ (λ j. turn_text parts.line.now (by.posts j) (by.answer j))
 
-    body : IsBody octets (r.number + 1) 0 (making_text parts.line.now) new.image
+    body : IsBody octets (r.number + 1) 0 (making_text parts.line.now) None
     body =
-        subst (λ (n : ℕ). IsBody octets n 0 (making_text parts.line.now) new.image) due
-        (subst (λ (k : ℕ). IsBody octets number k (making_text parts.line.now) new.image) timed
-        (subst (λ (x : List ℕ). IsBody octets number clock x new.image) same
-        (subst (λ (i : Option (List ℕ)). IsBody octets number clock text i) (sym kept) is)))
+        subst (λ (n : ℕ). IsBody octets n 0 (making_text parts.line.now) None) due
+        (subst (λ (k : ℕ). IsBody octets number k (making_text parts.line.now) None) timed
+        (subst (λ (x : List ℕ). IsBody octets number clock x None) same is))
 
 -- ---- records, one after the other
 
@@ -185,19 +201,56 @@ pub record HasReadSome (octets rest : List ℕ) (bodies : List (List ℕ)) (r : 
   pub split : map body_in (images octets) ≡ done ++ map body_in (images rest)
   pub read : HasRead r (bodies ++ done)
 
+-- nothing of a part was read yet
+pub read_none : (r : LogReader) (bodies : List (List ℕ)) (octets : List ℕ) → HasRead r bodies → HasReadPart octets bodies r
+read_none r bodies octets has = record {
+  front = [];
+  others = map body_in (images octets);
+  parts = refl;
+  read = subst (HasRead r) (sym (append-nil bodies)) has;
+}
+
+-- some records were read
+pub read_some : (r : LogReader) (bodies : List (List ℕ)) (octets rest : List ℕ) → HasReadSome octets rest bodies r → HasReadPart octets bodies r
+read_some r bodies octets rest has = record {
+  front = has.done;
+  others = map body_in (images rest);
+  parts = has.split;
+  read = has.read;
+}
+
+-- records after the head of a segment
+pub read_behind : (r : LogReader) (bodies : List (List ℕ)) (head octets rest : List ℕ) → images octets ≡ head ∷ images rest → HasReadPart rest bodies r
+    → ReadsFront bodies octets r
+read_behind r bodies head octets rest is has = record {
+  front = has.front;
+  others = has.others;
+  parts = ap (λ (l : List (List ℕ)). map body_in (drop 1 l)) is ∙ has.parts;
+  read = has.read;
+}
+
+-- no record of a segment was read
+pub front_none : (r : LogReader) (bodies : List (List ℕ)) (octets : List ℕ) → HasRead r bodies → ReadsFront bodies octets r
+front_none r bodies octets has = record {
+  front = [];
+  others = map body_in (drop 1 (images octets));
+  parts = refl;
+  read = subst (HasRead r) (sym (append-nil bodies)) has;
+}
+
 -- what was read does not know of the digest and the number of the segment
-pub read_kept : (read new : LogReader) (bodies : List (List ℕ)) → new.made ≡ read.made → new.image ≡ read.image → new.entries ≡ read.entries
+pub read_kept : (read new : LogReader) (bodies : List (List ℕ)) → new.made ≡ read.made → new.image ≡ read.image → new.entries.items ≡ read.entries.items
     → new.number ≡ read.number → new.clock ≡ read.clock → new.turn ≡ read.turn → HasRead read bodies → HasRead new bodies
 read_kept read new bodies made image es number clock turn has =
     read_with new read.made bodies made (by read.made has.is)
   where
     by : (o : Option Making) → HasReadOf o read bodies → HasReadOf o new bodies
-    by None is = (is.0, number ∙ is.1, ap (λ (v : _). v.items) es ∙ is.2)
+    by None is = (is.0, number ∙ is.1, es ∙ is.2)
     by (Some m) is = subst (IsLogOf bodies) (λ j. record {
       house = m.house;
       node = m.node;
       image = sym image j;
-      entries = (sym es j).items;
+      entries = sym es j;
       number = sym number j;
       clock = sym clock j;
       turn = (sym turn j).items;

@@ -1,5 +1,7 @@
 -- What a reader of a journal has read.
-use Rattle.std.specs.Prelude.{◌≡◌, ℕ, ◌+◌, List, [], ◌∷◌, ◌++◌, All, map, Option, Some, None, Ok, codes, option_copied}
+use Rattle.std.specs.Prelude.{◌≡◌, ℕ, ◌+◌, List, [], ◌∷◌, ◌++◌, All, map, drop, Option, Some, None, Result, Ok, Err, codes, option_copied}
+use Rattle.cds_stamps.specs.declared.alloc_or.AllocOr.{AllocOr}
+use Rattle.cds_stamps.specs.declared.alloc_or.AllocOr.TheVariants.{Fault, OutOfMemory}
 use Rattle.cell_script.specs.Words.{words_of}
 use Rattle.house_entries.specs.Bodies.{IsBody}
 use Rattle.house_entries.specs.declared.body.Body.{Body}
@@ -51,18 +53,41 @@ pub record ReadsRecords (bodies : List (List ℕ)) (octets before : List ℕ) (n
   pub follows : before_in head ≡ before
   pub read : HasRead new (bodies ++ map body_in others)
 
+-- the first records of octets after their head were read, and are those of the house
+pub record ReadsFront (bodies : List (List ℕ)) (octets : List ℕ) (new : LogReader) : Type 0 where
+  pub front : List (List ℕ)
+  pub others : List (List ℕ)
+  pub parts : map body_in (drop 1 (images octets)) ≡ front ++ others
+  pub read : HasRead new (bodies ++ front)
+
+-- some records at the front of octets were read, and are those of the house
+pub record HasReadPart (octets : List ℕ) (bodies : List (List ℕ)) (new : LogReader) : Type 0 where
+  pub front : List (List ℕ)
+  pub others : List (List ℕ)
+  pub parts : map body_in (images octets) ≡ front ++ others
+  pub read : HasRead new (bodies ++ front)
+
+-- this holds of the fault, if it is one
+abbrev pub OfFault : {F : Type 0} → AllocOr F → (F → Type 0) → Type 0
+OfFault (Fault f) P = P f
+OfFault OutOfMemory P = Unit {0}
+
+-- of a call that ended by a fault
+abbrev pub IfFault : {T F : Type 0} → Result T (AllocOr F) → (F → Type 0) → Type 0
+IfFault (Ok x) P = Unit {0}
+IfFault (Err e) P = OfFault e P
+
 -- the octets of a record are these fields
 abbrev pub IsDue : List ℕ → Body → Type 0
 IsDue octets body = IsBody octets body.number body.clock body.text.now (option_copied body.image)
 
--- a turn with the parts of a text, at a clock, and with this image, if the record has one
-pub record IsTurnBy (parts : TurnText) (clock : ℕ) (image : Option (List ℕ)) (t : LoggedTurn)
-    : Type 0 where
+-- a turn with the parts of a text, at a clock
+pub record IsTurnBy (parts : TurnText) (clock : ℕ) (t : LoggedTurn) : Type 0 where
   pub says : said_in (words_of parts.line.now) ≡ Ok (Some (line_of t.order))
   pub clock_is : t.clock ≡ clock
   pub posts : t.posts ≡ parts.posts
   pub answer : t.answer ≡ parts.answer.now
-  pub image_is : t.image ≡ image
+  pub bare : t.image ≡ None
 
 -- a house that the parts of a text make
 pub record IsMadeBy (parts : TurnText) (m : Making) : Type 0 where

@@ -1,5 +1,6 @@
 -- What the records of a house say, one after the other.
-use Rattle.std.specs.Prelude.{◌≡◌, ℕ, ◌+◌, List, [], ◌∷◌, ◌++◌, Option, Some, Ok, IfSome, codes, decimal}
+use Rattle.std.specs.Prelude.{◌≡◌, ℕ, ◌+◌, List, [], ◌∷◌, ◌++◌, Option, Some, None, Ok, IfSome, codes, decimal}
+use Rattle.std.specs.List.{flat_map}
 use Rattle.cds_stamps.specs.declared.numbers.HouseNo.{HouseNo}
 use Rattle.cell_script.specs.Words.{words_of}
 use Rattle.house_entries.specs.Bodies.{IsBody}
@@ -50,9 +51,10 @@ after_start s image =
       clock = 0;
     }
 
--- the body of a record of a turn with this line
-abbrev pub IsTurnBody : Told → (body line : List ℕ) → LoggedTurn → Type 0
-IsTurnBody s body line t = IsBody body (s.number + 1) t.clock (after_turn s line t).turn t.image
+-- the body of a record of a turn with this line; no image follows
+pub record IsTurnBody (s : Told) (body line : List ℕ) (t : LoggedTurn) : Type 0 where
+  pub is : IsBody body (s.number + 1) t.clock (after_turn s line t).turn None
+  pub bare : t.image ≡ None
 
 -- the body of a record of a start with this image
 abbrev pub IsStartBody : Told → (body image : List ℕ) → Type 0
@@ -60,13 +62,20 @@ IsStartBody s body image = IsBody body (s.number + 1) 0 (start_text s) (Some ima
 
 -- ---- segments
 
--- the text of the first record of a segment in the middle of a process
-abbrev pub segment_text : Told → List ℕ
-segment_text s = codes "segment " ++ (decimal s.number ++ (10 ∷ s.turn))
+-- the lines of skulks that run, each by what comes after its first word
+abbrev pub running_text : List (List ℕ) → List ℕ
+running_text = flat_map (λ words. codes "running " ++ (words ++ 10 ∷ []))
+
+-- the text of the first record of a segment in the middle of a process: the skulks that run, and the
+-- last turn once more
+abbrev pub segment_text : Told → (running : List (List ℕ)) → List ℕ
+segment_text s running =
+    codes "segment " ++ (decimal s.number ++ (10 ∷ (running_text running ++ s.turn)))
 
 -- the body of such a record, with the image of the house
-abbrev pub IsSegmentBody : Told → (body image : List ℕ) → Type 0
-IsSegmentBody s body image = IsBody body s.number s.clock (segment_text s) (Some image)
+pub record IsSegmentBody (s : Told) (body image : List ℕ) : Type 0 where
+  pub running : List (List ℕ)
+  pub is : IsBody body s.number s.clock (segment_text s running) (Some image)
 
 -- the image of an entry, if a record shows it
 abbrev pub image_of : LogEntry → Option (List ℕ)

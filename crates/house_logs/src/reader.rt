@@ -1,25 +1,25 @@
 // The journal of a house, read segment by segment.
 ghost use Rattle.std.specs.Prelude.{◌≡◌, ◌+◌, ◌++◌, ◌∷◌, [], ℕ, List, false, Ok, Some, None, All, replicate, IfOk, IfSome, OnOk, MatchOption, codes, decimal, is_none, map, option_copied};
-ghost use Rattle.std.specs.Bool.{OnTrue};
+ghost use Rattle.std.specs.Bool.{OnFalse, OnTrue};
 ghost use Rattle.cell_script.specs.Words.{words_of};
 ghost use Rattle.house_entries.specs.Bodies.{IsBody};
 ghost use Rattle.house_journal.specs.JournalRecords.{images};
 ghost use Rattle.house_lines.specs.LineRows.{said_in};
 ghost use Rattle.house_logs.specs.Logs.{IsJournalOf, IsNew, before_in, body_in};
 ghost use Rattle.house_logs.specs.declared.log.Making.{Making as Making'};
-ghost use Rattle.house_logs.specs.Reads.{HasRead, IsDue, IsMadeBy, IsTurnBy, ReadsOn, ReadsRecords, told_of};
+ghost use Rattle.house_logs.specs.Reads.{HasRead, HasReadPart, IfFault, IsDue, IsMadeBy, IsTurnBy, OfFault, ReadsFront, ReadsOn, ReadsRecords, told_of};
 ghost use Rattle.house_logs.specs.Records.{CanBe, Shows};
 ghost use Rattle.house_logs.specs.TurnTexts.{turn_text};
 
 use crate::fault::LogFault;
 use crate::log::{HouseLog, LogEntry, LoggedTurn, Making};
 use crate::order::{LoggedOrder, order_in};
-use crate::text::{TurnText, turn_in};
+use crate::text::{TurnText, after_running, turn_in, without};
 use cds_stamps::AllocOr;
 use cell_script::Octets;
 use house_entries::{Body, head_octets, read_body};
 use house_lines::{HouseLine, parse_house_line};
-use house_segments::{DIGEST, first_record, last_record};
+use house_segments::{DIGEST, first_record, last_record, unsealed};
 use script_answers::push_number;
 use std::alloc::{AllocError, Global};
 
@@ -43,16 +43,6 @@ fn octets_of(alloc: Global, octets: &[u8]) -> Result<Octets, AllocError>
     ensures { IfOk result (λ o. o ≡ octets.now) }
 {
     Ok(Octets::of(Vec::from_slice(alloc, octets)?))
-}
-
-// A copy of an image, if there is one.
-fn image_copy(alloc: Global, image: Option<&[u8]>) -> Result<Option<Octets>, AllocError>
-    ensures { IfOk result (λ o. o ≡ option_copied image.entry) }
-{
-    match image {
-        Some(octets) => Ok(Some(octets_of(alloc, octets)?)),
-        None => Ok(None),
-    }
 }
 
 // Whether no image is known, or this one.
@@ -85,29 +75,13 @@ fn kept_line(alloc: Global, line: &[u8], order: &LoggedOrder) -> Result<Octets, 
     }
 }
 
-// What a text is after these octets, if it begins with them.
-fn without<'a>(front: &[u8], text: &'a [u8]) -> Option<&'a [u8]>
-    ensures { IfSome result (λ rest. text.now ≡ front.now ++ rest.now) }
-{
-    if text.len() < front.len() {
-        return None;
-    }
-    let (begin, rest) = text.split_at(front.len());
-    if begin != front {
-        return None;
-    }
-    Some(rest)
-}
-
 // The turn of these parts, if its line is one of a turn.
 fn turn_of(
     alloc: Global,
     clock: u64,
     parts: TurnText<'_>,
-    image: Option<&[u8]>,
 ) -> Result<Option<LoggedTurn>, AllocError>
-    ensures { IfOk result
-        (λ o. IfSome o (IsTurnBy parts.entry clock (option_copied image.entry))) }
+    ensures { IfOk result (λ o. IfSome o (IsTurnBy parts.entry clock)) }
 {
     let TurnText {
         line,
@@ -126,7 +100,7 @@ fn turn_of(
         order,
         posts,
         answer: octets_of(alloc, answer)?,
-        image: image_copy(alloc, image)?,
+        image: None,
     }))
 }
 
@@ -198,18 +172,21 @@ impl LogReader {
         })
     }
 
-    /// Reads the octets of the next segment.
+    /// Reads the octets of the next segment. Where they are none, the records before the first fault
+    /// are read.
     pub fn read(&mut self, alloc: Global, octets: &[u8]) -> Result<(), AllocOr<LogFault>>
         ensures segments { OnOk result (self.new.segments ≡ self.old.segments + 1) }
         ensures read { (bodies : List (List ℕ)) → HasRead self.old bodies
             → OnOk result (ReadsOn bodies octets.now self.old self.new) }
+        ensures stopped { (bodies : List (List ℕ)) → HasRead self.old bodies
+            → IfFault result (λ fault. ReadsFront bodies octets.now self.new) }
     {
         let Some(number) = self.segments.checked_add(1) else {
-            return Err(AllocOr::Fault(LogFault::Damaged(self.segments)));
+            return Err(AllocOr::Fault(LogFault::NotNext(self.segments)));
         };
         let title = head_octets(alloc, number, b"")?;
         let Some(last) = last_record(&title, octets) else {
-            return Err(AllocOr::Fault(LogFault::Damaged(number)));
+            return Err(self.read_front(alloc, number, &title, octets));
         };
         self.read_records(alloc, number, octets)?;
         self.digest = last.digest;
@@ -228,9 +205,11 @@ impl LogReader {
         ensures segments { self.new.segments ≡ self.old.segments }
         ensures read { (bodies : List (List ℕ)) → HasRead self.old bodies
             → OnOk result (ReadsRecords bodies octets.now self.old.digest self.new) }
+        ensures stopped { (bodies : List (List ℕ)) → HasRead self.old bodies
+            → IfFault result (λ fault. ReadsFront bodies octets.now self.new) }
     {
         let Some((head, rest)) = first_record(octets) else {
-            return Err(AllocOr::Fault(LogFault::Damaged(number)));
+            return Err(AllocOr::Fault(LogFault::Damaged(number, 1)));
         };
         if !self.is_next(head) {
             return Err(AllocOr::Fault(LogFault::NotNext(number)));
@@ -249,6 +228,8 @@ impl LogReader {
         ensures segments { self.new.segments ≡ self.old.segments }
         ensures read { (bodies : List (List ℕ)) → HasRead self.old bodies
             → OnOk result (HasRead self.new (bodies ++ map body_in (images octets.now))) }
+        ensures stopped { (bodies : List (List ℕ)) → HasRead self.old bodies
+            → IfFault result (λ fault. HasReadPart octets.now bodies self.new) }
     {
         let mut rest = octets;
         let mut place: u64 = 1;
@@ -258,6 +239,70 @@ impl LogReader {
             rest = behind;
         }
         Ok(())
+    }
+
+    // Reads the records at the front of a segment that is damaged. The fault of the first one that is
+    // none, or that does not follow.
+    fn read_front(
+        &mut self,
+        alloc: Global,
+        number: u64,
+        title: &[u8],
+        octets: &[u8],
+    ) -> AllocOr<LogFault>
+        ensures digest { self.new.digest ≡ self.old.digest }
+        ensures segments { self.new.segments ≡ self.old.segments }
+        ensures read { (bodies : List (List ℕ)) → HasRead self.old bodies
+            → OfFault result (λ fault. ReadsFront bodies octets.now self.new) }
+    {
+        let Some((head, rest)) = first_record(octets) else {
+            return AllocOr::Fault(LogFault::Damaged(number, 1));
+        };
+        if head.starts_with(b"cdshouse journal 1 ") {
+            return AllocOr::Fault(LogFault::OtherVersion(number));
+        }
+        let (front, _) = octets.split_at(octets.len() - rest.len());
+        let Some(first) = last_record(title, front) else {
+            return AllocOr::Fault(LogFault::Damaged(number, 1));
+        };
+        if !self.is_next(head) {
+            return AllocOr::Fault(LogFault::NotNext(number));
+        }
+        match self.read_chain(alloc, number, first.digest, rest) {
+            Ok(place) => AllocOr::Fault(LogFault::Damaged(number, place)),
+            Err(fault) => fault,
+        }
+    }
+
+    // Reads the records at the front of octets that are a chain after this digest. The place of the
+    // first one that is none.
+    fn read_chain(
+        &mut self,
+        alloc: Global,
+        number: u64,
+        before: [u8; DIGEST],
+        octets: &[u8],
+    ) -> Result<u64, AllocOr<LogFault>>
+        ensures digest { self.new.digest ≡ self.old.digest }
+        ensures segments { self.new.segments ≡ self.old.segments }
+        ensures read { (bodies : List (List ℕ)) → HasRead self.old bodies
+            → OnOk result (HasReadPart octets.now bodies self.new) }
+        ensures stopped { (bodies : List (List ℕ)) → HasRead self.old bodies
+            → IfFault result (λ fault. HasReadPart octets.now bodies self.new) }
+    {
+        let mut rest = octets;
+        let mut digest = before;
+        let mut place: u64 = 1;
+        'records: while let Some((record, behind)) = first_record(rest) {
+            place = place.saturating_add(1);
+            let Some(next) = unsealed(&digest, record) else {
+                return Ok(place);
+            };
+            self.read_record(alloc, number, place, record)?;
+            digest = next.digest;
+            rest = behind;
+        }
+        Ok(place.saturating_add(1))
     }
 
     // Whether the head of a segment names the digest of the last record that was read.
@@ -284,6 +329,8 @@ impl LogReader {
         ensures segments { self.new.segments ≡ self.old.segments }
         ensures read { (bodies : List (List ℕ)) → HasRead self.old bodies
             → OnOk result (HasRead self.new (bodies ++ body_in sealed.now ∷ [])) }
+        ensures stopped { (bodies : List (List ℕ)) → HasRead self.old bodies
+            → IfFault result (λ fault. HasRead self.new bodies) }
     {
         if sealed.len() < DIGEST {
             return Err(AllocOr::Fault(LogFault::BadRecord(segment, place)));
@@ -293,7 +340,7 @@ impl LogReader {
             return Err(AllocOr::Fault(LogFault::BadRecord(segment, place)));
         };
         if let Some(due) = self.other_number(&body) {
-            return Err(AllocOr::Fault(LogFault::NotDue(segment, body.number, due)));
+            return Err(AllocOr::Fault(LogFault::NotDue(segment, place, body.number, due)));
         }
         if self.take_body(alloc, &body)? {
             Ok(())
@@ -327,6 +374,8 @@ impl LogReader {
         ensures read { (bodies : List (List ℕ)) (octets : List ℕ) → HasRead self.old bodies
             → IsDue octets body.now → IfOk result
             (λ takes. OnTrue takes (HasRead self.new (bodies ++ octets ∷ []))) }
+        ensures kept { (bodies : List (List ℕ)) → HasRead self.old bodies
+            → IfOk result (λ takes. OnFalse takes (HasRead self.new bodies)) }
     {
         let Some(image) = body.image else {
             if body.text == b"new\n".as_slice() {
@@ -337,10 +386,7 @@ impl LogReader {
         if let Some(turn) = without(b"start\n", body.text) {
             return self.take_start(alloc, body, turn, image);
         }
-        if body.text.starts_with(b"segment ") {
-            return self.goes_on(alloc, body, image);
-        }
-        self.take_turn(alloc, body)
+        self.goes_on(alloc, body, image)
     }
 
     // Whether a record without an image is the first one of a process without a house.
@@ -380,6 +426,8 @@ impl LogReader {
             → IsBody octets body.now.number body.now.clock (codes "start" ++ (10 ∷ turn.now))
             (Some image.now)
             → IfOk result (λ takes. OnTrue takes (HasRead self.new (bodies ++ octets ∷ []))) }
+        ensures kept { (bodies : List (List ℕ)) → HasRead self.old bodies
+            → IfOk result (λ takes. OnFalse takes (HasRead self.new bodies)) }
     {
         if !self.is_start(body, turn) {
             return Ok(false);
@@ -391,16 +439,15 @@ impl LogReader {
         Ok(true)
     }
 
-    // The text of the first record of a segment in the middle of a process.
-    fn segment_text(&self, alloc: Global) -> Result<Vec<u8>, AllocError>
-        ensures { IfOk result (λ v. v.items
-            ≡ codes "segment " ++ (decimal self.now.number ++ (10 ∷ self.now.turn.items))) }
+    // The line of the first record of a segment in the middle of a process.
+    fn segment_line(&self, alloc: Global) -> Result<Vec<u8>, AllocError>
+        ensures { IfOk result
+            (λ v. v.items ≡ codes "segment " ++ (decimal self.now.number ++ 10 ∷ [])) }
     {
-        let mut text = Vec::from_slice(alloc, b"segment ")?;
-        push_number(&mut text, self.number)?;
-        text.push(b'\n')?;
-        text.extend_from_slice(&self.turn)?;
-        Ok(text)
+        let mut line = Vec::from_slice(alloc, b"segment ")?;
+        push_number(&mut line, self.number)?;
+        line.push(b'\n')?;
+        Ok(line)
     }
 
     // Whether a record has the number and the clock of the last entry.
@@ -418,6 +465,8 @@ impl LogReader {
         ensures made { self.new.made ≡ self.old.made }
         ensures shows { (m : Making') → IfOk result
             (λ has. OnTrue has (Shows (told_of m self.old) image.now (told_of m self.new))) }
+        ensures kept { (bodies : List (List ℕ)) → HasRead self.old bodies
+            → IfOk result (λ has. OnFalse has (HasRead self.new bodies)) }
     {
         let shown = octets_of(alloc, image)?;
         let Some(last) = self.entries.pop() else {
@@ -440,12 +489,17 @@ impl LogReader {
         ensures read { (bodies : List (List ℕ)) (octets : List ℕ) → HasRead self.old bodies
             → IsBody octets body.now.number body.now.clock body.now.text.now (Some image.now)
             → IfOk result (λ goes. OnTrue goes (HasRead self.new (bodies ++ octets ∷ []))) }
+        ensures kept { (bodies : List (List ℕ)) → HasRead self.old bodies
+            → IfOk result (λ goes. OnFalse goes (HasRead self.new bodies)) }
     {
         if !self.is_last(body) {
             return Ok(false);
         }
-        let text = self.segment_text(alloc)?;
-        if text.as_slice() != body.text {
+        let line = self.segment_line(alloc)?;
+        let Some(rest) = without(&line, body.text) else {
+            return Ok(false);
+        };
+        if after_running(rest) != self.turn.as_slice() {
             return Ok(false);
         }
         self.show(alloc, image)
@@ -460,7 +514,10 @@ impl LogReader {
         ensures digest { self.new.digest ≡ self.old.digest }
         ensures segments { self.new.segments ≡ self.old.segments }
         ensures read { (bodies : List (List ℕ)) (octets : List ℕ) → HasRead self.old bodies
-            → IsDue octets body.now → IfOk result (λ takes. OnTrue takes (HasRead self.new (bodies ++ octets ∷ []))) }
+            → IsBody octets body.now.number body.now.clock body.now.text.now None
+            → IfOk result (λ takes. OnTrue takes (HasRead self.new (bodies ++ octets ∷ []))) }
+        ensures kept { (bodies : List (List ℕ)) → HasRead self.old bodies
+            → IfOk result (λ takes. OnFalse takes (HasRead self.new bodies)) }
     {
         if !self.is_due(body.number) {
             return Ok(false);
@@ -488,7 +545,10 @@ impl LogReader {
         ensures digest { self.new.digest ≡ self.old.digest }
         ensures segments { self.new.segments ≡ self.old.segments }
         ensures read { (bodies : List (List ℕ)) (octets : List ℕ) → HasRead self.old bodies
-            → IsDue octets body.now → IfOk result (λ takes. OnTrue takes (HasRead self.new (bodies ++ octets ∷ []))) }
+            → IsBody octets body.now.number body.now.clock body.now.text.now None
+            → IfOk result (λ takes. OnTrue takes (HasRead self.new (bodies ++ octets ∷ []))) }
+        ensures kept { (bodies : List (List ℕ)) → HasRead self.old bodies
+            → IfOk result (λ takes. OnFalse takes (HasRead self.new bodies)) }
     {
         if body.clock != 0 {
             return Ok(false);
@@ -497,7 +557,7 @@ impl LogReader {
             return Ok(false);
         };
         self.turn = Vec::from_slice(alloc, body.text)?;
-        self.image = image_copy(alloc, body.image)?;
+        self.image = None;
         self.made = Some(made);
         self.number = body.number;
         self.clock = 0;
@@ -518,9 +578,12 @@ impl LogReader {
         ensures digest { self.new.digest ≡ self.old.digest }
         ensures segments { self.new.segments ≡ self.old.segments }
         ensures read { (bodies : List (List ℕ)) (octets : List ℕ) → HasRead self.old bodies
-            → IsDue octets body.now → IfOk result (λ takes. OnTrue takes (HasRead self.new (bodies ++ octets ∷ []))) }
+            → IsBody octets body.now.number body.now.clock body.now.text.now None
+            → IfOk result (λ takes. OnTrue takes (HasRead self.new (bodies ++ octets ∷ []))) }
+        ensures kept { (bodies : List (List ℕ)) → HasRead self.old bodies
+            → IfOk result (λ takes. OnFalse takes (HasRead self.new bodies)) }
     {
-        let Some(turn) = turn_of(alloc, body.clock, parts, body.image)? else {
+        let Some(turn) = turn_of(alloc, body.clock, parts)? else {
             return Ok(false);
         };
         self.turn = Vec::from_slice(alloc, body.text)?;
