@@ -52,8 +52,8 @@ pub fn first_record(octets: &[u8]) -> Option<(&[u8], &[u8])>
     }
 }
 
-// The body and the digest of a record, if it comes after a record with this digest.
-fn unsealed<'a>(before: &[u8], octets: &'a [u8]) -> Option<LastRecord<'a>>
+/// The body and the digest of a record, if it comes after a record with this digest.
+pub fn unsealed<'a>(before: &[u8], octets: &'a [u8]) -> Option<LastRecord<'a>>
     ensures is { IfSome result (λ r. octets.now ≡ sealed before.now r.body.now) }
     ensures digest { IfSome result (λ r. r.digest ≡ digest_after before.now r.body.now) }
 {

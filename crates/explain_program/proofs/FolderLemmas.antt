@@ -1,0 +1,169 @@
+-- One segment more of a folder, and one folder more.
+use Rattle.std.proofs.Common.{◌≡◌, ℕ, zero, suc, ◌+◌, List, [], ◌∷◌, ◌++◌, drop, length, map, take, Option, Some, None, refl, sym, ◌∙◌, ap, subst, append_assoc, append-nil, arith}
+use Rattle.std.specs.Prelude.{slice_get}
+use Rattle.std.specs.Option.{option_to_list}
+use Rattle.std.proofs.lemmas.List.{take-append-drop}
+use Rattle.std.proofs.lemmas.Option.{get_or_from_slice_get, slice_get_within}
+use Rattle.std.proofs.Math.Seq.{take-suc}
+use Rattle.std.proofs.lemmas.Grind.{common_steps}
+use Rattle.house_logs.specs.declared.log.HouseLog.{HouseLog}
+use Rattle.house_logs.specs.declared.reader.LogReader.{LogReader}
+use Rattle.house_logs.specs.Logs.{IsSegment}
+use Rattle.house_logs.specs.Reads.{HasRead, ReadsFront, ReadsOn}
+use Rattle.explain_program.specs.declared.folder.FolderLog.{FolderLog}
+use Rattle.explain_program.specs.declared.folder.FolderOctets.{FolderOctets}
+use Rattle.explain_program.specs.declared.told.PlacedFault.{PlacedFault}
+use Rattle.explain_program.specs.Folders.{AreRead, AreSegments, HasReadAll, HasReadFirst, IsEvidence, IsRead, faults_in, logs_in, no_digest, placed}
+
+-- ---- lists
+
+-- the first values, and one more
+pub take_next : {A : Type 0} (xs : List A) (n : ℕ) (x : A) → slice_get xs n ≡ Some x → take (n + 1) xs ≡ take n xs ++ x ∷ []
+take_next xs n x is =
+    let next : n + 1 ≡ suc n = omega arith in
+    ap (λ (k : ℕ). take k xs) next
+    ∙ take-suc xs n x (slice_get_within xs n x is)
+    ∙ ap (λ (y : _). take n xs ++ y ∷ []) (get_or_from_slice_get xs n x x is)
+
+-- the values from a place on begin with the one that is there
+drop_suc : {A : Type 0} (xs : List A) (n : ℕ) (x : A) → slice_get xs n ≡ Some x → drop n xs ≡ x ∷ drop (suc n) xs
+drop_suc [] n x is = absurd (cc (is))
+drop_suc {A = A} (y ∷ ys) zero x is = ap (λ (a : A). a ∷ ys) (let e : y ≡ x = cc in e)
+drop_suc (y ∷ ys) (suc n) x is = drop_suc ys n x is
+
+pub drop_next : {A : Type 0} (xs : List A) (n : ℕ) (x : A) → slice_get xs n ≡ Some x → (rest : List A) × (drop n xs ≡ x ∷ rest)
+drop_next xs n x is = (drop (suc n) xs, drop_suc xs n x is)
+
+-- ---- segments
+
+-- one segment more
+segments-more : (number : ℕ) (before : List ℕ) (segments bodies : List (List ℕ)) (mid : List ℕ) (octets : List ℕ) (own : List (List ℕ)) (after : List ℕ)
+    → AreSegments number before segments bodies mid → IsSegment (number + length segments) mid octets own after
+    → AreSegments number before (segments ++ octets ∷ []) (bodies ++ own) after
+segments-more number before [] bodies mid octets own after are is =
+    let here : number + 0 ≡ number = omega arith in (
+      after,
+      own,
+      [],
+      subst (λ (d : List ℕ). IsSegment number d octets own after) are.1 (subst (λ (n : ℕ). IsSegment n mid octets own after) here is),
+      (refl, refl),
+      ap (λ (l : List (List ℕ)). l ++ own) are.0 ∙ sym (append-nil own),
+    )
+segments-more number before (s ∷ segments) bodies mid octets own after are is =
+    let here : number + length (s ∷ segments) ≡ number + 1 + length segments = grind (arith, common_steps) in (
+      are.0,
+      are.1,
+      are.2 ++ own,
+      are.3,
+      segments-more (number + 1) are.0 segments are.2 mid octets own after are.4 (subst (λ (n : ℕ). IsSegment n mid octets own after) here is),
+      ap (λ (l : List (List ℕ)). l ++ own) are.5 ∙ append_assoc are.1 are.2 own,
+    )
+
+-- a reader that has read one segment more
+pub read_more : (old new : LogReader) (segments : List (List ℕ)) (i : ℕ) (octets : List ℕ) (h : HasReadAll (take i segments) old)
+    → slice_get segments i ≡ Some octets → ReadsOn h.bodies octets old new → new.segments ≡ old.segments + 1 → HasReadAll (take (i + 1) segments) new
+read_more old new segments i octets h there on count =
+    subst (λ (l : List (List ℕ)). HasReadAll l new) (sym (take_next segments i octets there)) (record {
+      bodies = h.bodies ++ on.more;
+      are =
+          segments-more 1 no_digest (take i segments) h.bodies old.digest octets on.more new.digest h.are
+          (subst (λ (n : ℕ). IsSegment n old.digest octets on.more new.digest) number on.segment);
+      read = on.read;
+      count = (let many = h.count in grind (arith, common_steps));
+    })
+  where
+    number : old.segments + 1 ≡ 1 + length (take i segments)
+    number = let many = h.count in omega arith
+
+-- one that stopped within the next one
+pub read_within : (old new : LogReader) (segments : List (List ℕ)) (i : ℕ) (octets : List ℕ) (h : HasReadAll (take i segments) old)
+    → slice_get segments i ≡ Some octets → ReadsFront h.bodies octets new → HasReadFirst segments new
+read_within old new segments i octets h there stops =
+    let rest = drop_next segments i octets there in
+    record {
+      bodies = h.bodies ++ stops.front;
+      are = record {
+        whole = take i segments;
+        others = octets ∷ rest.0;
+        own = h.bodies;
+        after = old.digest;
+        front = stops.front;
+        parts = sym (take-append-drop i segments) ∙ ap (λ (l : List (List ℕ)). take i segments ++ l) rest.1;
+        are = h.are;
+        begins = (stops.others, stops.parts);
+        bodies_are = refl;
+      };
+      read = stops.read;
+    }
+
+-- all segments were read: these are the first ones
+pub read_first : (r : LogReader) (segments : List (List ℕ)) → HasReadAll segments r → HasReadFirst segments r
+read_first r segments h = record {
+  bodies = h.bodies;
+  are = record {
+    whole = segments;
+    others = [];
+    own = h.bodies;
+    after = r.digest;
+    front = [];
+    parts = sym (append-nil segments);
+    are = h.are;
+    begins = refl;
+    bodies_are = sym (append-nil h.bodies);
+  };
+  read = h.read;
+}
+
+-- ---- folders
+
+-- as many as there are
+read_count : (fs : List FolderOctets) (rs : List FolderLog) → AreRead fs rs → length rs ≡ length fs
+read_count [] [] are = refl
+read_count [] (r ∷ rs) are = absurd are
+read_count (f ∷ fs) [] are = absurd are
+read_count (f ∷ fs) (r ∷ rs) are = let more = read_count fs rs are.1 in grind (arith, more, common_steps)
+
+reads-more : (fs : List FolderOctets) (rs : List FolderLog) (f : FolderOctets) (r : FolderLog) → AreRead fs rs → IsRead f r
+    → AreRead (fs ++ f ∷ []) (rs ++ r ∷ [])
+reads-more [] [] f r are is = (is, tt)
+reads-more [] (s ∷ rs) f r are is = absurd are
+reads-more (g ∷ fs) [] f r are is = absurd are
+reads-more (g ∷ fs) (s ∷ rs) f r are is = (are.0, reads-more fs rs f r are.1 is)
+
+logs-more : (rs : List FolderLog) (r : FolderLog) → logs_in (rs ++ r ∷ []) ≡ logs_in rs ++ option_to_list r.log
+logs-more [] r = append-nil (option_to_list r.log)
+logs-more (s ∷ rs) r =
+    ap (λ (l : List HouseLog). option_to_list s.log ++ l) (logs-more rs r)
+    ∙ sym (append_assoc (option_to_list s.log) (logs_in rs) (option_to_list r.log))
+
+faults-more : (place : ℕ) (rs : List FolderLog) (r : FolderLog) → faults_in place (rs ++ r ∷ []) ≡ faults_in place rs ++ placed (place + length rs) r.fault
+faults-more place [] r =
+    let here : place ≡ place + 0 = omega arith in
+    append-nil (placed place r.fault) ∙ ap (λ (n : ℕ). placed n r.fault) here
+faults-more place (s ∷ rs) r =
+    let here : place + 1 + length rs ≡ place + length (s ∷ rs) = grind (arith, common_steps) in
+    ap (λ (l : List PlacedFault). placed place s.fault ++ l)
+    (faults-more (place + 1) rs r ∙ ap (λ (n : ℕ). faults_in (place + 1) rs ++ placed n r.fault) here)
+    ∙ sym (append_assoc (placed place s.fault) (faults_in (place + 1) rs) (placed (place + length (s ∷ rs)) r.fault))
+
+-- one folder more
+pub evidence_more : (fs : List FolderOctets) (i : ℕ) (f : FolderOctets) (r : FolderLog) (logs logs' : List HouseLog) (faults faults' : List PlacedFault)
+    → IsEvidence (take i fs) logs faults → slice_get fs i ≡ Some f → i ≡ length (take i fs) → IsRead f r → logs' ≡ logs ++ option_to_list r.log
+    → faults' ≡ faults ++ placed (i + 1) r.fault → IsEvidence (take (i + 1) fs) logs' faults'
+evidence_more fs i f r logs logs' faults faults' e there many is more broken =
+    subst (λ (l : List FolderOctets). IsEvidence l logs' faults') (sym (take_next fs i f there)) (record {
+      rs = e.rs ++ r ∷ [];
+      read = reads-more (take i fs) e.rs f r e.read is;
+      logs_are =
+          more
+          ∙ ap (λ (l : List HouseLog). l ++ option_to_list r.log) e.logs_are
+          ∙ sym (logs-more e.rs r);
+      faults_are =
+          broken
+          ∙ ap (λ (l : List PlacedFault). l ++ placed (i + 1) r.fault) e.faults_are
+          ∙ ap (λ (n : ℕ). faults_in 1 e.rs ++ placed n r.fault) place
+          ∙ sym (faults-more 1 e.rs r);
+    })
+  where
+    place : i + 1 ≡ 1 + length e.rs
+    place = let count = read_count (take i fs) e.rs e.read in omega (arith, many, count)

@@ -1,0 +1,118 @@
+-- The journals that the octets of folders are.
+use Rattle.std.specs.Prelude.{◌≡◌, ℕ, ◌+◌, List, [], ◌∷◌, ◌++◌, All, drop, length, map, replicate, MatchOption, Option, Some, None}
+use Rattle.std.specs.List.{flat_map}
+use Rattle.std.specs.Option.{option_to_list}
+use Rattle.house_journal.specs.JournalRecords.{images}
+use Rattle.house_logs.specs.declared.log.HouseLog.{HouseLog}
+use Rattle.house_logs.specs.declared.reader.LogReader.{LogReader}
+use Rattle.house_logs.specs.Logs.{IsJournalOf, IsNew, IsSegment, body_in}
+use Rattle.house_logs.specs.Reads.{HasRead}
+use Rattle.explain_program.specs.declared.folder.FolderOctets.{FolderOctets}
+use Rattle.explain_program.specs.declared.folder.FolderEnd.TheVariants as end
+use Rattle.explain_program.specs.declared.folder.FolderFault.{FolderFault}
+use Rattle.explain_program.specs.declared.folder.FolderLog.{FolderLog}
+use Rattle.explain_program.specs.declared.told.PlacedFault.{PlacedFault}
+
+-- ---- segments
+
+-- octets are segments from this number on, the first one after a record with this digest; these are
+-- the bodies of their records, and the last one has the digest after (own)
+abbrev pub AreSegments : (number : ℕ) → (before : List ℕ) → (segments bodies : List (List ℕ)) → (after : List ℕ) → Type 0
+AreSegments number before [] bodies after = (bodies ≡ []) × (after ≡ before)
+AreSegments number before (octets ∷ segments) bodies after =
+    (mid : List ℕ) × (own : List (List ℕ)) × (others : List (List ℕ)) × IsSegment number before octets own mid
+    × AreSegments (number + 1) mid segments others after × (bodies ≡ own ++ others)
+
+-- the digest before the first record of a journal
+abbrev pub no_digest : List ℕ
+no_digest = replicate 32 0
+
+-- the first records of the next segment, after its head, have these bodies; none, if there is none
+abbrev pub BeginsSo : (segments front : List (List ℕ)) → Type 0
+BeginsSo [] front = front ≡ []
+BeginsSo (octets ∷ segments) front =
+    (others : List (List ℕ)) × (map body_in (drop 1 (images octets)) ≡ front ++ others)
+
+-- the first records of a folder have these bodies: those of its first segments, which are whole, and
+-- the first ones of the next segment (own)
+pub record AreFirst (segments bodies : List (List ℕ)) : Type 0 where
+  pub whole : List (List ℕ)
+  pub others : List (List ℕ)
+  pub own : List (List ℕ)
+  pub after : List ℕ
+  pub front : List (List ℕ)
+  pub parts : segments ≡ whole ++ others
+  pub are : AreSegments 1 no_digest whole own after
+  pub begins : BeginsSo others front
+  pub bodies_are : bodies ≡ own ++ front
+
+-- a reader has read these segments
+pub record HasReadAll (segments : List (List ℕ)) (r : LogReader) : Type 0 where
+  pub bodies : List (List ℕ)
+  pub are : AreSegments 1 no_digest segments bodies r.digest
+  pub read : HasRead r bodies
+  pub count : r.segments ≡ length segments
+
+-- a reader has read the first records of these segments
+pub record HasReadFirst (segments : List (List ℕ)) (r : LogReader) : Type 0 where
+  pub bodies : List (List ℕ)
+  pub are : AreFirst segments bodies
+  pub read : HasRead r bodies
+
+-- ---- folders
+
+-- records with these bodies are this journal; none, if no house was made
+abbrev pub IsLog : (bodies : List (List ℕ)) → Option HouseLog → Type 0
+IsLog bodies log = MatchOption log (All IsNew bodies) (IsJournalOf bodies)
+
+-- the segments of a folder are all there, and they are this journal
+pub record IsWhole (f : FolderOctets) (log : Option HouseLog) : Type 0 where
+  pub bodies : List (List ℕ)
+  pub after : List ℕ
+  pub there : f.end ≡ end.Whole
+  pub are : AreSegments 1 no_digest f.segments.items bodies after
+  pub is : IsLog bodies log
+
+-- the first records of a folder are this journal
+pub record IsBegun (f : FolderOctets) (log : Option HouseLog) : Type 0 where
+  pub bodies : List (List ℕ)
+  pub are : AreFirst f.segments.items bodies
+  pub is : IsLog bodies log
+
+-- what was read of a folder: the whole, or up to a fault
+abbrev pub IsReadTo : FolderOctets → Option HouseLog → Option FolderFault → Type 0
+IsReadTo f log None = IsWhole f log
+IsReadTo f log (Some fault) = IsBegun f log
+
+abbrev pub IsRead : FolderOctets → FolderLog → Type 0
+IsRead f r = IsReadTo f r.log r.fault
+
+-- ---- all folders
+
+-- what was read of folders, one after the other
+abbrev pub AreRead : List FolderOctets → List FolderLog → Type 0
+AreRead [] [] = Unit {0}
+AreRead (f ∷ fs) (r ∷ rs) = IsRead f r × AreRead fs rs
+AreRead fs rs = ⊥
+
+-- the journals among these
+abbrev pub logs_in : List FolderLog → List HouseLog
+logs_in = flat_map (λ r. option_to_list r.log)
+
+-- a fault, with the place of its folder
+abbrev pub placed : (place : ℕ) → Option FolderFault → List PlacedFault
+placed place None = []
+placed place (Some fault) = record { place = place; fault = fault } ∷ []
+
+-- the faults of folders, the first of which has this place
+abbrev pub faults_in : (place : ℕ) → List FolderLog → List PlacedFault
+faults_in place [] = []
+faults_in place (r ∷ rs) = placed place r.fault ++ faults_in (place + 1) rs
+
+-- these are the journals of folders, as far as they are read, and these are their faults
+pub record IsEvidence (fs : List FolderOctets) (logs : List HouseLog) (faults : List PlacedFault)
+    : Type 0 where
+  pub rs : List FolderLog
+  pub read : AreRead fs rs
+  pub logs_are : logs ≡ logs_in rs
+  pub faults_are : faults ≡ faults_in 1 rs

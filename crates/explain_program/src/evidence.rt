@@ -1,0 +1,57 @@
+// The journals of all folders.
+ghost use Rattle.std.specs.Prelude.{◌≡◌, ◌++◌, IfOk, OnOk};
+ghost use Rattle.std.specs.Option.{option_to_list};
+ghost use Rattle.explain_program.specs.Folders.{IsEvidence, placed};
+
+use crate::folder::{FolderFault, FolderLog, FolderOctets, read_folder};
+use crate::told::PlacedFault;
+use house_logs::HouseLog;
+use std::alloc::{AllocError, Global};
+
+/// The journals of folders, as far as they are read, and why some are not read to their ends.
+#[derive(Drop)]
+pub(crate) struct Evidence {
+    pub(crate) logs: Vec<HouseLog>,
+    pub(crate) faults: Vec<PlacedFault>,
+}
+
+// Adds a journal, if there is one.
+fn push_log(logs: &mut Vec<HouseLog>, log: Option<HouseLog>) -> Result<(), AllocError>
+    ensures { OnOk result (logs.new.items ≡ logs.old.items ++ option_to_list log) }
+{
+    if let Some(log) = log {
+        logs.push(log)?;
+    }
+    Ok(())
+}
+
+// Adds the fault of a folder, if there is one.
+fn push_fault(
+    faults: &mut Vec<PlacedFault>,
+    place: usize,
+    fault: Option<FolderFault>,
+) -> Result<(), AllocError>
+    ensures { OnOk result (faults.new.items ≡ faults.old.items ++ placed place fault) }
+{
+    if let Some(fault) = fault {
+        faults.push(PlacedFault { place, fault })?;
+    }
+    Ok(())
+}
+
+/// The journals of all folders.
+pub(crate) fn evidence_of(
+    alloc: Global,
+    folders: &[FolderOctets],
+) -> Result<Evidence, AllocError>
+    ensures { IfOk result (λ e. IsEvidence folders.now e.logs.items e.faults.items) }
+{
+    let mut logs = Vec::new(alloc);
+    let mut faults = Vec::new(alloc);
+    for (at, folder) in folders.iter().enumerate() {
+        let FolderLog { log, fault } = read_folder(alloc, folder)?;
+        push_log(&mut logs, log)?;
+        push_fault(&mut faults, at + 1, fault)?;
+    }
+    Ok(Evidence { logs, faults })
+}

@@ -1,0 +1,37 @@
+// The whole program over the octets of folders and a sink.
+ghost use Rattle.std.specs.Prelude.{◌≡◌, ◌≢◌, IfOk};
+ghost use Rattle.explain_program.specs.Endings.{Ends, IsSaid, status_of};
+ghost use Rattle.explain_program.specs.declared.status.Status.TheVariants as ends;
+
+use crate::evidence::{Evidence, evidence_of};
+use crate::folder::FolderOctets;
+use crate::status::Status;
+use crate::told::{Told, told_of};
+use cds_base::{Sink, put_all};
+use cds_explain::explain;
+use std::alloc::{AllocError, Global};
+
+// What is said of folders.
+fn said_of(alloc: Global, folders: &[FolderOctets]) -> Result<Told, AllocError>
+    ensures { IfOk result (λ t. IsSaid folders.now t.status t.text.items) }
+{
+    let Evidence { logs, faults } = evidence_of(alloc, folders)?;
+    let explanation = explain(alloc, &logs)?;
+    told_of(alloc, explanation, &faults)
+}
+
+/// The whole program: a script that explains the journals of folders is written. Where one of them
+/// is not read to its end, or an entry is not explained, lines that say so come after the script.
+pub fn run<K: Sink>(alloc: Global, folders: &[FolderOctets], sink: &mut K) -> Status
+    ensures ends { Ends folders.now result (K.written sink.old) (K.written sink.new)
+        (sink.new ≡ sink.old) }
+    ensures fault { result ≡ ends.WriteFault → K.faults sink.new ≢ K.faults sink.old }
+{
+    let Ok(Told { text, status }) = said_of(alloc, folders) else {
+        return Status::OutOfMemory;
+    };
+    match put_all(sink, &text) {
+        Ok(()) => status,
+        Err(_) => Status::WriteFault,
+    }
+}
