@@ -1,5 +1,5 @@
 -- What is written of folders, and with which status the program ends.
-use Rattle.std.specs.Prelude.{◌≡◌, ◌≢◌, ◌⊎◌, ℕ, List, [], ◌++◌, Bool, Option, Some, if◌then◌else◌, is_empty, take}
+use Rattle.std.specs.Prelude.{◌≡◌, ◌≢◌, ◌⊎◌, ℕ, List, [], ◌++◌, Bool, Option, Some, ◌==◌, if◌then◌else◌, length, take}
 use Rattle.std.specs.Io.KnownBytes.{Appends}
 use Rattle.house_logs.specs.declared.log.HouseLog.{HouseLog}
 use Rattle.cds_explain.specs.Explained.{Explains, ExplainsFirst, ExplainsUpTo}
@@ -26,7 +26,7 @@ status_of ending.Whole are_whole = if are_whole then status.Ok else status.Unexp
 
 -- what is said of an explanation: its script; and more, unless all is explained
 pub record IsTold (e : Explanation) (faults : List PlacedFault) (t : Told) : Type 0 where
-  pub status_is : t.status ≡ status_of e.ending (is_empty faults)
+  pub status_is : t.status ≡ status_of e.ending (length faults == 0)
   pub more : HasMore e.script.items t.text.items
   pub alone : t.status ≡ status.Ok → t.text.items ≡ e.script.items
 

@@ -1,6 +1,7 @@
 // The whole program over the octets of folders and a sink.
-ghost use Rattle.std.specs.Prelude.{◌≡◌, ◌≢◌, IfOk};
-ghost use Rattle.explain_program.specs.Endings.{Ends, IsSaid, status_of};
+ghost use Rattle.std.specs.Prelude.{◌≡◌, IfOk};
+ghost use Rattle.cds_base.specs.Counts.{Rose};
+ghost use Rattle.explain_program.specs.Endings.{Ends, IsSaid};
 ghost use Rattle.explain_program.specs.declared.status.Status.TheVariants as ends;
 
 use crate::evidence::{Evidence, evidence_of};
@@ -25,7 +26,7 @@ fn said_of(alloc: Global, folders: &[FolderOctets]) -> Result<Told, AllocError>
 pub fn run<K: Sink>(alloc: Global, folders: &[FolderOctets], sink: &mut K) -> Status
     ensures ends { Ends folders.now result (K.written sink.old) (K.written sink.new)
         (sink.new ≡ sink.old) }
-    ensures fault { result ≡ ends.WriteFault → K.faults sink.new ≢ K.faults sink.old }
+    ensures fault { result ≡ ends.WriteFault → Rose (K.faults sink.old) (K.faults sink.new) }
 {
     let Ok(Told { text, status }) = said_of(alloc, folders) else {
         return Status::OutOfMemory;
