@@ -4,7 +4,7 @@ use thiserror::Error;
 /// Why a segment, by its number, is not the next one of a house's journal.
 #[derive(Clone, Copy, Debug, PartialEq, Eq, Drop, Error)]
 pub enum LogFault {
-    #[error("segment {0} is of version 1")]
+    #[error("segment {0} is of another version")]
     OtherVersion(u64),
     /// From this record on, the first of which is the head, no chain of records goes on.
     #[error("segment {0} record {1} is damaged")]
