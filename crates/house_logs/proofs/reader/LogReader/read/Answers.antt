@@ -6,5 +6,5 @@ use Rattle.house_logs.proofs.reader.LogReader.read.Goals as goal
 pub returns-clause-read : goal.returns-clause-read
 returns-clause-read c bodies has =
     segment_done _ c.read_records.new.self _ bodies c.args.octets.now c.deref.result.now _ c.in-Some.number (c.in_ok-read_records.ensures.read bodies has)
-    c.in-Some-last_record.ensures (c.deref.ensures.value ∙ c.in_ok-title.ensures) (first_of (omega arith, search rules, grind (arith, common_steps)))
+    c.in-Some-last_record.ensures.some (c.deref.ensures.value ∙ c.in_ok-title.ensures) (first_of (omega arith, search rules, grind (arith, common_steps)))
     (λ bs h. read_kept c.read_records.new.self _ bs refl refl refl refl refl refl h)
