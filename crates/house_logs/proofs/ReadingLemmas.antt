@@ -1,6 +1,10 @@
 -- What was read of a journal, and one record more.
-use Rattle.std.proofs.Common.{◌≡◌, ℕ, ◌+◌, false, List, [], ◌∷◌, ◌++◌, map, drop, Option, Some, None, refl, sym, ◌∙◌, ap, subst, append_assoc, append-nil}
-use Rattle.std.specs.Prelude.{Ok, codes, decimal, is_none}
+use Rattle.std.proofs.Common.{◌≡◌, ℕ, ◌+◌, Bool, true, false, List, [], ◌∷◌, ◌++◌, map, drop, Option, Some, None, refl, sym, ◌∙◌, ap, subst, append_assoc, append-nil}
+use Rattle.std.specs.Prelude.{Result, Ok, Err, IfOk, codes, decimal, is_none}
+use Rattle.std.specs.Bool.{OnTrue}
+use Rattle.std.specs.Result.{IsErr, IsErrAnd}
+use Rattle.cds_stamps.specs.declared.alloc_or.AllocOr.{AllocOr}
+use Rattle.cds_stamps.specs.declared.alloc_or.AllocOr.TheVariants.{Fault, OutOfMemory}
 use Rattle.cell_script.specs.Words.{words_of}
 use Rattle.house_entries.specs.Bodies.{IsBody, head_of}
 use Rattle.house_lines.specs.LineRows.{said_in}
@@ -13,8 +17,8 @@ use Rattle.house_logs.specs.declared.reader.LogReader.{LogReader}
 use Rattle.house_logs.specs.declared.text.TurnText.{TurnText}
 use Rattle.house_journal.specs.JournalRecords.{images}
 use Rattle.house_logs.specs.Logs.{IsLogOf, body_in, making_text}
-use Rattle.house_logs.specs.Reads.{HasRead, HasReadOf, HasReadPart, IsMadeBy, IsTurnBy, ReadsFront, ReadsOn, ReadsRecords, told_of}
-use Rattle.house_logs.specs.Records.{AreRecords, Follows, SaysTurn, SegmentRecord, Shows, StartRecord, Told, TurnRecord, after_start, after_turn, running_text}
+use Rattle.house_logs.specs.Reads.{HasRead, HasReadOf, HasReadPart, IfFault, IsMadeBy, IsTurnBy, OfFault, ReadsFront, ReadsOn, ReadsRecords, told_of}
+use Rattle.house_logs.specs.Records.{AreRecords, Follows, SaysTurn, CanBe, OfEntry, SegmentRecord, Shows, StartRecord, Told, TurnRecord, after_start, after_turn, image_of, running_text, with_image}
 use Rattle.house_logs.specs.TurnTexts.{turn_text}
 use Rattle.house_segments.specs.Reading.{IsLast}
 
@@ -50,10 +54,10 @@ more_read (Some m) r new bodies octets has some next = added bodies octets (told
 -- the house is made
 pub making_read : (o : Option Making) (r new : LogReader) (bodies : List (List ℕ)) (octets line : List ℕ) (m : Making) → HasReadOf o r bodies → o ≡ None
     → said_in (words_of line) ≡ Ok (Some (asks.House m.house m.node)) → new.number ≡ r.number + 1 → new.clock ≡ 0
-    → new.turn.items ≡ making_text line → new.entries.items ≡ r.entries.items → new.image ≡ None → IsBody octets (r.number + 1) 0 (making_text line) None
+    → new.turn.items ≡ making_text line → new.entries.items ≡ r.entries.items → IsBody octets (r.number + 1) 0 (making_text line) new.image
     → HasReadOf (Some m) new (bodies ++ octets ∷ [])
-making_read (Some n) r new bodies octets line m has none says number clock turn es bare is = absurd (cc (none))
-making_read None r new bodies octets line m has none says number clock turn es bare is = record {
+making_read (Some n) r new bodies octets line m has none says number clock turn es is = absurd (cc (none))
+making_read None r new bodies octets line m has none says number clock turn es is = record {
   news = bodies;
   first = octets;
   others = [];
@@ -63,8 +67,7 @@ making_read None r new bodies octets line m has none says number clock turn es b
   begins = record {
     line = line;
     says = says;
-    body_is = subst (λ (n : ℕ). IsBody octets n 0 (making_text line) None) first is;
-    bare = bare;
+    body_is = subst (λ (n : ℕ). IsBody octets n 0 (making_text line) new.image) first is;
     alone = es ∙ has.2;
     number = number ∙ first;
     clock = clock;
@@ -75,6 +78,30 @@ making_read None r new bodies octets line m has none says number clock turn es b
   where
     first : r.number + 1 ≡ 1
     first = ap (λ (n : ℕ). n + 1) has.1
+
+-- ---- images
+
+-- the last entry of what was read shows an image
+pub last_shown : (m : Making) (r new : LogReader) (front : List LogEntry) (e shown : LogEntry) (image : List ℕ) (known : Option (List ℕ))
+    → r.entries.items ≡ front ++ e ∷ [] → known ≡ image_of e → CanBe known image → shown ≡ with_image image e → new.entries.items ≡ front ++ shown ∷ []
+    → new.image ≡ r.image → new.number ≡ r.number → new.clock ≡ r.clock → new.turn ≡ r.turn → Shows (told_of m r) image (told_of m new)
+last_shown m r new front e shown image known parts is can with es kept number clock turn =
+    OfEntry front e parts (subst (λ (o : Option (List ℕ)). CanBe o image) is can) (λ j. record {
+      house = m.house;
+      node = m.node;
+      image = kept j;
+      entries = (es ∙ ap (λ (l : LogEntry). front ++ l ∷ []) with) j;
+      number = number j;
+      clock = clock j;
+      turn = (turn j).items;
+    })
+
+-- what follows where an image was shown
+pub shown_then : {E : Type 0} {P : Making → Type 0} {Q : Type 0} (result : Result Bool E) → ((m : Making) → IfOk result (λ b. OnTrue b (P m)))
+    → (((m : Making) → P m) → Q) → IfOk result (λ b. OnTrue b Q)
+shown_then (Ok true) all then = then all
+shown_then (Ok false) all then = tt
+shown_then (Err e) all then = tt
 
 -- ---- with the fields of a record
 
@@ -140,11 +167,11 @@ took_segment r new bodies octets image text line rest turn number clock running 
         (subst (λ (t : List ℕ). IsBody octets number clock t (Some image)) says is))
 
 -- a turn
-pub took_turn : (r new : LogReader) (bodies : List (List ℕ)) (octets text : List ℕ) (number clock : ℕ) (parts : TurnText) (t : LoggedTurn)
-    → HasRead r bodies → IsBody octets number clock text None → IsTurnBy parts clock t → is_none r.made ≡ false → number ≡ r.number + 1
+pub took_turn : (r new : LogReader) (bodies : List (List ℕ)) (octets text : List ℕ) (image : Option (List ℕ)) (number clock : ℕ) (parts : TurnText) (t : LoggedTurn)
+    → HasRead r bodies → IsBody octets number clock text image → IsTurnBy parts clock image t → is_none r.made ≡ false → number ≡ r.number + 1
     → text ≡ turn_text parts.line.now parts.posts.items parts.answer.now → new.made ≡ r.made → new.image ≡ r.image → new.number ≡ number
     → new.clock ≡ clock → new.turn.items ≡ text → new.entries.items ≡ r.entries.items ++ entry.Turned t ∷ [] → HasRead new (bodies ++ octets ∷ [])
-took_turn r new bodies octets text number clock parts t has is by some due says made kept numbered timed turned es =
+took_turn r new bodies octets text image number clock parts t has is by some due says made kept numbered timed turned es =
     read_with new r.made (bodies ++ octets ∷ []) made (more_read r.made r new bodies octets has.is some one)
   where
     line : List ℕ
@@ -153,14 +180,15 @@ took_turn r new bodies octets text number clock parts t has is by some due says 
     same : text ≡ turn_text line t.posts.items t.answer
     same = says ∙ (λ j. turn_text line (sym by.posts j).items (sym by.answer j))
 
-    body : IsBody octets (r.number + 1) t.clock (turn_text line t.posts.items t.answer) None
+    body : IsBody octets (r.number + 1) t.clock (turn_text line t.posts.items t.answer) t.image
     body =
-        subst (λ (n : ℕ). IsBody octets n t.clock (turn_text line t.posts.items t.answer) None) due
-        (subst (λ (k : ℕ). IsBody octets number k (turn_text line t.posts.items t.answer) None) (sym by.clock_is)
-        (subst (λ (x : List ℕ). IsBody octets number clock x None) same is))
+        subst (λ (n : ℕ). IsBody octets n t.clock (turn_text line t.posts.items t.answer) t.image) due
+        (subst (λ (k : ℕ). IsBody octets number k (turn_text line t.posts.items t.answer) t.image) (sym by.clock_is)
+        (subst (λ (x : List ℕ). IsBody octets number clock x t.image) same
+        (subst (λ (i : Option (List ℕ)). IsBody octets number clock text i) (sym by.image_is) is)))
 
     one : (m : Making) → Follows (told_of m r) octets (told_of m new)
-    one m = TurnRecord line t (record { says = by.says }) (record { is = body; bare = by.bare }) (λ j. record {
+    one m = TurnRecord line t (record { says = by.says }) body (λ j. record {
       house = m.house;
       node = m.node;
       image = kept j;
@@ -171,22 +199,41 @@ took_turn r new bodies octets text number clock parts t has is by some due says 
     })
 
 -- the turn that makes the house
-pub took_making : (r new : LogReader) (bodies : List (List ℕ)) (octets text : List ℕ) (number clock : ℕ) (parts : TurnText) (m : Making)
-    → HasRead r bodies → IsBody octets number clock text None → IsMadeBy parts m → r.made ≡ None → number ≡ r.number + 1 → clock ≡ 0
-    → text ≡ turn_text parts.line.now parts.posts.items parts.answer.now → new.made ≡ Some m → new.image ≡ None → new.number ≡ number
+pub took_making : (r new : LogReader) (bodies : List (List ℕ)) (octets text : List ℕ) (image : Option (List ℕ)) (number clock : ℕ) (parts : TurnText) (m : Making)
+    → HasRead r bodies → IsBody octets number clock text image → IsMadeBy parts m → r.made ≡ None → number ≡ r.number + 1 → clock ≡ 0
+    → text ≡ turn_text parts.line.now parts.posts.items parts.answer.now → new.made ≡ Some m → new.image ≡ image → new.number ≡ number
     → new.clock ≡ 0 → new.turn.items ≡ text → new.entries.items ≡ r.entries.items → HasRead new (bodies ++ octets ∷ [])
-took_making r new bodies octets text number clock parts m has is by none due timed says made bare numbered timed' turned es =
+took_making r new bodies octets text image number clock parts m has is by none due timed says made kept numbered timed' turned es =
     read_with new (Some m) (bodies ++ octets ∷ []) made
-    (making_read r.made r new bodies octets parts.line.now m has.is none by.says (numbered ∙ due) timed' (turned ∙ same) es bare body)
+    (making_read r.made r new bodies octets parts.line.now m has.is none by.says (numbered ∙ due) timed' (turned ∙ same) es body)
   where
     same : text ≡ making_text parts.line.now
     same = says ∙ (λ j. turn_text parts.line.now (by.posts j) (by.answer j))
 
-    body : IsBody octets (r.number + 1) 0 (making_text parts.line.now) None
+    body : IsBody octets (r.number + 1) 0 (making_text parts.line.now) new.image
     body =
-        subst (λ (n : ℕ). IsBody octets n 0 (making_text parts.line.now) None) due
-        (subst (λ (k : ℕ). IsBody octets number k (making_text parts.line.now) None) timed
-        (subst (λ (x : List ℕ). IsBody octets number clock x None) same is))
+        subst (λ (n : ℕ). IsBody octets n 0 (making_text parts.line.now) new.image) due
+        (subst (λ (k : ℕ). IsBody octets number k (making_text parts.line.now) new.image) timed
+        (subst (λ (x : List ℕ). IsBody octets number clock x new.image) same
+        (subst (λ (i : Option (List ℕ)). IsBody octets number clock text i) (sym kept) is)))
+
+-- ---- faults
+
+-- what a fault implies
+pub fault_then : {F : Type 0} {P Q : F → Type 0} (e : AllocOr F) → ((f : F) → Q f → P f) → OfFault e Q → OfFault e P
+fault_then (Fault f) then is = then f is
+fault_then OutOfMemory then is = tt
+
+-- one that is passed on
+pub fault_passed : {U F : Type 0} {P Q : F → Type 0} (r : Result U (AllocOr F)) (e : AllocOr F) → IsErr r × IsErrAnd r (λ y. y ≡ e)
+    → ((f : F) → Q f → P f) → OfFault e Q → IfFault r P
+fault_passed (Ok x) e is then q = tt
+fault_passed {U} {F} {P} {Q} (Err y) e is then q = subst (λ (z : AllocOr F). OfFault z P) (sym is.1) (fault_then e then q)
+
+-- that of a call
+pub fault_called : {U F : Type 0} {P Q : F → Type 0} (r : Result U (AllocOr F)) → ((f : F) → Q f → P f) → IfFault r Q → IfFault r P
+fault_called (Ok x) then q = tt
+fault_called (Err e) then q = fault_then e then q
 
 -- ---- records, one after the other
 
@@ -217,6 +264,16 @@ read_some r bodies octets rest has = record {
   others = map body_in (images rest);
   parts = has.split;
   read = has.read;
+}
+
+-- some records were read, and the next one is none
+pub read_until : (old new : LogReader) (bodies : List (List ℕ)) (octets rest : List ℕ) (has : HasReadSome octets rest bodies old)
+    → HasRead new (bodies ++ has.done) → HasReadPart octets bodies new
+read_until old new bodies octets rest has read = record {
+  front = has.done;
+  others = map body_in (images rest);
+  parts = has.split;
+  read = read;
 }
 
 -- records after the head of a segment

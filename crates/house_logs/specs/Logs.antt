@@ -25,8 +25,7 @@ making_text line = turn_text line [] (codes "ok")
 pub record Begins (body : List ℕ) (s : Told) : Type 0 where
   pub line : List ℕ
   pub says : said_in (words_of line) ≡ Ok (Some (asks.House s.house s.node))
-  pub body_is : IsBody body 1 0 (making_text line) None
-  pub bare : s.image ≡ None
+  pub body_is : IsBody body 1 0 (making_text line) s.image
   pub alone : s.entries ≡ []
   pub number : s.number ≡ 1
   pub clock : s.clock ≡ 0

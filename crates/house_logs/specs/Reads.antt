@@ -81,13 +81,14 @@ IfFault (Err e) P = OfFault e P
 abbrev pub IsDue : List ℕ → Body → Type 0
 IsDue octets body = IsBody octets body.number body.clock body.text.now (option_copied body.image)
 
--- a turn with the parts of a text, at a clock
-pub record IsTurnBy (parts : TurnText) (clock : ℕ) (t : LoggedTurn) : Type 0 where
+-- a turn with the parts of a text, at a clock, and with this image, if the record has one
+pub record IsTurnBy (parts : TurnText) (clock : ℕ) (image : Option (List ℕ)) (t : LoggedTurn)
+    : Type 0 where
   pub says : said_in (words_of parts.line.now) ≡ Ok (Some (line_of t.order))
   pub clock_is : t.clock ≡ clock
   pub posts : t.posts ≡ parts.posts
   pub answer : t.answer ≡ parts.answer.now
-  pub bare : t.image ≡ None
+  pub image_is : t.image ≡ image
 
 -- a house that the parts of a text make
 pub record IsMadeBy (parts : TurnText) (m : Making) : Type 0 where

@@ -1,5 +1,5 @@
 -- What the records of a house say, one after the other.
-use Rattle.std.specs.Prelude.{◌≡◌, ℕ, ◌+◌, List, [], ◌∷◌, ◌++◌, Option, Some, None, Ok, IfSome, codes, decimal}
+use Rattle.std.specs.Prelude.{◌≡◌, ℕ, ◌+◌, List, [], ◌∷◌, ◌++◌, Option, Some, Ok, IfSome, codes, decimal}
 use Rattle.std.specs.List.{flat_map}
 use Rattle.cds_stamps.specs.declared.numbers.HouseNo.{HouseNo}
 use Rattle.cell_script.specs.Words.{words_of}
@@ -51,10 +51,9 @@ after_start s image =
       clock = 0;
     }
 
--- the body of a record of a turn with this line; no image follows
-pub record IsTurnBody (s : Told) (body line : List ℕ) (t : LoggedTurn) : Type 0 where
-  pub is : IsBody body (s.number + 1) t.clock (after_turn s line t).turn None
-  pub bare : t.image ≡ None
+-- the body of a record of a turn with this line, and with its image, if it has one
+abbrev pub IsTurnBody : Told → (body line : List ℕ) → LoggedTurn → Type 0
+IsTurnBody s body line t = IsBody body (s.number + 1) t.clock (after_turn s line t).turn t.image
 
 -- the body of a record of a start with this image
 abbrev pub IsStartBody : Told → (body image : List ℕ) → Type 0

@@ -45,6 +45,16 @@ fn octets_of(alloc: Global, octets: &[u8]) -> Result<Octets, AllocError>
     Ok(Octets::of(Vec::from_slice(alloc, octets)?))
 }
 
+// A copy of an image, if there is one.
+fn image_copy(alloc: Global, image: Option<&[u8]>) -> Result<Option<Octets>, AllocError>
+    ensures { IfOk result (λ o. o ≡ option_copied image.entry) }
+{
+    match image {
+        Some(octets) => Ok(Some(octets_of(alloc, octets)?)),
+        None => Ok(None),
+    }
+}
+
 // Whether no image is known, or this one.
 fn can_be(known: Option<&Octets>, image: &[u8]) -> bool
     ensures { OnTrue result (CanBe (option_copied known.entry) image.now) }
@@ -75,13 +85,24 @@ fn kept_line(alloc: Global, line: &[u8], order: &LoggedOrder) -> Result<Octets, 
     }
 }
 
+// The first octets of each head, and how many these and a version are.
+const HEAD: &[u8] = b"cdshouse journal ";
+const VERSION_END: usize = 19;
+
+// Whether a head begins as one does, and not as this title.
+fn is_of_other_version(head: &[u8], title: &[u8]) -> bool {
+    head.starts_with(HEAD) && !title.starts_with(&head[..head.len().min(VERSION_END)])
+}
+
 // The turn of these parts, if its line is one of a turn.
 fn turn_of(
     alloc: Global,
     clock: u64,
     parts: TurnText<'_>,
+    image: Option<&[u8]>,
 ) -> Result<Option<LoggedTurn>, AllocError>
-    ensures { IfOk result (λ o. IfSome o (IsTurnBy parts.entry clock)) }
+    ensures { IfOk result
+        (λ o. IfSome o (IsTurnBy parts.entry clock (option_copied image.entry))) }
 {
     let TurnText {
         line,
@@ -100,7 +121,7 @@ fn turn_of(
         order,
         posts,
         answer: octets_of(alloc, answer)?,
-        image: None,
+        image: image_copy(alloc, image)?,
     }))
 }
 
@@ -174,6 +195,7 @@ impl LogReader {
 
     /// Reads the octets of the next segment. Where they are none, the records before the first fault
     /// are read.
+    #[tactic(auto, using(crate::proofs::ReadingLemmas::front_none))]
     pub fn read(&mut self, alloc: Global, octets: &[u8]) -> Result<(), AllocOr<LogFault>>
         ensures segments { OnOk result (self.new.segments ≡ self.old.segments + 1) }
         ensures read { (bodies : List (List ℕ)) → HasRead self.old bodies
@@ -195,6 +217,7 @@ impl LogReader {
     }
 
     // Reads the records of a segment of this number.
+    #[tactic(auto, using(crate::proofs::ReadingLemmas::front_none))]
     fn read_records(
         &mut self,
         alloc: Global,
@@ -209,7 +232,7 @@ impl LogReader {
             → IfFault result (λ fault. ReadsFront bodies octets.now self.new) }
     {
         let Some((head, rest)) = first_record(octets) else {
-            return Err(AllocOr::Fault(LogFault::Damaged(number, 1)));
+            return Err(AllocOr::Fault(LogFault::NotNext(number)));
         };
         if !self.is_next(head) {
             return Err(AllocOr::Fault(LogFault::NotNext(number)));
@@ -243,6 +266,7 @@ impl LogReader {
 
     // Reads the records at the front of a segment that is damaged. The fault of the first one that is
     // none, or that does not follow.
+    #[tactic(auto, using(crate::proofs::ReadingLemmas::front_none))]
     fn read_front(
         &mut self,
         alloc: Global,
@@ -258,7 +282,7 @@ impl LogReader {
         let Some((head, rest)) = first_record(octets) else {
             return AllocOr::Fault(LogFault::Damaged(number, 1));
         };
-        if head.starts_with(b"cdshouse journal 1 ") {
+        if is_of_other_version(head, title) {
             return AllocOr::Fault(LogFault::OtherVersion(number));
         }
         let (front, _) = octets.split_at(octets.len() - rest.len());
@@ -276,6 +300,7 @@ impl LogReader {
 
     // Reads the records at the front of octets that are a chain after this digest. The place of the
     // first one that is none.
+    #[tactic(auto, using(crate::proofs::ReadingLemmas::read_some))]
     fn read_chain(
         &mut self,
         alloc: Global,
@@ -386,7 +411,10 @@ impl LogReader {
         if let Some(turn) = without(b"start\n", body.text) {
             return self.take_start(alloc, body, turn, image);
         }
-        self.goes_on(alloc, body, image)
+        if body.text.starts_with(b"segment ") {
+            return self.goes_on(alloc, body, image);
+        }
+        self.take_turn(alloc, body)
     }
 
     // Whether a record without an image is the first one of a process without a house.
@@ -470,16 +498,18 @@ impl LogReader {
     {
         let shown = octets_of(alloc, image)?;
         let Some(last) = self.entries.pop() else {
-            let can = can_be(self.image.as_ref(), image);
-            if can {
-                self.image = Some(shown);
+            if !can_be(self.image.as_ref(), image) {
+                return Ok(false);
             }
-            return Ok(can);
+            self.image = Some(shown);
+            return Ok(true);
         };
-        let can = can_be(last.image(), image);
-        let last = if can { last.with_image(shown) } else { last };
-        self.entries.push(last)?;
-        Ok(can)
+        if !can_be(last.image(), image) {
+            self.entries.push(last)?;
+            return Ok(false);
+        }
+        self.entries.push(last.with_image(shown))?;
+        Ok(true)
     }
 
     // Takes the first record of a segment in the middle of a process.
@@ -514,7 +544,7 @@ impl LogReader {
         ensures digest { self.new.digest ≡ self.old.digest }
         ensures segments { self.new.segments ≡ self.old.segments }
         ensures read { (bodies : List (List ℕ)) (octets : List ℕ) → HasRead self.old bodies
-            → IsBody octets body.now.number body.now.clock body.now.text.now None
+            → IsDue octets body.now
             → IfOk result (λ takes. OnTrue takes (HasRead self.new (bodies ++ octets ∷ []))) }
         ensures kept { (bodies : List (List ℕ)) → HasRead self.old bodies
             → IfOk result (λ takes. OnFalse takes (HasRead self.new bodies)) }
@@ -545,7 +575,7 @@ impl LogReader {
         ensures digest { self.new.digest ≡ self.old.digest }
         ensures segments { self.new.segments ≡ self.old.segments }
         ensures read { (bodies : List (List ℕ)) (octets : List ℕ) → HasRead self.old bodies
-            → IsBody octets body.now.number body.now.clock body.now.text.now None
+            → IsDue octets body.now
             → IfOk result (λ takes. OnTrue takes (HasRead self.new (bodies ++ octets ∷ []))) }
         ensures kept { (bodies : List (List ℕ)) → HasRead self.old bodies
             → IfOk result (λ takes. OnFalse takes (HasRead self.new bodies)) }
@@ -557,7 +587,7 @@ impl LogReader {
             return Ok(false);
         };
         self.turn = Vec::from_slice(alloc, body.text)?;
-        self.image = None;
+        self.image = image_copy(alloc, body.image)?;
         self.made = Some(made);
         self.number = body.number;
         self.clock = 0;
@@ -578,12 +608,12 @@ impl LogReader {
         ensures digest { self.new.digest ≡ self.old.digest }
         ensures segments { self.new.segments ≡ self.old.segments }
         ensures read { (bodies : List (List ℕ)) (octets : List ℕ) → HasRead self.old bodies
-            → IsBody octets body.now.number body.now.clock body.now.text.now None
+            → IsDue octets body.now
             → IfOk result (λ takes. OnTrue takes (HasRead self.new (bodies ++ octets ∷ []))) }
         ensures kept { (bodies : List (List ℕ)) → HasRead self.old bodies
             → IfOk result (λ takes. OnFalse takes (HasRead self.new bodies)) }
     {
-        let Some(turn) = turn_of(alloc, body.clock, parts)? else {
+        let Some(turn) = turn_of(alloc, body.clock, parts, body.image)? else {
             return Ok(false);
         };
         self.turn = Vec::from_slice(alloc, body.text)?;
