@@ -1,7 +1,7 @@
 // How the program ends.
 
 /// How the program ends.
-#[derive(Clone, Copy, Debug, PartialEq, Eq)]
+#[derive(Clone, Copy, Debug, PartialEq, Eq, Drop)]
 pub enum Status {
     Ok,
     Usage,
