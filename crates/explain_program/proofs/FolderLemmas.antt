@@ -3,8 +3,6 @@ use Rattle.std.proofs.Common.{◌≡◌, ℕ, zero, suc, ◌+◌, List, [], ◌�
 use Rattle.std.specs.Prelude.{slice_get}
 use Rattle.std.specs.Option.{option_to_list}
 use Rattle.std.proofs.lemmas.List.{take-append-drop}
-use Rattle.std.proofs.lemmas.Option.{get_or_from_slice_get, slice_get_within}
-use Rattle.std.proofs.Math.Seq.{take-suc}
 use Rattle.std.proofs.lemmas.Grind.{common_steps}
 use Rattle.house_logs.specs.declared.log.HouseLog.{HouseLog}
 use Rattle.house_logs.specs.declared.reader.LogReader.{LogReader}
@@ -17,22 +15,11 @@ use Rattle.explain_program.specs.Folders.{AreRead, AreSegments, HasReadAll, HasR
 
 -- ---- lists
 
--- the first values, and one more
-pub take_next : {A : Type 0} (xs : List A) (n : ℕ) (x : A) → slice_get xs n ≡ Some x → take (n + 1) xs ≡ take n xs ++ x ∷ []
-take_next xs n x is =
-    let next : n + 1 ≡ suc n = omega arith in
-    ap (λ (k : ℕ). take k xs) next
-    ∙ take-suc xs n x (slice_get_within xs n x is)
-    ∙ ap (λ (y : _). take n xs ++ y ∷ []) (get_or_from_slice_get xs n x x is)
-
 -- the values from a place on begin with the one that is there
 drop_suc : {A : Type 0} (xs : List A) (n : ℕ) (x : A) → slice_get xs n ≡ Some x → drop n xs ≡ x ∷ drop (suc n) xs
 drop_suc [] n x is = absurd (cc (is))
 drop_suc {A = A} (y ∷ ys) zero x is = ap (λ (a : A). a ∷ ys) (let e : y ≡ x = cc in e)
 drop_suc (y ∷ ys) (suc n) x is = drop_suc ys n x is
-
-pub drop_next : {A : Type 0} (xs : List A) (n : ℕ) (x : A) → slice_get xs n ≡ Some x → (rest : List A) × (drop n xs ≡ x ∷ rest)
-drop_next xs n x is = (drop (suc n) xs, drop_suc xs n x is)
 
 -- ---- segments
 
@@ -60,41 +47,42 @@ segments-more number before (s ∷ segments) bodies mid octets own after are is 
     )
 
 -- a reader that has read one segment more
-pub read_more : (old new : LogReader) (segments : List (List ℕ)) (i : ℕ) (octets : List ℕ) (h : HasReadAll (take i segments) old)
-    → slice_get segments i ≡ Some octets → ReadsOn h.bodies octets old new → new.segments ≡ old.segments + 1 → HasReadAll (take (i + 1) segments) new
-read_more old new segments i octets h there on count =
-    subst (λ (l : List (List ℕ)). HasReadAll l new) (sym (take_next segments i octets there)) (record {
-      bodies = h.bodies ++ on.more;
-      are =
-          segments-more 1 no_digest (take i segments) h.bodies old.digest octets on.more new.digest h.are
-          (subst (λ (n : ℕ). IsSegment n old.digest octets on.more new.digest) number on.segment);
-      read = on.read;
-      count = (let many = h.count in grind (arith, common_steps));
-    })
+pub read_more : (old new : LogReader) (segments : List (List ℕ)) (octets : List ℕ) (h : HasReadAll segments old) → ReadsOn h.bodies octets old new
+    → new.segments ≡ old.segments + 1 → HasReadAll (segments ++ octets ∷ []) new
+read_more old new segments octets h on count = record {
+  bodies = h.bodies ++ on.more;
+  are =
+      segments-more 1 no_digest segments h.bodies old.digest octets on.more new.digest h.are
+      (subst (λ (n : ℕ). IsSegment n old.digest octets on.more new.digest) number on.segment);
+  read = on.read;
+  count = (let many = h.count in grind (arith, count, many, common_steps));
+}
   where
-    number : old.segments + 1 ≡ 1 + length (take i segments)
-    number = let many = h.count in omega arith
+    number : old.segments + 1 ≡ 1 + length segments
+    number = let many = h.count in omega (arith, many)
 
 -- one that stopped within the next one
-pub read_within : (old new : LogReader) (segments : List (List ℕ)) (i : ℕ) (octets : List ℕ) (h : HasReadAll (take i segments) old)
-    → slice_get segments i ≡ Some octets → ReadsFront h.bodies octets new → HasReadFirst segments new
-read_within old new segments i octets h there stops =
-    let rest = drop_next segments i octets there in
-    record {
-      bodies = h.bodies ++ stops.front;
-      are = record {
-        whole = take i segments;
-        others = octets ∷ rest.0;
-        own = h.bodies;
-        after = old.digest;
-        front = stops.front;
-        parts = sym (take-append-drop i segments) ∙ ap (λ (l : List (List ℕ)). take i segments ++ l) rest.1;
-        are = h.are;
-        begins = (stops.others, stops.parts);
-        bodies_are = refl;
-      };
-      read = stops.read;
-    }
+pub read_within : (old new : LogReader) (segments rest : List (List ℕ)) (octets : List ℕ) (h : HasReadAll segments old) → ReadsFront h.bodies octets new
+    → HasReadFirst (segments ++ octets ∷ rest) new
+read_within old new segments rest octets h stops = record {
+  bodies = h.bodies ++ stops.front;
+  are = record {
+    whole = segments;
+    others = octets ∷ rest;
+    own = h.bodies;
+    after = old.digest;
+    front = stops.front;
+    parts = refl;
+    are = h.are;
+    begins = (stops.others, stops.parts);
+    bodies_are = refl;
+  };
+  read = stops.read;
+}
+
+-- a list, by what is before a place, what is there, and what comes after it
+pub around : {A : Type 0} (xs : List A) (n : ℕ) (x : A) → slice_get xs n ≡ Some x → xs ≡ take n xs ++ x ∷ drop (suc n) xs
+around xs n x is = sym (take-append-drop n xs) ∙ ap (λ (l : _). take n xs ++ l) (drop_suc xs n x is)
 
 -- all segments were read: these are the first ones
 pub read_first : (r : LogReader) (segments : List (List ℕ)) → HasReadAll segments r → HasReadFirst segments r
@@ -147,23 +135,22 @@ faults-more place (s ∷ rs) r =
     ∙ sym (append_assoc (placed place s.fault) (faults_in (place + 1) rs) (placed (place + length (s ∷ rs)) r.fault))
 
 -- one folder more
-pub evidence_more : (fs : List FolderOctets) (i : ℕ) (f : FolderOctets) (r : FolderLog) (logs logs' : List HouseLog) (faults faults' : List PlacedFault)
-    → IsEvidence (take i fs) logs faults → slice_get fs i ≡ Some f → i ≡ length (take i fs) → IsRead f r → logs' ≡ logs ++ option_to_list r.log
-    → faults' ≡ faults ++ placed (i + 1) r.fault → IsEvidence (take (i + 1) fs) logs' faults'
-evidence_more fs i f r logs logs' faults faults' e there many is more broken =
-    subst (λ (l : List FolderOctets). IsEvidence l logs' faults') (sym (take_next fs i f there)) (record {
-      rs = e.rs ++ r ∷ [];
-      read = reads-more (take i fs) e.rs f r e.read is;
-      logs_are =
-          more
-          ∙ ap (λ (l : List HouseLog). l ++ option_to_list r.log) e.logs_are
-          ∙ sym (logs-more e.rs r);
-      faults_are =
-          broken
-          ∙ ap (λ (l : List PlacedFault). l ++ placed (i + 1) r.fault) e.faults_are
-          ∙ ap (λ (n : ℕ). faults_in 1 e.rs ++ placed n r.fault) place
-          ∙ sym (faults-more 1 e.rs r);
-    })
+pub evidence_more : (fs : List FolderOctets) (place : ℕ) (f : FolderOctets) (r : FolderLog) (logs logs' : List HouseLog) (faults faults' : List PlacedFault)
+    → IsEvidence fs logs faults → place ≡ length fs + 1 → IsRead f r → logs' ≡ logs ++ option_to_list r.log → faults' ≡ faults ++ placed place r.fault
+    → IsEvidence (fs ++ f ∷ []) logs' faults'
+evidence_more fs place f r logs logs' faults faults' e is read more broken = record {
+  rs = e.rs ++ r ∷ [];
+  read = reads-more fs e.rs f r e.read read;
+  logs_are =
+      more
+      ∙ ap (λ (l : List HouseLog). l ++ option_to_list r.log) e.logs_are
+      ∙ sym (logs-more e.rs r);
+  faults_are =
+      broken
+      ∙ ap (λ (l : List PlacedFault). l ++ placed place r.fault) e.faults_are
+      ∙ ap (λ (n : ℕ). faults_in 1 e.rs ++ placed n r.fault) here
+      ∙ sym (faults-more 1 e.rs r);
+}
   where
-    place : i + 1 ≡ 1 + length e.rs
-    place = let count = read_count (take i fs) e.rs e.read in omega (arith, many, count)
+    here : place ≡ 1 + length e.rs
+    here = let count = read_count fs e.rs e.read in omega (arith, is, count)

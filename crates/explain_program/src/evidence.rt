@@ -1,5 +1,6 @@
 // The journals of all folders.
-ghost use Rattle.std.specs.Prelude.{◌≡◌, ◌++◌, IfOk, OnOk};
+ghost use Rattle.std.specs.Prelude.{◌≡◌, ◌+◌, ◌++◌, ◌∷◌, [], List, length, IfOk, OnOk};
+ghost use Rattle.explain_program.specs.declared.folder.FolderOctets.{FolderOctets as FolderOctets'};
 ghost use Rattle.std.specs.Option.{option_to_list};
 ghost use Rattle.explain_program.specs.Folders.{IsEvidence, placed};
 
@@ -39,6 +40,25 @@ fn push_fault(
     Ok(())
 }
 
+impl Evidence {
+    // Adds what is read of a folder, which has this place.
+    fn add(
+        &mut self,
+        alloc: Global,
+        place: usize,
+        folder: &FolderOctets,
+    ) -> Result<(), AllocError>
+        ensures { (fs : List FolderOctets')
+            → IsEvidence fs self.old.logs.items self.old.faults.items → place ≡ length fs + 1
+            → OnOk result (IsEvidence (fs ++ folder.now ∷ []) self.new.logs.items
+            self.new.faults.items) }
+    {
+        let FolderLog { log, fault } = read_folder(alloc, folder)?;
+        push_log(&mut self.logs, log)?;
+        push_fault(&mut self.faults, place, fault)
+    }
+}
+
 /// The journals of all folders.
 pub(crate) fn evidence_of(
     alloc: Global,
@@ -46,12 +66,12 @@ pub(crate) fn evidence_of(
 ) -> Result<Evidence, AllocError>
     ensures { IfOk result (λ e. IsEvidence folders.now e.logs.items e.faults.items) }
 {
-    let mut logs = Vec::new(alloc);
-    let mut faults = Vec::new(alloc);
+    let mut evidence = Evidence {
+        logs: Vec::new(alloc),
+        faults: Vec::new(alloc),
+    };
     for (at, folder) in folders.iter().enumerate() {
-        let FolderLog { log, fault } = read_folder(alloc, folder)?;
-        push_log(&mut logs, log)?;
-        push_fault(&mut faults, at + 1, fault)?;
+        evidence.add(alloc, at + 1, folder)?;
     }
-    Ok(Evidence { logs, faults })
+    Ok(evidence)
 }

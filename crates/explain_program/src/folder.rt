@@ -1,5 +1,5 @@
 // What a folder has of the journal of a house, and the journal that this is.
-ghost use Rattle.std.specs.Prelude.{[], IfOk, OnOk};
+ghost use Rattle.std.specs.Prelude.{◌++◌, ◌∷◌, [], ℕ, List, IfOk, OnOk};
 ghost use Rattle.explain_program.specs.Folders.{HasReadAll, HasReadFirst, IsRead};
 ghost use Rattle.house_logs.specs.Reads.{IfFault};
 
@@ -42,6 +42,20 @@ pub(crate) struct FolderLog {
     pub(crate) fault: Option<FolderFault>,
 }
 
+// Reads the octets of the next segment.
+fn read_next(
+    alloc: Global,
+    reader: &mut LogReader,
+    octets: &Octets,
+) -> Result<(), AllocOr<LogFault>>
+    ensures read { (segments : List (List ℕ)) → HasReadAll segments reader.old
+        → OnOk result (HasReadAll (segments ++ octets.now ∷ []) reader.new) }
+    ensures stopped { (segments rest : List (List ℕ)) → HasReadAll segments reader.old
+        → IfFault result (λ fault. HasReadFirst (segments ++ octets.now ∷ rest) reader.new) }
+{
+    reader.read(alloc, octets.list())
+}
+
 // Reads the octets of segments.
 fn read_segments(
     alloc: Global,
@@ -53,7 +67,7 @@ fn read_segments(
     ensures stopped { IfFault result (λ fault. HasReadFirst segments.now reader.new) }
 {
     for octets in segments {
-        reader.read(alloc, octets.list())?;
+        read_next(alloc, reader, octets)?;
     }
     Ok(())
 }
