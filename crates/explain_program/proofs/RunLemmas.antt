@@ -1,10 +1,13 @@
 -- What is said of an explanation, and how the program ends.
 use Rattle.std.proofs.Common.{◌≡◌, ℕ, ◌==◌, inl, inr, List, [], ◌∷◌, length, Option, None, Some, refl, sym, ◌∙◌, ap, subst, take}
-use Rattle.std.specs.Prelude.{MatchOption, IfOk}
+use Rattle.std.specs.Prelude.{OnOk, Result, Ok, Err}
+use Rattle.std.specs.Result.{IsErr, IsErrAnd}
+use Rattle.cds_stamps.specs.declared.alloc_or.AllocOr.{AllocOr}
+use Rattle.cds_stamps.specs.declared.alloc_or.AllocOr.TheVariants.{Fault, OutOfMemory}
 use Rattle.std.specs.Io.KnownBytes.{Appends}
 use Rattle.house_logs.specs.declared.log.HouseLog.{HouseLog}
 use Rattle.house_logs.specs.declared.reader.LogReader.{LogReader}
-use Rattle.house_logs.specs.Reads.{HasRead}
+use Rattle.house_logs.specs.Reads.{HasRead, IfFault, OfFault}
 use Rattle.cds_explain.specs.Explained.{Explains, ExplainsFirst, ExplainsUpTo}
 use Rattle.cds_explain.specs.declared.cause.Reason.{Reason}
 use Rattle.cds_explain.specs.declared.explanation.Ending.{Ending}
@@ -40,6 +43,29 @@ begun_read f r log h is = record {
   are = h.are;
   is = is h.bodies h.read;
 }
+
+-- ---- results
+
+-- what two facts of a result imply
+pub both_ok : {T E : Type 0} {A B C : Type 0} (r : Result T E) → (A → B → C) → OnOk r A → OnOk r B → OnOk r C
+both_ok (Ok x) then a b = then a b
+both_ok (Err e) then a b = tt
+
+-- what a fault implies
+fault_then : {F : Type 0} {P Q : F → Type 0} (e : AllocOr F) → ((f : F) → Q f → P f) → OfFault e Q → OfFault e P
+fault_then (Fault f) then is = then f is
+fault_then OutOfMemory then is = tt
+
+-- that of a call
+pub fault_called : {U F : Type 0} {P Q : F → Type 0} (r : Result U (AllocOr F)) → ((f : F) → Q f → P f) → IfFault r Q → IfFault r P
+fault_called (Ok x) then q = tt
+fault_called (Err e) then q = fault_then e then q
+
+-- one that is passed on
+pub fault_passed : {U F : Type 0} {P Q : F → Type 0} (r : Result U (AllocOr F)) (e : AllocOr F) → IsErr r × IsErrAnd r (λ y. y ≡ e)
+    → ((f : F) → Q f → P f) → OfFault e Q → IfFault r P
+fault_passed (Ok x) e is then q = tt
+fault_passed {U} {F} {P} {Q} (Err y) e is then q = subst (λ (z : AllocOr F). OfFault z P) (sym is.1) (fault_then e then q)
 
 -- ---- the endings
 
