@@ -318,12 +318,12 @@ impl LogReader {
         let mut rest = octets;
         let mut digest = before;
         let mut place: u64 = 1;
-        'records: while let Some((record, behind)) = first_record(rest) {
+        'records: while let Some((sealed, behind)) = first_record(rest) {
             place = place.saturating_add(1);
-            let Some(next) = unsealed(&digest, record) else {
+            let Some(next) = unsealed(&digest, sealed) else {
                 return Ok(place);
             };
-            self.read_record(alloc, number, place, record)?;
+            self.read_record(alloc, number, place, sealed)?;
             digest = next.digest;
             rest = behind;
         }
