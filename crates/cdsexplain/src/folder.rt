@@ -44,11 +44,7 @@ fn status_of(error: io::Error) -> Status {
 }
 
 // The octets of a segment; none, if it is not there.
-fn segment_octets(
-    rt: &HostRuntime,
-    folder: &str,
-    number: u64,
-) -> Result<Option<Vec<u8>>, Status> {
+fn segment_octets(rt: &HostRuntime, folder: &str, number: u64) -> Result<Option<Vec<u8>>, Status> {
     let Ok(path) = path_of(rt, folder, number) else {
         return Err(Status::OutOfMemory);
     };
@@ -89,8 +85,7 @@ fn octets_of(rt: &HostRuntime, folder: &str) -> Result<FolderOctets, Status> {
 }
 
 /// The octets of folders. There has to be one at least.
-pub(crate) fn folders_of(rt: &HostRuntime, words: &[String]) -> Result<Vec<FolderOctets>, Status>
-{
+pub(crate) fn folders_of(rt: &HostRuntime, words: &[String]) -> Result<Vec<FolderOctets>, Status> {
     if words.is_empty() {
         return Err(Status::Usage);
     }

@@ -42,12 +42,7 @@ fn push_fault(
 
 impl Evidence {
     // Adds what is read of a folder, which has this place.
-    fn add(
-        &mut self,
-        alloc: Global,
-        place: usize,
-        folder: &FolderOctets,
-    ) -> Result<(), AllocError>
+    fn add(&mut self, alloc: Global, place: usize, folder: &FolderOctets) -> Result<(), AllocError>
         ensures { (fs : List FolderOctets')
             → IsEvidence fs self.old.logs.items self.old.faults.items → place ≡ length fs + 1
             → OnOk result (IsEvidence (fs ++ folder.now ∷ []) self.new.logs.items
@@ -60,10 +55,7 @@ impl Evidence {
 }
 
 /// The journals of all folders.
-pub(crate) fn evidence_of(
-    alloc: Global,
-    folders: &[FolderOctets],
-) -> Result<Evidence, AllocError>
+pub(crate) fn evidence_of(alloc: Global, folders: &[FolderOctets]) -> Result<Evidence, AllocError>
     ensures { IfOk result (λ e. IsEvidence folders.now e.logs.items e.faults.items) }
 {
     let mut evidence = Evidence {

@@ -22,11 +22,7 @@ pub(crate) struct Told {
 }
 
 // Adds the lines of faults, which are comments of a script.
-fn push_faults(
-    alloc: Global,
-    text: &mut Vec<u8>,
-    faults: &[PlacedFault],
-) -> Result<(), AllocError>
+fn push_faults(alloc: Global, text: &mut Vec<u8>, faults: &[PlacedFault]) -> Result<(), AllocError>
     ensures { OnOk result (HasMore text.old.items text.new.items) }
 {
     for placed in faults {

@@ -87,6 +87,7 @@ fn kept_line(alloc: Global, line: &[u8], order: &LoggedOrder) -> Result<Octets, 
 
 // The first octets of each head, and how many these and a version are.
 const HEAD: &[u8] = b"cdshouse journal ";
+
 const VERSION_END: usize = 19;
 
 // Whether a head begins as one does, and not as this title.
@@ -536,11 +537,7 @@ impl LogReader {
     }
 
     // Takes the record of a turn: the first one makes the house.
-    fn take_turn(
-        &mut self,
-        alloc: Global,
-        body: &Body<'_>,
-    ) -> Result<bool, AllocError>
+    fn take_turn(&mut self, alloc: Global, body: &Body<'_>) -> Result<bool, AllocError>
         ensures digest { self.new.digest ≡ self.old.digest }
         ensures segments { self.new.segments ≡ self.old.segments }
         ensures read { (bodies : List (List ℕ)) (octets : List ℕ) → HasRead self.old bodies
