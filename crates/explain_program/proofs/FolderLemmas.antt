@@ -11,7 +11,7 @@ use Rattle.house_logs.specs.Reads.{HasRead, ReadsFront, ReadsOn}
 use Rattle.explain_program.specs.declared.folder.FolderLog.{FolderLog}
 use Rattle.explain_program.specs.declared.folder.FolderOctets.{FolderOctets}
 use Rattle.explain_program.specs.declared.told.PlacedFault.{PlacedFault}
-use Rattle.explain_program.specs.Folders.{AreRead, AreSegments, HasReadAll, HasReadFirst, IsEvidence, IsRead, faults_in, logs_in, no_digest, placed}
+use Rattle.explain_program.specs.Folders.{AreRead, AreSegments, HasReadAll, HasReadFirst, IsEvidence, IsRead, fault_at, faults_in, logs_in, no_digest}
 
 -- ---- lists
 
@@ -124,19 +124,19 @@ logs-more (s ∷ rs) r =
     ap (λ (l : List HouseLog). option_to_list s.log ++ l) (logs-more rs r)
     ∙ sym (append_assoc (option_to_list s.log) (logs_in rs) (option_to_list r.log))
 
-faults-more : (place : ℕ) (rs : List FolderLog) (r : FolderLog) → faults_in place (rs ++ r ∷ []) ≡ faults_in place rs ++ placed (place + length rs) r.fault
+faults-more : (place : ℕ) (rs : List FolderLog) (r : FolderLog) → faults_in place (rs ++ r ∷ []) ≡ faults_in place rs ++ fault_at (place + length rs) r.fault
 faults-more place [] r =
     let here : place ≡ place + 0 = omega arith in
-    append-nil (placed place r.fault) ∙ ap (λ (n : ℕ). placed n r.fault) here
+    append-nil (fault_at place r.fault) ∙ ap (λ (n : ℕ). fault_at n r.fault) here
 faults-more place (s ∷ rs) r =
     let here : place + 1 + length rs ≡ place + length (s ∷ rs) = grind (arith, common_steps) in
-    ap (λ (l : List PlacedFault). placed place s.fault ++ l)
-    (faults-more (place + 1) rs r ∙ ap (λ (n : ℕ). faults_in (place + 1) rs ++ placed n r.fault) here)
-    ∙ sym (append_assoc (placed place s.fault) (faults_in (place + 1) rs) (placed (place + length (s ∷ rs)) r.fault))
+    ap (λ (l : List PlacedFault). fault_at place s.fault ++ l)
+    (faults-more (place + 1) rs r ∙ ap (λ (n : ℕ). faults_in (place + 1) rs ++ fault_at n r.fault) here)
+    ∙ sym (append_assoc (fault_at place s.fault) (faults_in (place + 1) rs) (fault_at (place + length (s ∷ rs)) r.fault))
 
 -- one folder more
 pub evidence_more : (fs : List FolderOctets) (place : ℕ) (f : FolderOctets) (r : FolderLog) (logs logs' : List HouseLog) (faults faults' : List PlacedFault)
-    → IsEvidence fs logs faults → place ≡ length fs + 1 → IsRead f r → logs' ≡ logs ++ option_to_list r.log → faults' ≡ faults ++ placed place r.fault
+    → IsEvidence fs logs faults → place ≡ length fs + 1 → IsRead f r → logs' ≡ logs ++ option_to_list r.log → faults' ≡ faults ++ fault_at place r.fault
     → IsEvidence (fs ++ f ∷ []) logs' faults'
 evidence_more fs place f r logs logs' faults faults' e is read more broken = record {
   rs = e.rs ++ r ∷ [];
@@ -147,8 +147,8 @@ evidence_more fs place f r logs logs' faults faults' e is read more broken = rec
       ∙ sym (logs-more e.rs r);
   faults_are =
       broken
-      ∙ ap (λ (l : List PlacedFault). l ++ placed place r.fault) e.faults_are
-      ∙ ap (λ (n : ℕ). faults_in 1 e.rs ++ placed n r.fault) here
+      ∙ ap (λ (l : List PlacedFault). l ++ fault_at place r.fault) e.faults_are
+      ∙ ap (λ (n : ℕ). faults_in 1 e.rs ++ fault_at n r.fault) here
       ∙ sym (faults-more 1 e.rs r);
 }
   where

@@ -38,8 +38,8 @@ pub record AreExplained (fs : List FolderOctets) (text : List ℕ) : Type 0 wher
   pub evidence : IsEvidence fs logs []
   pub explains : Explains text logs
 
--- the text begins with a script that explains the first entries of the journals, as far as these are
--- read; and a folder has a fault, or the next entry of a journal is not explained
+-- the text begins with a script that explains the first entries of the journals, as far as these
+-- are read; and a folder has a fault, or the next entry of a journal is not explained
 pub record AreUnexplained (fs : List FolderOctets) (text : List ℕ) : Type 0 where
   pub logs : List HouseLog
   pub faults : List PlacedFault
@@ -81,7 +81,8 @@ pub record WritesPart (fs : List FolderOctets) (old new : Option (List ℕ)) : T
 
 -- how the program ends: with what is said and written; or a write failed; or memory ran out before
 -- anything was written
-abbrev pub Ends : List FolderOctets → Status → (old new : Option (List ℕ)) → (kept : Type 0) → Type 0
+abbrev pub Ends : List FolderOctets → Status → (old new : Option (List ℕ)) → (kept : Type 0)
+    → Type 0
 Ends fs status.WriteFault old new kept = WritesPart fs old new
 Ends fs status.OutOfMemory old new kept = kept
 Ends fs other old new kept = Writes fs other old new

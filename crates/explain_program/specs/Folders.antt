@@ -17,11 +17,12 @@ use Rattle.explain_program.specs.declared.told.PlacedFault.{PlacedFault}
 
 -- octets are segments from this number on, the first one after a record with this digest; these are
 -- the bodies of their records, and the last one has the digest after (own)
-abbrev pub AreSegments : (number : ℕ) → (before : List ℕ) → (segments bodies : List (List ℕ)) → (after : List ℕ) → Type 0
+abbrev pub AreSegments : (number : ℕ) → (before : List ℕ) → (segments bodies : List (List ℕ))
+    → (after : List ℕ) → Type 0
 AreSegments number before [] bodies after = (bodies ≡ []) × (after ≡ before)
 AreSegments number before (octets ∷ segments) bodies after =
-    (mid : List ℕ) × (own : List (List ℕ)) × (others : List (List ℕ)) × IsSegment number before octets own mid
-    × AreSegments (number + 1) mid segments others after × (bodies ≡ own ++ others)
+    (mid : List ℕ) × (own : List (List ℕ)) × (others : List (List ℕ))
+    × IsSegment number before octets own mid × AreSegments (number + 1) mid segments others after × (bodies ≡ own ++ others)
 
 -- the digest before the first record of a journal
 abbrev pub no_digest : List ℕ
@@ -33,8 +34,8 @@ BeginsSo [] front = front ≡ []
 BeginsSo (octets ∷ segments) front =
     (others : List (List ℕ)) × (map body_in (drop 1 (images octets)) ≡ front ++ others)
 
--- the first records of a folder have these bodies: those of its first segments, which are whole, and
--- the first ones of the next segment (own)
+-- the first records of a folder have these bodies: those of its first segments, which are whole,
+-- and the first ones of the next segment (own)
 pub record AreFirst (segments bodies : List (List ℕ)) : Type 0 where
   pub whole : List (List ℕ)
   pub others : List (List ℕ)
@@ -100,14 +101,14 @@ abbrev pub logs_in : List FolderLog → List HouseLog
 logs_in = flat_map (λ r. option_to_list r.log)
 
 -- a fault, with the place of its folder
-abbrev pub placed : (place : ℕ) → Option FolderFault → List PlacedFault
-placed place None = []
-placed place (Some fault) = record { place = place; fault = fault } ∷ []
+abbrev pub fault_at : (place : ℕ) → Option FolderFault → List PlacedFault
+fault_at place None = []
+fault_at place (Some fault) = record { place = place; fault = fault } ∷ []
 
 -- the faults of folders, the first of which has this place
 abbrev pub faults_in : (place : ℕ) → List FolderLog → List PlacedFault
 faults_in place [] = []
-faults_in place (r ∷ rs) = placed place r.fault ++ faults_in (place + 1) rs
+faults_in place (r ∷ rs) = fault_at place r.fault ++ faults_in (place + 1) rs
 
 -- these are the journals of folders, as far as they are read, and these are their faults
 pub record IsEvidence (fs : List FolderOctets) (logs : List HouseLog) (faults : List PlacedFault)

@@ -2,7 +2,7 @@
 ghost use Rattle.std.specs.Prelude.{◌≡◌, ◌+◌, ◌++◌, ◌∷◌, [], List, length, IfOk, OnOk};
 ghost use Rattle.explain_program.specs.declared.folder.FolderOctets.{FolderOctets as FolderOctets'};
 ghost use Rattle.std.specs.Option.{option_to_list};
-ghost use Rattle.explain_program.specs.Folders.{IsEvidence, placed};
+ghost use Rattle.explain_program.specs.Folders.{IsEvidence, fault_at};
 
 use crate::folder::{FolderFault, FolderLog, FolderOctets, read_folder};
 use crate::told::PlacedFault;
@@ -32,7 +32,7 @@ fn push_fault(
     place: usize,
     fault: Option<FolderFault>,
 ) -> Result<(), AllocError>
-    ensures { OnOk result (faults.new.items ≡ faults.old.items ++ placed place fault) }
+    ensures { OnOk result (faults.new.items ≡ faults.old.items ++ fault_at place fault) }
 {
     if let Some(fault) = fault {
         faults.push(PlacedFault { place, fault })?;

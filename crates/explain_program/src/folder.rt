@@ -18,8 +18,8 @@ pub enum FolderEnd {
     Missing,
 }
 
-/// What a folder has of the journal of a house: the octets of its segments, from 1 on, and how these
-/// end.
+/// What a folder has of the journal of a house: the octets of its segments, from 1 on, and how
+/// these end.
 #[derive(Drop)]
 pub struct FolderOctets {
     pub segments: Vec<Octets>,

@@ -43,7 +43,7 @@ pub record IsLogOf (bodies : List (List ℕ)) (s : Told) : Type 0 where
   pub begins : Begins first begun
   pub records : AreRecords begun others s
 
--- what was told is this journal
+-- what records say is this journal
 pub record IsToldOf (log : HouseLog) (s : Told) : Type 0 where
   pub house : s.house ≡ log.house
   pub node : s.node ≡ log.node

@@ -68,14 +68,14 @@ pub record HasReadPart (octets : List ℕ) (bodies : List (List ℕ)) (new : Log
   pub read : HasRead new (bodies ++ front)
 
 -- this holds of the fault, if it is one
-abbrev pub OfFault : {F : Type 0} → AllocOr F → (F → Type 0) → Type 0
-OfFault (Fault f) P = P f
-OfFault OutOfMemory P = Unit {0}
+abbrev pub OfFault : {F : Type 0} → AllocOr F → (holds : F → Type 0) → Type 0
+OfFault (Fault fault) holds = holds fault
+OfFault OutOfMemory holds = Unit {0}
 
 -- of a call that ended by a fault
-abbrev pub IfFault : {T F : Type 0} → Result T (AllocOr F) → (F → Type 0) → Type 0
-IfFault (Ok x) P = Unit {0}
-IfFault (Err e) P = OfFault e P
+abbrev pub IfFault : {T F : Type 0} → Result T (AllocOr F) → (holds : F → Type 0) → Type 0
+IfFault (Ok x) holds = Unit {0}
+IfFault (Err e) holds = OfFault e holds
 
 -- the octets of a record are these fields
 abbrev pub IsDue : List ℕ → Body → Type 0

@@ -11,8 +11,9 @@ use Rattle.house_logs.specs.declared.log.LoggedTurn.{LoggedTurn}
 use Rattle.house_logs.specs.Orders.{line_of}
 use Rattle.house_logs.specs.TurnTexts.{turn_text}
 
--- what the records of a house told so far: the house, the image with which it was made, if one shows
--- it, and its entries after that; the number and the clock of the last one; the text of the last turn
+-- what the first records of a house say: the house, the image with which it was made, if one shows
+-- it, and its entries after that; the number and the clock of the last one; the text of the last
+-- turn
 pub record Told : Type 0 where
   pub house : HouseNo
   pub node : ℕ
@@ -65,8 +66,8 @@ IsStartBody s body image = IsBody body (s.number + 1) 0 (start_text s) (Some ima
 abbrev pub running_text : List (List ℕ) → List ℕ
 running_text = flat_map (λ words. codes "running " ++ (words ++ 10 ∷ []))
 
--- the text of the first record of a segment in the middle of a process: the skulks that run, and the
--- last turn once more
+-- the text of the first record of a segment in the middle of a process: the skulks that run, and
+-- the last turn once more
 abbrev pub segment_text : Told → (running : List (List ℕ)) → List ℕ
 segment_text s running =
     codes "segment " ++ (decimal s.number ++ (10 ∷ (running_text running ++ s.turn)))

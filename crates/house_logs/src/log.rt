@@ -71,8 +71,8 @@ impl LogEntry {
     }
 }
 
-/// The journal of a house: its number, its node, the image with which it was made, if a record shows
-/// it, and the entries after that, the first of which has the number 2.
+/// The journal of a house: its number, its node, the image with which it was made, if a record
+/// shows it, and the entries after that, the first of which has the number 2.
 #[derive(Drop)]
 pub struct HouseLog {
     pub house: HouseNo,

@@ -24,8 +24,8 @@ use script_answers::push_number;
 use std::alloc::{AllocError, Global};
 
 /// The journal of a house as far as it was read: how many segments, and the digest of the last
-/// record; who the house is, if it was made, the image with which it was, and its entries after that;
-/// the number and the clock of the last entry, and the text of the last turn.
+/// record; who the house is, if it was made, the image with which it was, and its entries after
+/// that; the number and the clock of the last entry, and the text of the last turn.
 #[derive(Drop)]
 pub struct LogReader {
     segments: u64,
@@ -194,8 +194,8 @@ impl LogReader {
         })
     }
 
-    /// Reads the octets of the next segment. Where they are none, the records before the first fault
-    /// are read.
+    /// Reads the octets of the next segment. Where they are none, the records before the first
+    /// fault are read.
     #[tactic(auto, using(crate::proofs::ReadingLemmas::front_none))]
     pub fn read(&mut self, alloc: Global, octets: &[u8]) -> Result<(), AllocOr<LogFault>>
         ensures segments { OnOk result (self.new.segments ≡ self.old.segments + 1) }
@@ -265,8 +265,8 @@ impl LogReader {
         Ok(())
     }
 
-    // Reads the records at the front of a segment that is damaged. The fault of the first one that is
-    // none, or that does not follow.
+    // Reads the records at the front of a segment that is damaged. The fault of the first one that
+    // is none, or that does not follow.
     #[tactic(auto, using(crate::proofs::ReadingLemmas::front_none))]
     fn read_front(
         &mut self,
