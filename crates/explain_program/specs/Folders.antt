@@ -22,7 +22,8 @@ abbrev pub AreSegments : (number : ℕ) → (before : List ℕ) → (segments bo
 AreSegments number before [] bodies after = (bodies ≡ []) × (after ≡ before)
 AreSegments number before (octets ∷ segments) bodies after =
     (mid : List ℕ) × (own : List (List ℕ)) × (others : List (List ℕ))
-    × IsSegment number before octets own mid × AreSegments (number + 1) mid segments others after × (bodies ≡ own ++ others)
+    × IsSegment number before octets own mid × AreSegments (number + 1) mid segments others after
+    × (bodies ≡ own ++ others)
 
 -- the digest before the first record of a journal
 abbrev pub no_digest : List ℕ
