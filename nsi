@@ -1,7 +1,7 @@
 #!/usr/bin/env python3
 """One command of the name service, to the door of this machine (docs/LIVE.md):
 
-    nsi export /.:/lpr a0000000-0000-0000-0000-000000000001:1.0 ncacn_ip_tcp:10.0.0.1[1025] -
+    nsi export /.:/lpr a0000000-0000-0000-0000-000000000001:1.0 'ncacn_ip_tcp:10.0.0.1[1025]' -
     nsi --json import low /.:/lpr a0000000-0000-0000-0000-000000000001:1.0 - ncacn_ip_tcp
     nsi status
 

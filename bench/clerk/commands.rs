@@ -49,10 +49,8 @@ pub fn outcome(heard: &Heard, words: &[Vec<u8>]) -> Result<Outcome, Fault> {
 }
 
 fn plans<'a>(words: &[&'a [u8]]) -> Result<Command<'a>, Fault> {
-    match words[0] {
-        b"export" | b"unexport" | b"groupadd" | b"groupdel" | b"profadd" | b"profdel" => script::command(&mut Words::new(words.to_vec())),
-        _ => Err(Fault("UnknownCommand", 1)),
-    }
+    let known: [&[u8]; 6] = [b"export", b"unexport", b"groupadd", b"groupdel", b"profadd", b"profdel"];
+    if known.contains(&words[0]) { script::command(&mut Words::new(words.to_vec())) } else { Err(Fault("UnknownCommand", 1)) }
 }
 
 /// An update by a full name.
@@ -201,6 +199,18 @@ fn removing(heard: &Heard, name: &[u8], reason: &'static str, gone: impl Fn(&Ent
     Ok(Done::Plan(found.house, gone.iter().map(|update| update_line(found.dir, &found.name, update)).collect()))
 }
 
+/// Why an element is none of a profile.
+fn element_fault(element: &Element) -> Option<&'static str> {
+    let fits = match element.interface {
+        Some(_) => element.priority < Element::DEFAULT,
+        None => element.priority == Element::DEFAULT,
+    };
+    if !fits {
+        return Some("BadPriority");
+    }
+    (element.member.len() + element.annotation.len() > LONGEST_ELEMENT_TEXT).then_some("ElementTooLong")
+}
+
 fn plan(heard: &Heard, command: &Command) -> Outcome {
     let refused = |reason| Err(single(Because(reason).into()));
     match command {
@@ -219,10 +229,10 @@ fn plan(heard: &Heard, command: &Command) -> Outcome {
         Command::GroupDelete(name, member) => {
             removing(heard, name, "NoSuchMember", |entry| removals(entry, GROUP, |octets| octets == *member))
         }
-        Command::ProfileAdd(_, element) if element.interface.is_some() != (element.priority < Element::DEFAULT) => refused("BadPriority"),
-        Command::ProfileAdd(_, element) if element.priority > Element::DEFAULT => refused("BadPriority"),
-        Command::ProfileAdd(_, element) if element.member.len() + element.annotation.len() > LONGEST_ELEMENT_TEXT => refused("ElementTooLong"),
-        Command::ProfileAdd(name, element) => adding(heard, name, [marked(PROFILE, element.octets(), true)]),
+        Command::ProfileAdd(name, element) => match element_fault(element) {
+            Some(reason) => refused(reason),
+            None => adding(heard, name, [marked(PROFILE, element.octets(), true)]),
+        },
         Command::ProfileDelete(name, interface, member) => removing(heard, name, "NoSuchElement", |entry| {
             let is_gone = |element: Element| element.interface == *interface && element.member == *member;
             removals(entry, PROFILE, |octets| Element::read(octets).is_some_and(is_gone))

@@ -18,7 +18,8 @@ pub struct Look {
     pub name: Vec<u8>,
 }
 
-/// What a house says of a name: nothing that counts (it holds no replica, or is not the master that is wanted), that none shows, or what shows.
+/// What a house says of a name: nothing that counts, since it holds no replica or is not the master that is wanted; that none shows; or what
+/// shows.
 pub enum Said {
     Passed,
     Absent,

@@ -53,6 +53,12 @@ impl Job {
         commands::is_update(&self.words[0])
     }
 
+    /// Whether its lines may be sent again where nobody knows whether they were done: so a second one takes away nothing that another client
+    /// gave.
+    fn may_repeat(&self) -> bool {
+        !matches!(self.words[0].as_slice(), b"delete" | b"put" | b"clear")
+    }
+
     fn doubted(&self, said: &str) -> String {
         format!("{said}{}", if self.doubt { " doubt" } else { "" })
     }
@@ -260,10 +266,11 @@ impl<W: Write> Clerk<W> {
         let Some(job) = self.jobs.get_mut(&number) else { return };
         let Some(line) = last else {
             job.doubt = true;
-            return self.plan_again(number, "refused Down");
+            return if job.may_repeat() { self.plan_again(number, "refused Down") } else { self.end(number, "refused Down doubt") };
         };
         let said = String::from_utf8_lossy(line).into_owned();
         match said.as_str() {
+            "refused Forbidden" => self.end(number, &said),
             "refused StampsSpent" if !job.is_update() => {
                 let done = job.planned - job.plan.len();
                 self.refuse(number, &Refusal::Spent(done, Posted(1..=0)));

@@ -53,7 +53,7 @@ class Allow:
         names = names_of(uid)
         users = self.users
         classes = [kind for kind in CLASSES if users is None or names & set(users.get(kind, []))]
-        who = Who(f"user {min(names - {ALL})}", frozenset(classes))
+        who = Who(f"user {max(names - {ALL})}", frozenset(classes))
         who.barred = frozenset(number for number, given in self.directories.items() if not names & set(given))
         return who
 

@@ -3,7 +3,6 @@ from __future__ import annotations
 
 import os
 import shutil
-import subprocess
 import sys
 
 from housing import building
@@ -22,22 +21,26 @@ def built(name: str) -> str | None:
 
 
 def compiled(source: str, target: str) -> str:
-    if not shutil.which("rustc"):
-        raise NoProgram(f"rustc is not there, which compiles {source}")
-    return building.compiled(source, target)
+    if shutil.which("rustc"):
+        return building.compiled(source, target)
+    if os.access(f"{ROOT}/{target}", os.X_OK):
+        return f"{ROOT}/{target}"
+    raise NoProgram(f"rustc is not there, which compiles {source}")
 
 
 def house() -> str:
     """The proved house; else the one of the same sources that is not proved, if the toolchain is there; else the
     plain one of bench/."""
+    if shutil.which("rt"):
+        # (here, since `tools/housing` has a module of that name, which is found first by the tools of houses)
+        from building import choosing
+
+        try:
+            return choosing.chosen("cdshouse")
+        except choosing.NoProgram as reason:
+            raise NoProgram(f"{reason} cannot be made") from None
     if path := built("cdshouse"):
         return path
-    if shutil.which("rt"):
-        # (it says on standard error that it is not proved)
-        words = [f"{ROOT}/tools/build", "cdshouse", "--find"]
-        found = subprocess.run(words, stdout=subprocess.PIPE, text=True, check=False)
-        if found.returncode == 0:
-            return found.stdout.strip()
     print("the proved cdshouse is not built, so the houses are those of bench/house.rs", file=sys.stderr)
     return compiled("bench/house.rs", "out/plain-house")
 

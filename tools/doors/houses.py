@@ -59,6 +59,15 @@ def ends_of(child: subprocess.Popen[bytes]) -> tuple[int, int]:
     return ends
 
 
+def status_of(child: subprocess.Popen[bytes]) -> int:
+    """The status of a child that has closed its output. One that goes on is killed."""
+    try:
+        return child.wait(0.5)
+    except subprocess.TimeoutExpired:
+        child.kill()
+        return child.wait()
+
+
 class House:
     """What both kinds have: the child, the lines under way, and what becomes of them. `note` gets a line for the
     log."""
@@ -100,12 +109,13 @@ class House:
 
     def ended(self) -> None:
         """The stream is at its end: all that was under way is lost."""
-        status = self.child.wait() if self.child else 0
+        status = status_of(self.child) if self.child else 0
         self.stream = self.child = None
         self.fell(meaning(status) if self.is_here else f"the stream ended (status {status})")
 
     def fell(self, why: str) -> None:
-        if why != self.why or self.is_up:
+        # (said once, and again after it was up)
+        if why != self.why:
             self.note(f"house {self.number} is down: {why}")
         self.why, self.is_up = why, False
         flight, self.flight = self.flight, collections.deque()
@@ -218,7 +228,7 @@ class Here(House):
 
     def started(self, told: Answer) -> None:
         if told:
-            self.start, self.is_up, self.wait = told, True, FIRST_WAIT
+            self.start, self.is_up, self.wait, self.why = told, True, FIRST_WAIT, ""
             self.note(f"house {self.number} is up, process {self.child.pid if self.child else 0}: {', '.join(told)}")
             self.on_up()
 
@@ -242,7 +252,8 @@ class Here(House):
             self.pieces.append(octets)
             if word == "post":
                 octets, self.pieces = "".join(self.pieces), []
-                self.post(int(to), octets)
+                if to.isdigit():
+                    self.post(int(to), octets)
             return
         waiting = self.tell(said)
         if waiting:
@@ -279,8 +290,8 @@ class There(House):
         self.heard, self.is_silent, self.wait, self.why = time.monotonic(), False, FIRST_WAIT, ""
         said = text or ""
         if said.startswith("at "):
-            _, segment, turns = said.split(" ")
-            self.at = (int(segment), int(turns))
+            numbers = [int(word) for word in said.split(" ")[1:] if word.isdigit()]
+            self.at = (numbers[0], numbers[1]) if len(numbers) == 2 else (0, 0)
             return
         waiting = self.tell(said)
         if waiting:

@@ -4,12 +4,10 @@ from __future__ import annotations
 
 import collections
 import glob
-import importlib.machinery
-import importlib.util
 import os
-import random
 import re
 import subprocess
+import sys
 import tempfile
 import time
 from collections.abc import Callable, Iterable, Iterator
@@ -265,14 +263,10 @@ def cases() -> Iterator[Script]:
 
 def random_scripts(seed: int, plain: str, seconds: float) -> Iterator[Script]:
     """Scripts as `tools/fuzz` makes them, from this seed on, for so many seconds."""
-    loader = importlib.machinery.SourceFileLoader("fuzz", f"{ROOT}/tools/fuzz")
-    spec = importlib.util.spec_from_loader("fuzz", loader)
-    assert spec
-    fuzz = importlib.util.module_from_spec(spec)
-    loader.exec_module(fuzz)
     until = time.monotonic() + seconds
     while time.monotonic() < until:
-        yield f"seed {seed}", fuzz.script(random.Random(seed), plain, ["inquire"])
+        words = [sys.executable, f"{ROOT}/tools/doors/fuzzed.py", str(seed), plain]
+        yield f"seed {seed}", subprocess.run(words, stdout=subprocess.PIPE, check=True).stdout
         seed += 1
 
 

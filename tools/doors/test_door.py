@@ -21,12 +21,16 @@ from housing import building
 ROOT = building.ROOT
 INTERFACE = "a0000000-0000-0000-0000-000000000001:1.0"
 BINDING = "ncacn_ip_tcp:10.0.0.1[1025]"
-# A house that answers nothing after its start, and one that cannot start.
+# A house that hangs with a question.
 HANGS = """echo 0 new
 while read -r line; do
     case "$line" in dump*) exec sleep 20;; *) echo 1 refused NoHouse;; esac
 done"""
-BROKEN = "exit 9"
+# A house that answers one question late.
+IS_LATE = """echo 0 new
+while read -r line; do
+    case "$line" in "dump 7") sleep 1; echo 1 dump late; echo 1 end;; *) echo 2 refused NoHouse;; esac
+done"""
 
 
 class Room(unittest.TestCase):
@@ -67,7 +71,9 @@ class Room(unittest.TestCase):
         return self.begin(name)
 
     def begin(self, name: str = "cell") -> Client:
-        self.doors.append(subprocess.Popen([sys.executable, f"{ROOT}/tools/door", f"{self.room}/{name}.toml"]))
+        with open(f"{self.room}/{name}.errors", "ab") as errors:
+            words = [sys.executable, f"{ROOT}/tools/door", f"{self.room}/{name}.toml"]
+            self.doors.append(subprocess.Popen(words, stderr=errors))
         client = Client(f"{self.room}/{name}.door")
         self.until(lambda: client.ask("status") != ["gone"])
         return client
@@ -128,6 +134,16 @@ class DoorTest(Room):
         self.assertEqual(client.ask("create /.:/a"), ["refused Unreachable 1"])
         self.assertIn("may not send house 1 00000000000a", self.log())
 
+    def test_a_directory_that_is_not_open_to_all(self) -> None:
+        all_may = "\n".join(f'{kind} = ["*"]' for kind in ("questions", "updates", "operation"))
+        client = self.open(tail=f'[allow]\n{all_may}\n[allow.directory]\n2 = ["nosuch"]')
+        self.make(client)
+        self.assertEqual(client.ask("mkdir 1 1 sub 1")[0][:5], "ok 2 ")
+        self.assertEqual(client.ask("create /.:/a")[0][:3], "ok ")
+        for line in ("create /.:/sub/a", f"export /.:/sub/a {INTERFACE} {BINDING} -", "@1 create 2 a"):
+            self.assertEqual(client.ask(line), ["refused Forbidden"], line)
+        self.assertEqual(self.log().count("may not send create 2 a"), 3)
+
     def test_messages_are_of_doors_and_of_their_own_houses(self) -> None:
         others = [f'[house.{at}]\nvia = "false"\n[peer.{at}]\nsocket = "p{at}"' for at in (2, 3)]
         client = self.open(tail="\n".join(others), head="console = 1")
@@ -151,17 +167,29 @@ class DoorTest(Room):
         self.assertIn("its last segment is damaged (status 9)", said[0])
         self.assertEqual(client.ask("@2 dump 1"), ["refused Down"])
         self.assertEqual(client.ask("create /.:/a")[0].split(" ")[0], "ok")
+        self.until(lambda: int(client.ask("status")[3].split(" starts ")[1].split(" ")[0]) > 3)
+        self.assertEqual(self.log().count("house 2 is down"), 1)
 
     def test_a_house_that_hangs_is_down_after_one_silence(self) -> None:
         self.house = self.played(HANGS)
-        client = self.open(head="patience = 0.3")
+        client = self.open(head="patience = 1.5")
         self.until(lambda: self.up(client, 1))
         self.assertEqual(client.ask("@1 dump 1"), ["refused Down"])
         began = time.monotonic()
         self.assertEqual(client.ask("@1 dump 1"), ["refused Down"])
-        self.assertLess(time.monotonic() - began, 0.25)
+        self.assertLess(time.monotonic() - began, 1.2)
         self.assertIn("because it is silent", client.ask("status")[2])
         self.assertIn("house 1 is silent: dump 1", self.log())
+
+    def test_a_late_answer_is_nobodys(self) -> None:
+        self.house = self.played(IS_LATE)
+        client = self.open(head="patience = 0.3")
+        self.until(lambda: self.up(client, 1))
+        self.assertEqual(client.ask("@1 dump 7"), ["refused Down"])
+        while (said := client.ask("@1 dump 2")) == ["refused Down"]:
+            time.sleep(0.02)
+        self.assertEqual(said, ["refused NoHouse"])
+        self.assertRegex(client.ask("status")[2], " late [1-9]")
 
     def test_a_house_that_is_killed_is_started_again_and_says_its_last_turn(self) -> None:
         client = self.open(houses=(1, 2))
@@ -223,6 +251,152 @@ class DoorTest(Room):
             ran = subprocess.run([f"{ROOT}/tools/door", path], capture_output=True, text=True, check=False)
             found = (ran.returncode, said in ran.stderr, "Traceback" in ran.stderr)
             self.assertEqual(found, (1, True, False), ran.stderr)
+
+
+class DayTest(Room):
+    """An operator's day, as docs/LIVE.md has it."""
+
+    def again(self, *houses: int) -> Client:
+        """The door ends, and begins with these houses."""
+        self.doors[-1].send_signal(signal.SIGTERM)
+        self.assertEqual(self.doors[-1].wait(30), 0)
+        client = self.open(houses=houses)
+        for house in houses:
+            self.until(lambda: self.up(client, house))
+        return client
+
+    def test_a_day(self) -> None:
+        client = self.open(houses=(1, 2))
+        self.make(client, (1, 2))
+        self.assertEqual(client.ask("mkdir 1 1 print 1 2")[0][:5], "ok 2 ")
+        self.assertEqual(client.ask("create /.:/print/lpr")[0][:3], "ok ")
+        # a house is added
+        client = self.again(1, 2, 3)
+        self.assertEqual(client.ask("house 3 00000000000c"), ["ok"])
+        self.assertEqual([client.ask(f"epoch {it} 1 2 3") for it in (1, 2)], [["ok 2"], ["ok 2"]])
+        self.assertEqual(client.ask("@1 repoint 1 print 1 2 3")[0][:3], "ok ")
+        self.until(lambda: client.ask("@3 look 2 lpr A") == ["end 0"])
+        # house 2 is lost: its number and its node are not given again
+        client = self.again(1, 3, 4)
+        self.assertEqual([client.ask(f"epoch {it} 1 3") for it in (1, 2)], [["ok 3"], ["ok 3"]])
+        self.until(lambda: " allupto none " not in client.ask("@3 dump 2")[0])
+        self.assertEqual(client.ask("house 2 00000000000d"), ["refused HouseExists"])
+        self.assertEqual(client.ask("house 4 000000000002"), ["refused HouseExists"])
+        self.assertEqual(client.ask("house 4 00000000000d"), ["ok"])
+        # a master moves
+        self.assertEqual(client.ask("epoch 2 3 1 4"), ["ok 4"])
+        self.until(lambda: client.ask("@4 look 2 lpr A") == ["end 0"])
+        self.assertEqual(client.ask("delete /.:/print/lpr")[0][-12:], "00000000000c")
+        # the ledger is lost: nothing is numbered until it is counted again
+        os.unlink(f"{self.room}/console")
+        client = self.again(1, 3, 4)
+        self.assertEqual(client.ask("mkdir 1 1 other 1"), ["refused NoDirectory"])
+        self.assertEqual(client.ask("epoch 1 1 3 4"), ["refused NoDirectory"])
+        if client.ask("@1 directories")[-1] == "end 2":
+            self.assertEqual(client.ask("recount"), ["ok 2"])
+            self.assertEqual(client.ask("epoch 2 1 3 4"), ["ok 5"])
+            self.assertEqual(client.ask("mkdir 1 1 other 1")[0][:5], "ok 3 ")
+
+
+class DoorsTest(Room):
+    """Doors of several machines. (They are all here, and `door-peer` is the whole line between.)"""
+
+    def reach(self, name: str, house: int, by: int) -> str:
+        """The table of a house behind the door of this name, which knows the one that asks by this house."""
+        return f'[house.{house}]\nvia = "{sys.executable} {ROOT}/tools/door-peer {self.room}/{name}.p{by}"'
+
+    def peer(self, name: str, house: int, *classes: str) -> str:
+        words = ", ".join(f'"{word}"' for word in ("questions", "updates", "messages", *classes))
+        return f'[peer.{house}]\nsocket = "{name}.p{house}"\nallow = [{words}]'
+
+    def two(self, *classes: str) -> tuple[Client, Client]:
+        """Machines a and b, with houses 1 and 2. The console is a's; b may send it lines of these classes, too."""
+        head = "console = 1\nskulk_every = 1"
+        tail = "\n".join([self.reach("b", 2, 1), self.peer("a", 2, *classes)])
+        one = self.open("a", (1,), f'{head}\nledger = "a.console"', tail)
+        two = self.open("b", (2,), head, "\n".join([self.reach("a", 1, 2), self.peer("b", 1, "operation")]))
+        for client in (one, two):
+            self.until(lambda client=client: self.up(client, 1) and self.up(client, 2))
+            for house in (1, 2):
+                self.until(lambda client=client, house=house: client.ask(f"@{house} dump 1") == ["refused NoHouse"])
+        return one, two
+
+    def test_two_machines(self) -> None:
+        one, two = self.two("operation")
+        for line in ("house 1 00000000000a", "house 2 00000000000b", "root 1 2"):
+            self.assertEqual(one.ask(line), ["ok"], line)
+        self.until(lambda: two.ask("@2 dump 1")[-1] == "end")
+        # (b sends its command to the console, and that sends the line to b)
+        self.assertEqual(two.ask("mkdir 2 1 sub 2"), ["refused NotMaster"])
+        self.assertEqual(one.ask("epoch 1 1 s2"), ["ok 2"])
+        self.until(lambda: "2:1:s" in two.ask("@2 dump 1")[0])
+        self.assertEqual(two.ask("mkdir 2 1 sub 2")[0][:5], "ok 2 ")
+        self.assertEqual(two.ask(f"export /.:/sub/lpr {INTERFACE} {BINDING} -"), ["ok 2"])
+        line = f"import low /.:/sub/lpr {INTERFACE} - ncacn_ip_tcp"
+        self.until(lambda: one.ask(line) == [f"binding {BINDING}", "end 1"])
+        self.assertEqual(one.ask("mkdir 1 1 other 1")[0][:5], "ok 3 ")
+        self.until(lambda: one.ask("@1 dump 1") == two.ask("@2 dump 1"))
+        # b is gone: the import of a group says what it did not reach
+        self.assertEqual(one.ask("groupadd /.:/all /.:/sub/lpr"), ["ok 2"])
+        self.doors[1].kill()
+        self.doors[1].wait()
+        self.until(lambda: not self.up(one, 2))
+        self.assertEqual(one.ask(f"import low /.:/all {INTERFACE} - ncacn_ip_tcp"), ["unreached 2", "end 0"])
+        self.assertEqual(one.ask("create /.:/sub/a"), ["refused Unreachable 2"])
+
+    def test_another_machine_forges_nothing(self) -> None:
+        one, two = self.two()
+        for line in ("house 1 00000000000a", "house 2 00000000000b", "root 1 2"):
+            self.assertEqual(one.ask(line), ["ok"], line)
+        for line in ("epoch 1 1", "mkdir 1 1 sub 1"):
+            self.assertEqual(two.ask(line), ["refused Forbidden"])
+        stream = Client(f"{self.room}/a.p2")
+        self.assertEqual(stream.ask(f"@1 take {MESSAGE}"), ["refused Forbidden"])
+        # (its own messages it may bring, and the house says what they are)
+        self.assertEqual(stream.ask(f"@1 take {MESSAGE[:12]}02{MESSAGE[14:]}")[0].split(" ")[0], "ok")
+        self.assertIn("the door of house 2 may not send epoch 1 1", self.log("a"))
+
+    def machine(self, number: int) -> Client:
+        """The machine of an example's cell file, with folders of its own, and a `ssh` that does what `authorized_keys`
+        says."""
+        own = f"{self.room}/r{number}"
+        os.makedirs(own)
+        with open(f"{ROOT}/examples/live/host{number}.toml", encoding="ascii") as file:
+            text = file.read().replace("/var/lib/cds", own).replace("/run/cds", own)
+        with open(f"{own}/cell.toml", "w", encoding="ascii") as file:
+            file.write(f'program = "{self.house}"\nclerk = "{self.clerk}"\n{text}')
+        with open(f"{own}/ssh", "w", encoding="ascii") as file:
+            peer = f'{sys.executable} {ROOT}/tools/door-peer "{self.room}/r${{host#cds@host}}/peer{number}"'
+            file.write(f"#!/bin/sh\nfor host; do :; done\nexec {peer}\n")
+        os.chmod(f"{own}/ssh", 0o755)
+        with open(f"{own}/errors", "wb") as errors:
+            how = {**os.environ, "PATH": f"{own}:{os.environ['PATH']}"}
+            words = [sys.executable, f"{ROOT}/tools/door", f"{own}/cell.toml"]
+            self.doors.append(subprocess.Popen(words, stderr=errors, env=how))
+        return Client(f"{own}/door")
+
+    def test_the_examples_of_three_machines(self) -> None:
+        one, two, three = (self.machine(number) for number in (1, 2, 3))
+        for number in (1, 2, 3):
+            self.until(lambda number=number: one.ask(f"@{number} dump 1") == ["refused NoHouse"])
+        for number in (1, 2, 3):
+            self.assertEqual(one.ask(f"house {number} 00000000000{number}"), ["ok"])
+        self.assertEqual(one.ask("root 1 2 3"), ["ok"])
+        self.until(lambda: three.ask("@3 dump 1")[-1] == "end")
+        self.assertEqual(two.ask(f"export /.:/lpr {INTERFACE} {BINDING} -"), ["ok 2"])
+        line = f"import low /.:/lpr {INTERFACE} - ncacn_ip_tcp"
+        self.until(lambda: three.ask(line) == [f"binding {BINDING}", "end 1"])
+        self.assertEqual(three.ask("epoch 1 1 2"), ["ok 2"])
+        self.assertEqual(two.ask("@3 clock 5"), ["refused Forbidden"])
+
+    def test_a_line_that_hangs(self) -> None:
+        client = self.open(head="console = 1\npatience = 1.5", tail='[house.2]\nvia = "sleep 20"')
+        self.make(client)
+        self.assertEqual(client.ask("@2 dump 1"), ["refused Down"])
+        began = time.monotonic()
+        self.assertEqual(client.ask("@2 dump 1"), ["refused Down"])
+        self.assertEqual(client.ask("read high /.:/a A"), ["refused NoSuchName 0"])
+        self.assertLess(time.monotonic() - began, 1.2)
 
 
 class ClientsTest(Room):

@@ -91,7 +91,7 @@ def functions_of(crate, file):
             owner, trait = owner_of(said)
         elif lines[at] == "}":
             owner, trait = "", ""
-        head = re.match(r"( *)(?:pub(?:\([^)]*\))? )?(?:const )?fn \w+", lines[at])
+        head = re.match(r"( *)(?:pub(?:\([^)]*\))? )?(?:const )?(?:extern \S+ )?fn \w+", lines[at])
         if head:
             end = end_of(lines, at, head.group(1))
             signature, body = parted(lines[at : end + 1], head.group(1))
@@ -230,7 +230,7 @@ def reached():
     """
     calls, known = Calls(), set()
     theirs = [it for it in functions() if it.crate not in TESTS]
-    roots = (("cell_replay", "run"), ("cdsreplay", "main"), ("mend_program", "run"), ("cdsmend", "main"), ("cdshouse", "main"), ("cdsexplain", "main"))
+    roots = (("cell_replay", "run"), ("cdsreplay", "main"), ("mend_program", "run"), ("cdsmend", "main"), ("cdshouse", "main"), ("cdsexplain", "main"), ("cds_c", "cds_run"), ("cds_c", "cds_abi"))
     begin = [it for it in theirs if (it.crate, it.name) in roots]
     begin += [it for it in theirs if it.trait and it.trait not in traits()]
     while begin:

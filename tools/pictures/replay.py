@@ -18,9 +18,9 @@ def lines_of(source, octets):
     return lines
 
 
-def steps_of(script):
-    """The commands of a script's lines, with their groups of words."""
-    for number, line in enumerate(script, 1):
+def steps_of(script, first=1):
+    """The commands of a script's lines, of which the first has this number, with their groups of words."""
+    for number, line in enumerate(script, first):
         front = line.split(None, 1)
         if front and not front[0].startswith("#"):
             stop, text = None, line
@@ -125,25 +125,37 @@ def next_answer(replay, step, answers):
     return text[len(front) :]
 
 
+class Reader:
+    """What happened so far, as the lines of a script and the program's answers to them come."""
+
+    def __init__(self):
+        self.replay, self.count, self.answers = Replay(), 0, []
+
+    def take(self, script, answers):
+        """Takes more lines, and the answers to them."""
+        self.answers += answers
+        for line, command, words, text, stop in steps_of(script, self.count + 1):
+            step = Step(len(self.replay.steps), line, command, words, text, stop)
+            place(self.replay, step)
+            said = next_answer(self.replay, step, self.answers)
+            if stop is not None and said in STOPS:
+                self.replay.stop(step, STOPS[said])
+            elif command in LONG and not said.startswith("refused"):
+                if step.house is None:
+                    raise self.replay.fault("its house was not made")
+                long_answer(self.replay, step, said, self.answers)
+            else:
+                answer(self.replay, step, said)
+            self.replay.steps.append(step)
+        self.count += len(script)
+        if self.replay.line < len(self.answers):
+            tell_fault(self.answers[self.replay.line], self.count)
+            self.replay.line += 1
+            raise self.replay.fault("no command of the script is left for it")
+
+
 def read(script, answers):
     """What happened, from the octets of a script and of the program's answers."""
-    replay = Replay()
-    script, answers = lines_of("script", script), lines_of("answers", answers)
-    for line, command, words, text, stop in steps_of(script):
-        step = Step(len(replay.steps), line, command, words, text, stop)
-        place(replay, step)
-        said = next_answer(replay, step, answers)
-        if stop is not None and said in STOPS:
-            replay.stop(step, STOPS[said])
-        elif command in LONG and not said.startswith("refused"):
-            if step.house is None:
-                raise replay.fault("its house was not made")
-            long_answer(replay, step, said, answers)
-        else:
-            answer(replay, step, said)
-        replay.steps.append(step)
-    if replay.line < len(answers):
-        tell_fault(answers[replay.line], len(script))
-        replay.line += 1
-        raise replay.fault("no command of the script is left for it")
-    return replay
+    reader = Reader()
+    reader.take(lines_of("script", script), lines_of("answers", answers))
+    return reader.replay

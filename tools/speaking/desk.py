@@ -3,7 +3,7 @@ import copy
 import re
 
 from pictures import replay as replays
-from speaking import explain, findings, naming, post, program, refusals, tokens
+from speaking import explain, findings, naming, post, program, refusals, talk, tokens
 from speaking.language import FORMS
 from speaking.tokens import Fault
 
@@ -31,7 +31,7 @@ class Desk:
     def __init__(self, asked, has_comments=False):
         self.program, self.has_comments = asked, has_comments
         self.lines, self.answers, self.names, self.net, self.before = [], [], naming.Names(), None, []
-        self.replay = None
+        self.talk, self.reader, self.post = talk.Talk(asked.path, asked.form), None, post.Post()
 
     # The script.
 
@@ -41,22 +41,33 @@ class Desk:
 
     def happened(self):
         """What happened so far."""
-        if self.replay is None:
-            self.replay = post.happened(self.script(), self.answers)
-        return self.replay
+        if self.reader is None:
+            self.reader = replays.Reader()
+        if self.reader.count < len(self.lines):
+            self.reader.take(self.lines[self.reader.count :], self.answers[len(self.reader.answers) :])
+        return self.reader.replay
 
     def ask(self, *lines):
         """The answers to lines that are not kept."""
-        said = self.program.run(self.script(lines))
-        return said[len(self.answers) :]
+        if all(line.split(" ", 1)[0] in QUESTIONS for line in lines):
+            said = self.talk.ask(self.lines, lines, False)
+            if said is not None:
+                return said
+        return self.asked_anew(lines)
+
+    def asked_anew(self, lines):
+        """The answers to lines, by a process that reads the whole script."""
+        return self.program.run(self.script(lines))[len(self.answers) :]
 
     def under_way(self):
         """The messages that are under way."""
-        return post.under_way(self.happened(), lambda serial: bytes.fromhex(self.ask(f"octets msg {serial}")[0].split()[-1]))
+        return self.post.under_way(self.happened(), lambda serial: bytes.fromhex(self.ask(f"octets msg {serial}")[0].split()[-1]))
 
     def add(self, done, *lines):
         """Adds lines to the script, and answers what the program says of them."""
-        said = self.ask(*lines)
+        said = self.talk.ask(self.lines, lines, True)
+        if said is None:
+            said = self.asked_anew(lines)
         found = re.fullmatch(r"(\d+) fault ([A-Za-z]+) (\d+)", said[-1]) if said else None
         if found:
             line = lines[int(found.group(1)) - len(self.lines) - 1]
@@ -64,7 +75,6 @@ class Desk:
             raise Fault("\n".join(it.lines()))
         self.lines += lines
         self.answers += said
-        self.replay = None
         done.lines += lines
         done.answers += said
         return said
@@ -75,7 +85,6 @@ class Desk:
             plain = re.sub("[^ -~]", "?", text.replace("\t", " "))[:4000]
             self.lines.append(plain if plain.startswith("#") else f"# {plain}")
             done.lines.append(self.lines[-1])
-            self.replay = None
 
     # Lines of the operator.
 
@@ -95,7 +104,8 @@ class Desk:
     def back(self, kept):
         """Goes back to what was."""
         self.lines, self.answers = self.lines[: kept[0]], self.answers[: kept[1]]
-        self.names, self.net, self.replay = kept[2], kept[3], None
+        self.names, self.net, self.reader, self.post = kept[2], kept[3], None, post.Post()
+        self.talk.close()
 
     def undo(self):
         """Takes the last line of the operator back, and answers it, or None where there is none."""
@@ -116,7 +126,6 @@ class Desk:
         if count:
             self.lines += lines[:count]
             self.answers += said[:-1] if found else said
-            self.replay = None
             self.before.append(kept)
             self.learn_script()
         return count

@@ -1,5 +1,5 @@
 """Which messages are under way in a replay, and to whom."""
-from pictures import replay as replays
+import itertools
 
 DELIVERED = ("taken", "complete", "late", "early", "stale", "noreplica", "stopped after")
 
@@ -12,23 +12,32 @@ class Way:
         self.dir, self.line, self.text = message.dir, line, text
 
 
-def happened(script, answers):
-    """What happened, by the reader of the pictures."""
-    return replays.read(script, "".join(f"{it}\n" for it in answers).encode())
+class Post:
+    """The messages of a replay that grows: which of them are under way."""
+
+    def __init__(self):
+        # The steps that were read, the messages that were seen, and those of them that were neither lost nor delivered.
+        self.steps, self.seen, self.open = 0, 0, {}
+
+    def under_way(self, replay, ask):
+        """The messages that were posted and neither lost nor delivered. `ask` answers the octets of a message by its serial."""
+        new = list(itertools.islice(replay.messages.items(), self.seen, None))
+        self.seen += len(new)
+        self.open.update(new)
+        for step in itertools.islice(replay.steps, self.steps, None):
+            if step.command == "lose" or step.command == "deliver" and step.outcome in DELIVERED:
+                self.open.pop(int(step.words[0]), None)
+        self.steps = len(replay.steps)
+        return [way_of(replay, serial, message, ask) for serial, message in self.open.items() if message.lost is None]
 
 
-def under_way(replay, ask):
-    """The messages that were posted and neither lost nor delivered. `ask` answers the octets of a message by its serial."""
-    delivered = {int(step.words[0]) for step in replay.steps if step.command == "deliver" and step.outcome in DELIVERED}
-    found = []
-    for serial, message in replay.messages.items():
-        if message.lost is None and serial not in delivered:
-            step = replay.steps[message.posted]
-            way = Way(message, step.line, step.text)
-            if way.receiver is None:
-                resolve(replay, way, [it.serial for it in replay.messages.values() if it.posted == message.posted], ask(serial))
-            found.append(way)
-    return found
+def way_of(replay, serial, message, ask):
+    """A message that is under way, and to whom."""
+    step = replay.steps[message.posted]
+    way = Way(message, step.line, step.text)
+    if way.receiver is None:
+        resolve(replay, way, [it.serial for it in replay.messages.values() if it.posted == message.posted], ask(serial))
+    return way
 
 
 def resolve(replay, way, together, octets):

@@ -99,6 +99,7 @@ module _ (x : ℕ) (h : House) (last : List ℕ) (c : Clearinghouse) (runs : Run
             number = mid.entry;
             line = words;
             says = line_is;
+            answer_ends_nowhere = comes.one_line;
             is = subst (λ (k : ℕ). IsBody reply.octets mid.entry k (turn_text words posts answer) (Some (image_octets (image_of c')))) clock
                 (subst (λ (o : Option Clearinghouse). IsBody reply.octets mid.entry mid.clock (turn_text words posts answer) (image_in o)) home
                 reply.record_is.body);

@@ -12,6 +12,7 @@ use Rattle.cell_runs.specs.Entries.{Order, Take, Entry, Started, Turned, TurnEnt
 use Rattle.cell_runs.specs.HonestRuns.{IsHonest}
 use Rattle.cell_runs.specs.Orders.{MadeHouse, new_house}
 use Rattle.house_turns.specs.HouseReplies.{take_line, turn_text}
+use Rattle.house_turns.specs.LineOutcomes.{HasNoEnd}
 use Rattle.house_turns.specs.LineSteps.{order_of}
 
 -- the line of a record says this
@@ -25,11 +26,12 @@ pub data SaysOrder : (line : List ℕ) → Order → Type 0 where
   SaysOther : (line : List ℕ) (says : HouseLine) (order : Order)
       → LineSays line says → order_of says ≡ Some order → SaysOrder line order
 
--- the body of the record of a turn
+-- the body of the record of a turn, whose answer is one line
 pub record IsTurnBody (body : List ℕ) (e : TurnEntry) : Type 0 where
   pub number : ℕ
   pub line : List ℕ
   pub says : SaysOrder line e.order
+  pub answer_ends_nowhere : HasNoEnd e.answer
   pub is : IsBody body number e.clock (turn_text line e.posts e.answer) (Some e.image)
 
 -- that of a start: a line says so, and the text of the last turn follows

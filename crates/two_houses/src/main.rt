@@ -15,6 +15,7 @@ fn main(rt: HostRuntime) -> Result<()> {
     pair.make_root(&rt, alloc)?;
     pair.update(&rt, alloc, &creation(alloc, b"lpr")?)?;
     pair.skulk(&rt, alloc)?;
+    pair.list(&rt, alloc)?;
     let mut pair = pair.restarted(alloc)?;
     println!(rt; "both houses start again from their last images")?;
     pair.skulk(&rt, alloc)?;

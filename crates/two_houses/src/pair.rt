@@ -104,6 +104,14 @@ impl Pair {
         self.send(rt, alloc, letters)
     }
 
+    /// House 2 says which names it shows.
+    pub fn list(&self, rt: &impl Print, alloc: Global) -> Result<()> {
+        for name in self.second.names(alloc, DirId::ROOT)? {
+            println!(rt; "house 2 shows {}", str::from_utf8(name.octets())?)?;
+        }
+        Ok(())
+    }
+
     /// Both houses lose power, and start again.
     pub fn restarted(self, alloc: Global) -> Result<Pair> {
         let Pair { first, second } = self;

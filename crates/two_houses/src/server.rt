@@ -10,8 +10,8 @@ use crate::store::Store;
 use anyhow::{Context, Result, ensure};
 use cds_messages::Message;
 use cds_records::decode;
-use cds_stamps::{DirId, HouseNo, Members, Node, Stamp};
-use clearinghouse::{Begun, Clearinghouse, Letters, Outgoing, Taken};
+use cds_stamps::{DirId, HouseNo, Members, Node, SimpleName, Stamp};
+use clearinghouse::{Begun, Clearinghouse, DirState, Letters, Outgoing, Taken};
 use directory::{Update, UpdateRefusal};
 use house_journal::Disk;
 use std::alloc::Global;
@@ -71,6 +71,19 @@ impl<D: Disk + Drop> Server<D> {
     /// The number of the house.
     pub fn number(&self) -> HouseNo {
         self.house.number()
+    }
+
+    /// The names of a directory that this house shows, ascending; none if it holds no replica.
+    pub fn names(&self, alloc: Global, dir: DirId) -> Result<Vec<SimpleName>> {
+        let mut names = Vec::new(alloc);
+        if let Some(DirState::Held(held)) = self.house.state(dir) {
+            for (name, entry) in held.replica.table.iter() {
+                if entry.is_live() {
+                    names.push(name.copy(alloc)?)?;
+                }
+            }
+        }
+        Ok(names)
     }
 
     /// Makes a directory of which the house is the master. The two tests are what `found` requires.

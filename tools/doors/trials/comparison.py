@@ -176,16 +176,18 @@ class Comparison:
             self.differences.append(f"{kind}: {said[:600]}")
 
     def compare_exports(self, told: list[Told]) -> None:
-        """Each export that was answered `ok` is in a journal."""
+        """Each export that was answered `ok` is in a journal, and none that was refused without a doubt."""
         ends = collections.defaultdict(set)
         for words in (entry.line.split(" ") for own in self.houses.values() for entry in own):
             if words[0] == "add":
                 ends[words[2]].add(words[4][-len(tower_end("0.0.0.0", 0)) :])
         for each in told:
             found = re.fullmatch(r"export /.:/print/(s\d+) \S+ ncacn_ip_tcp:([\d.]+)\[(\d+)\] -", each.line)
+            is_kept = found is not None and tower_end(found[2], int(found[3])) in ends[found[1]]
             if found and each.answer[-1].startswith("ok"):
-                is_kept = tower_end(found[2], int(found[3])) in ends[found[1]]
                 self.count("exports that were answered ok", not is_kept, f"{each.line}: it is in no journal")
+            elif found and each.answer[-1].startswith("refused") and not each.answer[-1].endswith("doubt"):
+                self.count("exports that were refused", is_kept, f"{each.line}: {each.answer[-1]}, and it is in a journal")
 
 
 def tower_end(host: str, port: int) -> str:

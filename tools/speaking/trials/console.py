@@ -148,7 +148,7 @@ class Terminal:
         self.call("kill-server")
 
 
-# Keys, and what has to come to the screen.
+# Keys, and what has to come to the screen. (A Ctrl-D that comes before the prompt is lost, so the last two wait for it.)
 KEYS = (
     ("a prompt with the number of the line", ["house 1 00000000000a", "Enter"], ["1> house 1", "1 ok", "2>"]),
     ("a typo is explained, and nothing is lost", ["rot 1", "Enter"], ["Is `root` meant?", "2>"]),
@@ -158,8 +158,8 @@ KEYS = (
     ("undo", ["undo", "Enter"], ["4> undo", "taken back: create 1 1 lpr"]),
     ("help by command", ["help root", "Enter"], ["makes the root directory", "the house that is to be the master"]),
     ("save", ["save kept.cds", "Enter"], ["kept.cds has 2 lines"]),
-    ("after what was saved it goes on", ["create 1 1 fax", "Enter"], ["3> create 1 1 fax", "4>"]),
-    ("lines that are not saved", ["C-d"], ["3 lines would be lost"]),
+    ("after what was saved it goes on", ["create 1 1 fax", "Enter"], ["3> create 1 1 fax\n3 ok 1@00000000000a\n4>"]),
+    ("lines that are not saved", ["C-d"], ["3 lines would be lost: `save FILE`, or `quit` (or Ctrl-D) once more.\n4>"]),
 )
 
 
