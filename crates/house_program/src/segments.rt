@@ -1,5 +1,5 @@
-// What a process finds in the last segment of its folder, and the next segment that it writes.
-ghost use Rattle.std.specs.Prelude.{◌≡◌, ◌+◌, ℕ, List, [], ◌∷◌, None, IfOk, OnOk, replicate};
+// The next segment that a process writes.
+ghost use Rattle.std.specs.Prelude.{◌≡◌, ◌+◌, ◌<◌, ℕ, List, [], ◌∷◌, None, true, IfOk, IsTrue, OnOk};
 ghost use Rattle.std.specs.Io.KnownBytes.{Appends};
 ghost use Rattle.cds_base.specs.Lines.{fault_of_lines};
 ghost use Rattle.script_answers.specs.Texts.{lines_text};
@@ -8,80 +8,24 @@ ghost use Rattle.house_segments.specs.Chains.{last_digest};
 ghost use Rattle.house_segments.specs.Segments.{IsAt};
 ghost use Rattle.house_serving.specs.Serving.{Served, run_of};
 ghost use Rattle.house_turns.specs.HouseReplies.{Responds};
-ghost use Rattle.house_turns.specs.Openings.{GoesOn, HasTurn, first_lines, new_house};
+ghost use Rattle.house_turns.specs.Openings.{HasTurn, first_lines};
 ghost use Rattle.house_serving.specs.declared.ending.Ending.TheVariants.{Grown};
-ghost use Rattle.cdshouse.specs.Folders.{IsDigestOf, IsLastSegment, first_bodies};
+ghost use Rattle.house_program.specs.Beginnings.{IsDigestOf, first_bodies};
+ghost use Rattle.house_program.specs.Files.{NumberedFile, last_file, number_in};
 
-use crate::ending::Status;
-use crate::folder::{last_number, name_segment, segment_octets};
+use crate::folder::Folder;
+use crate::status::Status;
 use cds_base::{Lines, Sink, Source, put_all};
 use house_entries::head_octets;
 use house_journal::Disk;
-use house_segments::{DIGEST, Segment, last_record};
+use house_segments::{DIGEST, Segment};
 use house_serving::{Ending, serve};
-use house_turns::{House, open};
+use house_turns::House;
 use std::alloc::Global;
 
-// A segment is changed for the next one once it has so many octets, and as many as eight images.
-const MOST_SEGMENT: u64 = 16_777_216;
-
-/// A house as the folder has it: its last segment's number, and the digest of that segment's last
-/// record.
-#[derive(Drop)]
-pub struct FolderHouse {
-    pub house: House,
-    pub number: u64,
-    pub digest: [u8; DIGEST],
-}
-
-// The house of a record.
-fn house_of(alloc: Global, body: &[u8]) -> Result<House, Status>
-    ensures { IfOk result (GoesOn body.now) }
-{
-    match open(alloc, body)? {
-        Some(house) => Ok(house),
-        None => Err(Status::BadFolder),
-    }
-}
-
-// What a folder without a segment has.
-fn empty_folder(alloc: Global) -> FolderHouse
-    ensures house { result.house ≡ new_house }
-    ensures number { result.number ≡ 0 }
-    ensures digest { result.digest ≡ replicate 32 0 }
-{
-    FolderHouse {
-        house: House::new(alloc),
-        number: 0,
-        digest: [0; DIGEST],
-    }
-}
-
-// What the octets of the last segment have.
-fn read_segment(alloc: Global, number: u64, octets: &[u8]) -> Result<FolderHouse, Status>
-    ensures { IfOk result (IsLastSegment number octets.now) }
-{
-    let title = head_octets(alloc, number, b"")?;
-    let Some(last) = last_record(&title, octets) else {
-        return Err(Status::BadFolder);
-    };
-    let house = house_of(alloc, last.body)?;
-    Ok(FolderHouse {
-        house,
-        number,
-        digest: last.digest,
-    })
-}
-
-/// What the last segment of the folder has.
-pub(crate) fn read_folder(rt: &HostRuntime, folder: &str) -> Result<FolderHouse, Status> {
-    let number = last_number(rt, folder)?;
-    if number == 0 {
-        return Ok(empty_folder(rt.alloc()));
-    }
-    let octets = segment_octets(rt, folder, number)?;
-    read_segment(rt.alloc(), number, &octets)
-}
+// A segment is changed for the next one once it has so many octets, and three times as many as it
+// began with.
+const MOST_SEGMENT: u64 = 4_194_304;
 
 /// A segment that is to be made: its number, the digest before it, and its first record; and
 /// whether the house says who it is then.
@@ -106,7 +50,7 @@ pub(crate) fn next_after(
     ensures speaks { IfOk result (λ n. n.speaks ≡ speaks) }
 {
     Ok(Next {
-        number: number.checked_add(1).ok_or(Status::DiskFault)?,
+        number: number.checked_add(1).ok_or(Status::Full)?,
         before,
         first,
         speaks,
@@ -168,7 +112,7 @@ fn serve_segment<S: Source, K: Sink, D: Disk>(
         → IsAt D.Disk segment.new before bodies
         → result.digest ≡ last_digest before bodies }
 {
-    let most = segment.size().saturating_mul(8).max(MOST_SEGMENT);
+    let most = segment.size().saturating_mul(3).max(MOST_SEGMENT);
     let ending = serve(alloc, house, segment, most, lines, source, sink);
     Left {
         ending,
@@ -176,31 +120,51 @@ fn serve_segment<S: Source, K: Sink, D: Disk>(
     }
 }
 
-/// Makes a segment on a disk that is empty, gives it its name, and answers lines until it has grown
-/// or the run ends. The digest of a segment that has grown is that of its chain.
-pub(crate) fn serve_on<S: Source, K: Sink, D: Disk + Drop>(
-    rt: &HostRuntime,
-    folder: &str,
-    disk: D,
+// Says what the house says first, if it speaks, and answers lines.
+fn speak_and_serve<S: Source, K: Sink, D: Disk>(
+    alloc: Global,
+    speaks: bool,
+    house: &mut House,
+    segment: &mut Segment<D>,
+    lines: &mut Lines,
+    source: &mut S,
+    sink: &mut K,
+) -> Result<Left, Status>
+    requires ready { (before : List ℕ) × (bodies : List (List ℕ))
+        × IsAt D.Disk segment.old before bodies }
+    requires unbroken { fault_of_lines lines.old ≡ None }
+{
+    if speaks {
+        say_first(alloc, house, sink)?;
+    }
+    Ok(serve_segment(alloc, house, segment, lines, source, sink))
+}
+
+/// Makes a segment, gives it its number, and answers lines until it has grown or the run ends. The
+/// digest of a segment that has grown is that of its chain.
+pub(crate) fn serve_on<F: Folder, S: Source, K: Sink>(
+    alloc: Global,
+    folder: &mut F,
     next: &Next,
     house: &mut House,
     lines: &mut Lines,
     source: &mut S,
     sink: &mut K,
 ) -> Result<Left, Status>
-    requires empty { D.Disk.reads disk ≡ [] }
-    requires only { Only (D.Disk.reads disk) (D.Disk.may_leave disk) }
+    requires locked { F.locked folder.old ≡ true }
+    requires above { (files : List NumberedFile) → F.kept folder.old files
+        → number_in (last_file files) < next.now.number }
     requires unbroken { fault_of_lines lines.old ≡ None }
     ensures unbroken { IfOk result
         (λ left. left.ending ≡ Grown → fault_of_lines lines.new ≡ None) }
     ensures digest { IfOk result
         (λ left. left.ending ≡ Grown → IsDigestOf next.now left.digest) }
+    ensures locked { F.locked folder.new ≡ true }
 {
-    let alloc = rt.alloc();
-    let mut segment = begin(alloc, disk, next)?;
-    name_segment(rt, folder, next.number)?;
-    if next.speaks {
-        say_first(alloc, house, sink)?;
-    }
-    Ok(serve_segment(alloc, house, &mut segment, lines, source, sink))
+    let file = folder.make(alloc)?;
+    let mut segment = begin(alloc, file, next)?;
+    folder.name(alloc, segment.disk(), next.number)?;
+    let left = speak_and_serve(alloc, next.speaks, house, &mut segment, lines, source, sink);
+    folder.close(next.number, segment.into_disk());
+    left
 }

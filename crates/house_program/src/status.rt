@@ -1,8 +1,9 @@
 // How the process ends.
 ghost use Rattle.std.specs.Prelude.{◌≡◌};
-ghost use Rattle.cdshouse.specs.Statuses.{code_of, status_after, status_not_begun, status_without_words};
-ghost use Rattle.cdshouse.specs.declared.ending.Status.TheVariants.{OutOfMemory};
+ghost use Rattle.house_program.specs.Statuses.{code_of, status_after, status_not_begun, status_of_folder, status_without_words};
+ghost use Rattle.house_program.specs.declared.status.Status.TheVariants.{OutOfMemory};
 
+use crate::folder::FolderFault;
 use cds_base::WordsFault;
 use cds_stamps::AllocOr;
 use house_journal::JournalFault;
@@ -14,7 +15,7 @@ use std::alloc::AllocError;
 pub enum Status {
     /// The input ended.
     Ok,
-    /// There is not exactly one word.
+    /// There is not exactly one word that is not empty.
     Usage,
     BadInput,
     ReadFault,
@@ -27,6 +28,10 @@ pub enum Status {
     BadFolder,
     /// Another process has the folder.
     Taken,
+    /// The last segment is one of another version of this program.
+    OtherVersion,
+    /// The records of the last segment are whole, and this house does other than they say.
+    OtherDeeds,
 }
 
 impl Status {
@@ -45,6 +50,8 @@ impl Status {
             Status::DiskFault => 8,
             Status::BadFolder => 9,
             Status::Taken => 10,
+            Status::OtherVersion => 11,
+            Status::OtherDeeds => 12,
         }
     }
 
@@ -82,6 +89,19 @@ impl Status {
             Ending::Full => Some(Status::Full),
             Ending::DiskFault => Some(Status::DiskFault),
             Ending::Grown => None,
+        }
+    }
+}
+
+impl From<FolderFault> for Status {
+    ghost from_gives = { λ f s. s ≡ status_of_folder f };
+
+    fn from(fault: FolderFault) -> Status {
+        match fault {
+            FolderFault::Unreadable => Status::BadFolder,
+            FolderFault::Taken => Status::Taken,
+            FolderFault::Failed => Status::DiskFault,
+            FolderFault::OutOfMemory => Status::OutOfMemory,
         }
     }
 }

@@ -11,9 +11,9 @@ use Rattle.house_serving.specs.Serving.{EndsSo, Run, Served}
 use Rattle.house_serving.specs.Turns.{Said, bodies_of}
 use Rattle.house_serving.specs.declared.ending.Ending.{Ending}
 use Rattle.house_serving.specs.declared.ending.Ending.TheVariants.{BadInput, DiskFault, Full, Grown, InputEnds, OutOfMemory, ReadFault, WriteFault}
-use Rattle.cdshouse.specs.Folders.{IsDigestOf, first_bodies}
-use Rattle.cdshouse.specs.Statuses.{status_after}
-use Rattle.cdshouse.specs.declared.segments.Next.{Next}
+use Rattle.house_program.specs.Beginnings.{IsDigestOf, first_bodies}
+use Rattle.house_program.specs.Statuses.{status_after}
+use Rattle.house_program.specs.declared.segments.Next.{Next}
 
 -- what the ending says
 grown_ends : {H D : Type 0} (responds : H → ℕ → List ℕ → Said → H → Type 0) (g : Ghosts D) (before : List ℕ) (bodies : List (List ℕ)) (house house' : H)

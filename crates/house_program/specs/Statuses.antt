@@ -8,8 +8,10 @@ use Rattle.house_journal.specs.declared.journal.JournalFault.{JournalFault}
 use Rattle.house_journal.specs.declared.journal.JournalFault.TheVariants as journal
 use Rattle.house_serving.specs.declared.ending.Ending.{Ending}
 use Rattle.house_serving.specs.declared.ending.Ending.TheVariants as ending
-use Rattle.cdshouse.specs.declared.ending.Status.{Status}
-use Rattle.cdshouse.specs.declared.ending.Status.TheVariants as status
+use Rattle.house_program.specs.declared.folder.FolderFault.{FolderFault}
+use Rattle.house_program.specs.declared.folder.FolderFault.TheVariants as folder
+use Rattle.house_program.specs.declared.status.Status.{Status}
+use Rattle.house_program.specs.declared.status.Status.TheVariants as status
 
 -- its number
 abbrev pub code_of : Status → ℕ
@@ -23,6 +25,8 @@ code_of status.Full = 7
 code_of status.DiskFault = 8
 code_of status.BadFolder = 9
 code_of status.Taken = 10
+code_of status.OtherVersion = 11
+code_of status.OtherDeeds = 12
 
 -- without the words of the command line
 abbrev pub status_without_words : WordsFault → Status
@@ -35,6 +39,13 @@ status_not_begun (alloc.Fault journal.Full) = status.Full
 status_not_begun (alloc.Fault journal.DiskFault) = status.DiskFault
 status_not_begun (alloc.Fault journal.Reopen) = status.DiskFault
 status_not_begun alloc.OutOfMemory = status.OutOfMemory
+
+-- where a call of the folder was not done
+abbrev pub status_of_folder : FolderFault → Status
+status_of_folder folder.Unreadable = status.BadFolder
+status_of_folder folder.Taken = status.Taken
+status_of_folder folder.Failed = status.DiskFault
+status_of_folder folder.OutOfMemory = status.OutOfMemory
 
 -- after a run; none, where the next segment is begun
 abbrev pub status_after : Ending → Option Status

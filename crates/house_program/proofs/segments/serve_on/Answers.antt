@@ -1,7 +1,7 @@
-use Rattle.cdshouse.specs.Folders.{first_bodies}
+use Rattle.house_program.specs.Beginnings.{first_bodies}
 use Rattle.house_turns.specs.HouseReplies.{Responds}
-use Rattle.cdshouse.proofs.GrownSegments.{grown_digest, grown_unbroken}
-use Rattle.cdshouse.proofs.segments.serve_on.Goals as goal
+use Rattle.house_program.proofs.GrownSegments.{grown_digest, grown_unbroken}
+use Rattle.house_program.proofs.segments.serve_on.Goals as goal
 
 pub serve_segment-requires-clause-ready : goal.serve_segment-requires-clause-ready
 serve_segment-requires-clause-ready g c = (c.args.next.now.before, first_bodies c.args.next.now, c.in_ok-segment.ensures)

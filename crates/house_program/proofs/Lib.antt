@@ -1,0 +1,2 @@
+mod GrownSegments
+mod ReadLemmas

@@ -1,0 +1,46 @@
+-- What a process finds in the last segment of its folder, and what the next one begins with.
+use Rattle.std.specs.Prelude.{◌≡◌, ◌≢◌, ◌-◌, ℕ, List, [], ◌∷◌, ◌++◌, Option, None, Some, codes, length, map, replicate, take}
+use Rattle.house_journal.specs.JournalRecords.{images}
+use Rattle.house_entries.specs.Bodies.{head_of}
+use Rattle.house_segments.specs.Chains.{last_digest}
+use Rattle.house_segments.specs.Reading.{IsLast}
+use Rattle.house_turns.specs.Openings.{OpensBy, new_house}
+use Rattle.house_program.specs.Files.{NumberedFile}
+use Rattle.house_program.specs.declared.reading.FolderHouse.{FolderHouse}
+use Rattle.house_program.specs.declared.segments.Next.{Next}
+
+-- the body of a record, which ends in a digest of 32 octets (own)
+abbrev pub body_in : (record_octets : List ℕ) → List ℕ
+body_in r = take (length r - 32) r
+
+-- the octets are a segment of this number, and the house goes on from its records after the head (own)
+pub record IsLastSegment (number : ℕ) (octets : List ℕ) (f : FolderHouse) : Type 0 where
+  pub head : List ℕ
+  pub others : List (List ℕ)
+  pub last : List ℕ
+  pub chain : IsLast (head_of number []) (images octets) last f.digest
+  pub records : images octets ≡ head ∷ others
+  pub house : OpensBy (map body_in others) f.house
+  pub numbered : f.number ≡ number
+
+-- a house is as a process finds it: in a folder without a file a house that is new; or it goes on
+-- from the last file (own)
+abbrev pub IsFound : Option NumberedFile → FolderHouse → Type 0
+IsFound None f = (f.house ≡ new_house) × (f.number ≡ 0) × (f.digest ≡ replicate 32 0)
+IsFound (Some file) f = IsLastSegment file.number file.octets f
+
+-- the first record begins as that of a segment of another version (own)
+pub record IsOtherVersion (octets : List ℕ) : Type 0 where
+  pub rest : List ℕ
+  pub others : List (List ℕ)
+  pub records : images octets ≡ (codes "cdshouse journal " ++ rest) ∷ others
+  pub other : (more : List ℕ) → rest ≢ codes "2 " ++ more
+
+-- the bodies that a segment begins with: its head, and its first record (own)
+abbrev pub first_bodies : Next → List (List ℕ)
+first_bodies next = head_of next.number next.before ∷ next.first.items ∷ []
+
+-- a digest is that of the last record of the segment, which has more records after these (own)
+pub record IsDigestOf (next : Next) (digest : List ℕ) : Type 0 where
+  pub more : List (List ℕ)
+  pub chain : digest ≡ last_digest next.before (first_bodies next ++ more)

@@ -1,0 +1,50 @@
+-- The numbered files of a folder, and what a crash may leave of them.
+use Rattle.std.specs.Prelude.{◌≡◌, ◌⊎◌, ℕ, List, [], ◌∷◌, ◌++◌, Option, None, Some, Result, Ok, Err}
+use Rattle.std.specs.List.{last_or}
+use Rattle.cds_base.specs.Counts.{Rose}
+use Rattle.house_program.specs.declared.folder.FolderFault.{FolderFault}
+use Rattle.house_program.specs.declared.folder.FolderFault.TheVariants.{Failed}
+use Rattle.house_program.specs.declared.folder.LastFile.{LastFile}
+
+-- a file whose name is a number, and its octets (own)
+pub record NumberedFile : Type 0 where
+  pub number : ℕ
+  pub octets : List ℕ
+
+-- files, in the order of their numbers (own)
+abbrev pub Files : Type 0
+Files = List NumberedFile
+
+-- a file as it was read (own)
+abbrev pub file_of : LastFile → NumberedFile
+file_of f = record { number = f.number; octets = f.octets.items }
+
+-- the number of a file, or 0 (own)
+abbrev pub number_in : Option NumberedFile → ℕ
+number_in None = 0
+number_in (Some f) = f.number
+
+-- the last file, if there is one (own)
+abbrev pub last_file : Files → Option NumberedFile
+last_file = last_or None
+
+-- a crash may leave these other files, and then the one of this number, with octets that a crash
+-- may leave of it (own)
+pub record WithFile (others : Files → Type 0) (number : ℕ) (left : List ℕ → Type 0) (files : Files) : Type 0 where
+  pub front : Files
+  pub octets : List ℕ
+  pub before : others front
+  pub left : left octets
+  pub split : files ≡ front ++ record { number = number; octets = octets } ∷ []
+
+-- a call after which a crash leaves nothing that it might not have left before (own)
+pub record Quiet {F : Type 0} (kept left_ever : F → Files → Type 0) (named_at : F → ℕ → ℕ → Type 0) (old new : F) : Type 0 where
+  pub kept : (files : Files) → kept new files → kept old files
+  pub ever : (files : Files) → left_ever new files → left_ever old files
+  pub named : (number moment : ℕ) → named_at new number moment → named_at old number moment
+
+-- a call answers Failed only where the count of failures rose, which it does at no other answer (own)
+abbrev pub HasFolderCause : {T : Type 0} → (before now : ℕ) → Result T FolderFault → Type 0
+HasFolderCause before now (Ok x) = now ≡ before
+HasFolderCause before now (Err Failed) = Rose before now
+HasFolderCause before now (Err fault) = now ≡ before

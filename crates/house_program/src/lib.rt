@@ -1,0 +1,13 @@
+//! `cdshouse` over a folder, a source and a sink: a house that goes on where its folder ended. It
+//! knows no file of an operating system.
+#![tactic(auto)]
+
+mod folder;
+mod reading;
+mod running;
+mod segments;
+mod status;
+
+pub use folder::{Folder, FolderFault, LastFile};
+pub use running::run;
+pub use status::Status;

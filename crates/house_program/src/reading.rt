@@ -1,0 +1,160 @@
+// What a process finds in the last segment of its folder: the house that its records say, which
+// does them again.
+ghost use Rattle.std.specs.Prelude.{◌≡◌, ◌≢◌, ◌↔◌, ◌++◌, ℕ, List, MatchOption, true, IfOk, IsFalse, IsTrue, OnOk, map, replicate};
+ghost use Rattle.house_journal.specs.JournalRecords.{images};
+ghost use Rattle.house_program.specs.Beginnings as beginnings;
+ghost use Rattle.house_program.specs.Beginnings.{IsFound, IsLastSegment, IsOtherVersion};
+ghost use Rattle.house_program.specs.Files.{NumberedFile, Quiet, last_file};
+ghost use Rattle.house_program.specs.declared.status.Status.TheVariants as statuses;
+ghost use Rattle.house_turns.specs.Openings.{EndsLife, OpensBy, RedoneBy, Resumes, new_house};
+
+use crate::folder::{Folder, LastFile};
+use crate::status::Status;
+use house_entries::head_octets;
+use house_segments::{DIGEST, first_record, last_record};
+use house_turns::{House, resume};
+use std::alloc::Global;
+
+/// A house as the folder has it: its last segment's number, and the digest of that segment's last
+/// record.
+#[derive(Drop)]
+pub struct FolderHouse {
+    pub house: House,
+    pub number: u64,
+    pub digest: [u8; DIGEST],
+}
+
+// What a folder without a segment has.
+fn empty_folder(alloc: Global) -> FolderHouse
+    ensures house { result.house ≡ new_house }
+    ensures number { result.number ≡ 0 }
+    ensures digest { result.digest ≡ replicate 32 0 }
+{
+    FolderHouse {
+        house: House::new(alloc),
+        number: 0,
+        digest: [0; DIGEST],
+    }
+}
+
+// The body of a record.
+fn body_in(record: &[u8]) -> &[u8]
+    ensures { result.now ≡ beginnings.body_in record.now }
+{
+    &record[..record.len().saturating_sub(DIGEST)]
+}
+
+// What comes after the front of octets, if they begin so.
+fn behind<'a>(octets: &'a [u8], front: &[u8]) -> Option<&'a [u8]>
+    ensures { MatchOption result ((rest : List ℕ) → octets.now ≢ front.now ++ rest)
+        (λ rest. octets.now ≡ front.now ++ rest.now) }
+{
+    octets.strip_prefix(front)
+}
+
+// Does again what the records of these octets say.
+#[tactic(auto, using(crate::proofs::ReadLemmas::redoing_first, crate::proofs::ReadLemmas::redoing_on, crate::proofs::ReadLemmas::redoing_ends))]
+fn redo_all(alloc: Global, house: &mut House, octets: &[u8]) -> Result<(), Status>
+    ensures { OnOk result (RedoneBy house.old (map beginnings.body_in (images octets.now)) house.new) }
+{
+    let mut rest = octets;
+    'records: while let Some((record, behind)) = first_record(rest) {
+        if !house.redo(alloc, body_in(record))? {
+            return Err(Status::OtherDeeds);
+        }
+        rest = behind;
+    }
+    Ok(())
+}
+
+// The house at the first record of a segment.
+fn resumed(alloc: Global, body: &[u8]) -> Result<House, Status>
+    ensures { IfOk result (Resumes body.now) }
+{
+    match resume(alloc, body)? {
+        Some(house) => Ok(house),
+        None => Err(Status::BadFolder),
+    }
+}
+
+// The house after a crash.
+fn ended(alloc: Global, house: House) -> Result<House, Status>
+    ensures { IfOk result (EndsLife house) }
+{
+    match house.end(alloc)? {
+        Some(house) => Ok(house),
+        None => Err(Status::BadFolder),
+    }
+}
+
+// Whether octets begin as a segment of another version.
+fn is_other_version(octets: &[u8]) -> bool
+    ensures yes { IsTrue result → IsOtherVersion octets.now }
+    ensures no { IsFalse result → IsOtherVersion octets.now → ⊥ }
+{
+    let Some((head, _)) = first_record(octets) else {
+        return false;
+    };
+    match behind(head, b"cdshouse journal ") {
+        Some(rest) => behind(rest, b"2 ").is_none(),
+        None => false,
+    }
+}
+
+// Why octets are no segment.
+fn not_read(octets: &[u8]) -> Status
+    ensures other { result ≡ statuses.OtherVersion ↔ IsOtherVersion octets.now }
+    ensures bad { result ≢ statuses.OtherVersion → result ≡ statuses.BadFolder }
+{
+    if is_other_version(octets) {
+        Status::OtherVersion
+    } else {
+        Status::BadFolder
+    }
+}
+
+// The house of the records after the head, which ends and goes on.
+#[tactic(auto, using(crate::proofs::ReadLemmas::opens))]
+fn house_of(alloc: Global, records: &[u8]) -> Result<House, Status>
+    ensures { IfOk result (OpensBy (map beginnings.body_in (images records.now))) }
+{
+    let Some((first, others)) = first_record(records) else {
+        return Err(Status::BadFolder);
+    };
+    let mut house = resumed(alloc, body_in(first))?;
+    redo_all(alloc, &mut house, others)?;
+    ended(alloc, house)
+}
+
+// What the octets of the last segment have.
+fn read_segment(alloc: Global, number: u64, octets: &[u8]) -> Result<FolderHouse, Status>
+    ensures { IfOk result (IsLastSegment number octets.now) }
+{
+    let title = head_octets(alloc, number, b"")?;
+    let Some(last) = last_record(&title, octets) else {
+        return Err(not_read(octets));
+    };
+    let Some((_, records)) = first_record(octets) else {
+        return Err(Status::BadFolder);
+    };
+    let house = house_of(alloc, records)?;
+    Ok(FolderHouse {
+        house,
+        number,
+        digest: last.digest,
+    })
+}
+
+/// What the last segment of the folder has.
+pub(crate) fn read_folder<F: Folder>(alloc: Global, folder: &mut F) -> Result<FolderHouse, Status>
+    requires { F.locked folder.old ≡ true }
+    ensures found { IfOk result (λ f. (files : List NumberedFile) → F.kept folder.new files
+        → IsFound (last_file files) f) }
+    ensures quiet { Quiet F.kept F.left_ever F.named_at folder.old folder.new }
+    ensures locked { F.locked folder.new ≡ true }
+{
+    match folder.last(alloc)? {
+        None => Ok(empty_folder(alloc)),
+        Some(LastFile { number, octets }) => read_segment(alloc, number, &octets),
+    }
+}
