@@ -61,6 +61,13 @@ impl Clearinghouse {
         self.house
     }
 
+    /// Its node.
+    pub fn node(&self) -> Node
+        ensures { result ≡ self.now.node }
+    {
+        self.node
+    }
+
     /// What it has of a directory, if it ever had something.
     pub fn state(&self, dir: DirId) -> Option<&DirState>
         ensures { option_copied result ≡ map.get self.now.dirs dir }

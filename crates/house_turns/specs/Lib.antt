@@ -4,5 +4,6 @@ pub mod HouseAnswers
 pub mod Records
 pub mod LineOutcomes
 pub mod HouseReplies
+pub mod RunningSkulks
 pub mod Openings
 pub mod PrivateTurns

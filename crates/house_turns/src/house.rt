@@ -9,7 +9,7 @@ ghost use Rattle.clearinghouse.specs.declared.house.Clearinghouse.{Clearinghouse
 ghost use Rattle.house_lines.specs.declared.line.HouseLine.TheVariants as lines;
 ghost use Rattle.house_turns.specs.HouseReplies.{RepliesAt, RepliesMore, RepliesTake, RepliesTo, Responds, with_spaces, turn_lines};
 ghost use Rattle.house_turns.specs.Openings.{new_house};
-ghost use Rattle.house_turns.specs.Records.{HomeFits, IsRecord, image_in};
+ghost use Rattle.house_turns.specs.Records.{HomeFits, IsRecord, IsTurnRecord, image_in};
 ghost use Rattle.house_turns.specs.PrivateTurns.{AsksHome, DoesBy, DoesOrTells, ReplyOf, TurnReply, posts_in};
 ghost use Rattle.house_turns.specs.HouseAnswers.{question_said};
 ghost use Rattle.house_turns.specs.PostTexts.{octets_line};
@@ -156,7 +156,7 @@ impl House {
         }
     }
 
-    /// The body of a record with this text, in the house as it is.
+    /// The body of the first record of a segment, with this text, in the house as it is.
     pub(crate) fn body(&self, alloc: Global, text: &[u8]) -> Result<Vec<u8>, AllocError>
         ensures { IfOk result (λ v. IsRecord self.now text.now v.items) }
     {
@@ -165,6 +165,16 @@ impl House {
         }
         let image = self.image(alloc)?;
         body_octets(alloc, self.entry, self.clock, text, image.as_deref())
+    }
+
+    // The body of the record of a turn with this text, after which the house is as it is.
+    fn turn_body(&self, alloc: Global, text: &[u8]) -> Result<Vec<u8>, AllocError>
+        ensures { IfOk result (λ v. IsTurnRecord self.now text.now v.items) }
+    {
+        if text.len() > u32::MAX as usize {
+            return Err(AllocError);
+        }
+        body_octets(alloc, self.entry, self.clock, text, None)
     }
 
     // The reply to a line that was a turn.
@@ -181,7 +191,7 @@ impl House {
     {
         let kept = turn_text(alloc, line, posts, answer)?;
         self.entry = self.entry.checked_add(1).ok_or(AllocError)?;
-        let body = self.body(alloc, &kept)?;
+        let body = self.turn_body(alloc, &kept)?;
         self.last = OctetBuffer::of(kept);
         Ok(Reply {
             text: turn_told(alloc, number, posts, answer)?,

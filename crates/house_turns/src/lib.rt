@@ -10,6 +10,8 @@ mod lists;
 mod octets;
 mod opening;
 mod posts;
+mod resuming;
+mod running;
 mod said;
 mod taking;
 mod texts;
@@ -17,4 +19,4 @@ mod turns;
 
 pub use house::{House, MOST_MESSAGE};
 pub use octets::OctetBuffer;
-pub use opening::open;
+pub use resuming::resume;
