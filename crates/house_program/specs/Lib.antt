@@ -1,3 +1,5 @@
 pub mod Files
 pub mod Statuses
 pub mod Beginnings
+pub mod HouseFolders
+pub mod Lives
