@@ -1,2 +1,3 @@
-mod GrownSegments
 mod ReadLemmas
+mod FolderLemmas
+mod LifeLemmas

@@ -2,10 +2,9 @@
 use Rattle.std.specs.Prelude.{◌≡◌, ◌≢◌, ◌-◌, ℕ, List, [], ◌∷◌, ◌++◌, Option, None, Some, codes, length, map, replicate, take}
 use Rattle.house_journal.specs.JournalRecords.{images}
 use Rattle.house_entries.specs.Bodies.{head_of}
-use Rattle.house_segments.specs.Chains.{last_digest}
 use Rattle.house_segments.specs.Reading.{IsLast}
 use Rattle.house_turns.specs.Openings.{OpensBy, new_house}
-use Rattle.house_program.specs.Files.{NumberedFile}
+use Rattle.house_program.specs.Files.{NumberedFile, last_file}
 use Rattle.house_program.specs.declared.reading.FolderHouse.{FolderHouse}
 use Rattle.house_program.specs.declared.segments.Next.{Next}
 
@@ -29,6 +28,12 @@ abbrev pub IsFound : Option NumberedFile → FolderHouse → Type 0
 IsFound None f = (f.house ≡ new_house) × (f.number ≡ 0) × (f.digest ≡ replicate 32 0)
 IsFound (Some file) f = IsLastSegment file.number file.octets f
 
+-- what a process finds is the last file, which is this one, if there is one, whatever a crash leaves (own)
+pub record FindsSo (kept : List NumberedFile → Type 0) (f : FolderHouse) : Type 0 where
+  pub file : Option NumberedFile
+  pub always : (files : List NumberedFile) → kept files → last_file files ≡ file
+  pub is : IsFound file f
+
 -- the first record begins as that of a segment of another version (own)
 pub record IsOtherVersion (octets : List ℕ) : Type 0 where
   pub rest : List ℕ
@@ -39,8 +44,3 @@ pub record IsOtherVersion (octets : List ℕ) : Type 0 where
 -- the bodies that a segment begins with: its head, and its first record (own)
 abbrev pub first_bodies : Next → List (List ℕ)
 first_bodies next = head_of next.number next.before ∷ next.first.items ∷ []
-
--- a digest is that of the last record of the segment, which has more records after these (own)
-pub record IsDigestOf (next : Next) (digest : List ℕ) : Type 0 where
-  pub more : List (List ℕ)
-  pub chain : digest ≡ last_digest next.before (first_bodies next ++ more)

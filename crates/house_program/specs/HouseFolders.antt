@@ -1,7 +1,7 @@
 -- The files of a folder as the segments that the processes of a house left.
-use Rattle.std.specs.Prelude.{◌≡◌, ℕ, ◌+◌, List, [], ◌∷◌, ◌++◌, Option, length, replicate}
+use Rattle.std.specs.Prelude.{◌≡◌, ℕ, ◌+◌, List, [], ◌∷◌, ◌++◌, Option, None, length, replicate}
 use Rattle.house_entries.specs.Bodies.{head_of}
-use Rattle.house_runs.specs.Folders.{AreSegments, FolderSegment, IsFolder, folder_bodies, segment_bodies}
+use Rattle.house_runs.specs.Folders.{AreSegments, FolderSegment, IsFolder, ProcessBegins, folder_bodies, last_bodies, segment_bodies}
 use Rattle.house_segments.specs.Chains.{last_digest}
 use Rattle.house_segments.specs.Segments.{HasBodies}
 use Rattle.house_turns.specs.Openings.{new_house}
@@ -37,15 +37,35 @@ pub record IsHouseFolder (files : Files) : Type 0 where
 abbrev pub LeavesHouse : (left : Files → Type 0) → Type 0
 LeavesHouse left = (files : Files) → left files → IsHouseFolder files
 
--- a crash leaves the files of before, and then segments of a process that went on from the last
--- segment of before, whose records are a front of these (own)
-pub record IsFront (kept : Files → Type 0) (last : Option (List (List ℕ))) (number : ℕ) (before : List ℕ) (records : List (List ℕ)) (files : Files) : Type 0 where
+-- what a process goes on from: the records of the last segment, if there is one, its number, or 0,
+-- and the digest of its last record, or zeros (own)
+pub record Found : Type 0 where
+  pub last : Option (List (List ℕ))
+  pub number : ℕ
+  pub digest : List ℕ
+
+-- so it is with a folder that ends in these segments (own)
+pub record EndsIn (segments : List FolderSegment) (found : Found) : Type 0 where
+  pub last : found.last ≡ last_bodies None segments
+  pub number : found.number ≡ length segments
+  pub digest : found.digest ≡ digest_after_all 1 (replicate 32 0) segments
+
+-- the first one of segments is that of a process that begins (own)
+abbrev pub BeginsAnew : List FolderSegment → Type 0
+BeginsAnew [] = Unit {0}
+BeginsAnew (s ∷ ss) = s.begins ≡ ProcessBegins
+
+-- files are those of before, from which a process goes on so, and then segments as it makes them,
+-- whose records are a front of these (own)
+pub record IsFront (kept : Files → Type 0) (found : Found) (records : List (List ℕ)) (files : Files) : Type 0 where
   pub was : Files
   pub made : Files
   pub segments : List FolderSegment
   pub more : List (List ℕ)
   pub kept : kept was
+  pub after : (h : IsHouseFolder was) → EndsIn (h.gone ++ h.segments) found
   pub split : files ≡ was ++ made
-  pub are : AreFiles number before segments made
-  pub follow : AreSegments last new_house segments
+  pub are : AreFiles (found.number + 1) found.digest segments made
+  pub follow : AreSegments found.last new_house segments
+  pub begins : BeginsAnew segments
   pub records : records ≡ folder_bodies segments ++ more

@@ -1,5 +1,5 @@
 -- The status that the process ends with (own).
-use Rattle.std.specs.Prelude.{ℕ, Option, Some, None}
+use Rattle.std.specs.Prelude.{ℕ, Option, Some, None, Result, Ok, Err}
 use Rattle.cds_base.specs.declared.words.WordsFault.{WordsFault}
 use Rattle.cds_base.specs.declared.words.WordsFault.TheVariants as words
 use Rattle.cds_stamps.specs.declared.alloc_or.AllocOr.{AllocOr}
@@ -57,3 +57,8 @@ status_after ending.OutOfMemory = Some status.OutOfMemory
 status_after ending.Full = Some status.Full
 status_after ending.DiskFault = Some status.DiskFault
 status_after ending.Grown = None
+
+-- whichever came
+abbrev pub status_of : Result Status Status → Status
+status_of (Ok s) = s
+status_of (Err s) = s

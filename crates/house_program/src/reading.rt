@@ -1,10 +1,10 @@
 // What a process finds in the last segment of its folder: the house that its records say, which
 // does them again.
-ghost use Rattle.std.specs.Prelude.{◌≡◌, ◌≢◌, ◌↔◌, ◌++◌, ℕ, List, MatchOption, true, IfOk, IsFalse, IsTrue, OnOk, map, replicate};
+ghost use Rattle.std.specs.Prelude.{◌≡◌, ◌≢◌, ◌↔◌, ◌++◌, ℕ, List, MatchOption, true, IfErr, IfOk, IsFalse, IsTrue, OnOk, map, replicate};
 ghost use Rattle.house_journal.specs.JournalRecords.{images};
 ghost use Rattle.house_program.specs.Beginnings as beginnings;
-ghost use Rattle.house_program.specs.Beginnings.{IsFound, IsLastSegment, IsOtherVersion};
-ghost use Rattle.house_program.specs.Files.{NumberedFile, Quiet, last_file};
+ghost use Rattle.house_program.specs.Beginnings.{FindsSo, IsLastSegment, IsOtherVersion};
+ghost use Rattle.house_program.specs.Files.{Quiet};
 ghost use Rattle.house_program.specs.declared.status.Status.TheVariants as statuses;
 ghost use Rattle.house_turns.specs.Openings.{EndsLife, OpensBy, RedoneBy, Resumes, new_house};
 
@@ -55,7 +55,8 @@ fn behind<'a>(octets: &'a [u8], front: &[u8]) -> Option<&'a [u8]>
 // Does again what the records of these octets say.
 #[tactic(auto, using(crate::proofs::ReadLemmas::redoing_first, crate::proofs::ReadLemmas::redoing_on, crate::proofs::ReadLemmas::redoing_ends))]
 fn redo_all(alloc: Global, house: &mut House, octets: &[u8]) -> Result<(), Status>
-    ensures { OnOk result (RedoneBy house.old (map beginnings.body_in (images octets.now)) house.new) }
+    ensures ok { OnOk result (RedoneBy house.old (map beginnings.body_in (images octets.now)) house.new) }
+    ensures not_ok { IfErr result (λ s. s ≢ statuses.Ok) }
 {
     let mut rest = octets;
     'records: while let Some((record, behind)) = first_record(rest) {
@@ -69,7 +70,8 @@ fn redo_all(alloc: Global, house: &mut House, octets: &[u8]) -> Result<(), Statu
 
 // The house at the first record of a segment.
 fn resumed(alloc: Global, body: &[u8]) -> Result<House, Status>
-    ensures { IfOk result (Resumes body.now) }
+    ensures ok { IfOk result (Resumes body.now) }
+    ensures not_ok { IfErr result (λ s. s ≢ statuses.Ok) }
 {
     match resume(alloc, body)? {
         Some(house) => Ok(house),
@@ -79,7 +81,8 @@ fn resumed(alloc: Global, body: &[u8]) -> Result<House, Status>
 
 // The house after a crash.
 fn ended(alloc: Global, house: House) -> Result<House, Status>
-    ensures { IfOk result (EndsLife house) }
+    ensures ok { IfOk result (EndsLife house) }
+    ensures not_ok { IfErr result (λ s. s ≢ statuses.Ok) }
 {
     match house.end(alloc)? {
         Some(house) => Ok(house),
@@ -116,7 +119,8 @@ fn not_read(octets: &[u8]) -> Status
 // The house of the records after the head, which ends and goes on.
 #[tactic(auto, using(crate::proofs::ReadLemmas::opens))]
 fn house_of(alloc: Global, records: &[u8]) -> Result<House, Status>
-    ensures { IfOk result (OpensBy (map beginnings.body_in (images records.now))) }
+    ensures ok { IfOk result (OpensBy (map beginnings.body_in (images records.now))) }
+    ensures not_ok { IfErr result (λ s. s ≢ statuses.Ok) }
 {
     let Some((first, others)) = first_record(records) else {
         return Err(Status::BadFolder);
@@ -128,7 +132,8 @@ fn house_of(alloc: Global, records: &[u8]) -> Result<House, Status>
 
 // What the octets of the last segment have.
 fn read_segment(alloc: Global, number: u64, octets: &[u8]) -> Result<FolderHouse, Status>
-    ensures { IfOk result (IsLastSegment number octets.now) }
+    ensures ok { IfOk result (IsLastSegment number octets.now) }
+    ensures not_ok { IfErr result (λ s. s ≢ statuses.Ok) }
 {
     let title = head_octets(alloc, number, b"")?;
     let Some(last) = last_record(&title, octets) else {
@@ -148,8 +153,8 @@ fn read_segment(alloc: Global, number: u64, octets: &[u8]) -> Result<FolderHouse
 /// What the last segment of the folder has.
 pub(crate) fn read_folder<F: Folder>(alloc: Global, folder: &mut F) -> Result<FolderHouse, Status>
     requires { F.locked folder.old ≡ true }
-    ensures found { IfOk result (λ f. (files : List NumberedFile) → F.kept folder.new files
-        → IsFound (last_file files) f) }
+    ensures found { IfOk result (FindsSo (F.kept folder.new)) }
+    ensures not_ok { IfErr result (λ s. s ≢ statuses.Ok) }
     ensures quiet { Quiet F.kept F.left_ever F.named_at folder.old folder.new }
     ensures locked { F.locked folder.new ≡ true }
 {

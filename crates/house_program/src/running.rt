@@ -1,6 +1,10 @@
 // The process of a house, from its folder's lock to its last line.
 ghost use Rattle.std.specs.Prelude.{◌≡◌, true};
-ghost use Rattle.house_program.specs.Files.{NumberedFile, last_file, number_in};
+ghost use Rattle.house_serving.specs.Serving.{run_of};
+ghost use Rattle.house_program.specs.Beginnings.{FindsSo};
+ghost use Rattle.house_program.specs.HouseFolders.{LeavesHouse};
+ghost use Rattle.house_program.specs.Lives.{Lived};
+ghost use Rattle.house_program.specs.Statuses.{status_of};
 
 use crate::folder::Folder;
 use crate::reading::{FolderHouse, read_folder};
@@ -16,20 +20,29 @@ fn serve_all<F: Folder, S: Source, K: Sink>(
     found: FolderHouse,
     source: &mut S,
     sink: &mut K,
-) -> Result<Status, Status> {
+) -> Result<Status, Status>
+    requires locked { F.locked folder.old ≡ true }
+    requires found { FindsSo (F.kept folder.old) found }
+    ensures { Lived (F.kept folder.old) (F.left_ever folder.old) (F.kept folder.new)
+        (F.left_ever folder.new) (run_of S.left S.faults K.written K.faults source.old source.new
+        sink.old sink.new) (status_of result) }
+{
     let FolderHouse {
         mut house,
         number,
         digest,
     } = found;
     let mut lines = Lines::new(alloc)?;
-    let mut next = next_after(number, digest, house.start(alloc)?, true)?;
+    let first = house.start(alloc)?;
+    let said = house.first_words(alloc)?;
+    let mut next = next_after(number, digest, first, said)?;
     'segments: for _ in 0..u64::MAX {
         let left = serve_on(alloc, folder, &next, &mut house, &mut lines, source, sink)?;
         if let Some(status) = Status::after(left.ending) {
             return Ok(status);
         }
-        next = next_after(next.number, left.digest, house.next_segment(alloc)?, false)?;
+        let first = house.next_segment(alloc)?;
+        next = next_after(next.number, left.digest, first, Vec::new(alloc))?;
     }
     Ok(Status::Full)
 }
@@ -40,7 +53,11 @@ fn process<F: Folder, S: Source, K: Sink>(
     folder: &mut F,
     source: &mut S,
     sink: &mut K,
-) -> Result<Status, Status> {
+) -> Result<Status, Status>
+    ensures { Lived (F.kept folder.old) (F.left_ever folder.old) (F.kept folder.new)
+        (F.left_ever folder.new) (run_of S.left S.faults K.written K.faults source.old source.new
+        sink.old sink.new) (status_of result) }
+{
     folder.lock()?;
     let found = read_folder(alloc, folder)?;
     serve_all(alloc, folder, found, source, sink)
@@ -52,7 +69,13 @@ pub fn run<F: Folder, S: Source, K: Sink>(
     folder: &mut F,
     source: &mut S,
     sink: &mut K,
-) -> Status {
+) -> Status
+    ensures lived { Lived (F.kept folder.old) (F.left_ever folder.old) (F.kept folder.new)
+        (F.left_ever folder.new) (run_of S.left S.faults K.written K.faults source.old source.new
+        sink.old sink.new) result }
+    ensures house { LeavesHouse (F.kept folder.old) → LeavesHouse (F.left_ever folder.old)
+        → LeavesHouse (F.kept folder.new) × LeavesHouse (F.left_ever folder.new) }
+{
     match process(alloc, folder, source, sink) {
         Ok(status) | Err(status) => status,
     }

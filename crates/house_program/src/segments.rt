@@ -1,17 +1,13 @@
 // The next segment that a process writes.
-ghost use Rattle.std.specs.Prelude.{◌≡◌, ◌+◌, ◌<◌, ℕ, List, [], ◌∷◌, None, true, IfOk, IsTrue, OnOk};
-ghost use Rattle.std.specs.Io.KnownBytes.{Appends};
+ghost use Rattle.std.specs.Prelude.{◌≡◌, ◌+◌, ◌<◌, ◌≢◌, ℕ, List, [], None, true, IfErr, IfOk};
 ghost use Rattle.cds_base.specs.Lines.{fault_of_lines};
-ghost use Rattle.script_answers.specs.Texts.{lines_text};
 ghost use Rattle.house_journal.specs.Disks.{Only};
-ghost use Rattle.house_segments.specs.Chains.{last_digest};
 ghost use Rattle.house_segments.specs.Segments.{IsAt};
-ghost use Rattle.house_serving.specs.Serving.{Served, run_of};
-ghost use Rattle.house_turns.specs.HouseReplies.{Responds};
-ghost use Rattle.house_turns.specs.Openings.{HasTurn, first_lines};
-ghost use Rattle.house_serving.specs.declared.ending.Ending.TheVariants.{Grown};
-ghost use Rattle.house_program.specs.Beginnings.{IsDigestOf, first_bodies};
+ghost use Rattle.house_serving.specs.Serving.{run_of};
+ghost use Rattle.house_program.specs.Beginnings.{first_bodies};
 ghost use Rattle.house_program.specs.Files.{NumberedFile, last_file, number_in};
+ghost use Rattle.house_program.specs.declared.status.Status.TheVariants as statuses;
+ghost use Rattle.house_program.specs.PrivateLives.{SegmentDone, Spoken};
 
 use crate::folder::Folder;
 use crate::status::Status;
@@ -27,14 +23,14 @@ use std::alloc::Global;
 // began with.
 const MOST_SEGMENT: u64 = 4_194_304;
 
-/// A segment that is to be made: its number, the digest before it, and its first record; and
-/// whether the house says who it is then.
+/// A segment that is to be made: its number, the digest before it, its first record, and what the
+/// house says once it has its number.
 #[derive(Drop)]
 pub struct Next {
     pub number: u64,
     pub before: [u8; DIGEST],
     pub first: Vec<u8>,
-    pub speaks: bool,
+    pub said: Vec<u8>,
 }
 
 /// The segment after the one of this number.
@@ -42,18 +38,19 @@ pub(crate) fn next_after(
     number: u64,
     before: [u8; DIGEST],
     first: Vec<u8>,
-    speaks: bool,
+    said: Vec<u8>,
 ) -> Result<Next, Status>
     ensures number { IfOk result (λ n. n.number ≡ number + 1) }
     ensures before { IfOk result (λ n. n.before ≡ before) }
     ensures first { IfOk result (λ n. n.first ≡ first) }
-    ensures speaks { IfOk result (λ n. n.speaks ≡ speaks) }
+    ensures said { IfOk result (λ n. n.said ≡ said) }
+    ensures full { IfErr result (λ s. s ≡ statuses.Full) }
 {
     Ok(Next {
         number: number.checked_add(1).ok_or(Status::Full)?,
         before,
         first,
-        speaks,
+        said,
     })
 }
 
@@ -61,26 +58,14 @@ pub(crate) fn next_after(
 fn begin<D: Disk + Drop>(alloc: Global, disk: D, next: &Next) -> Result<Segment<D>, Status>
     requires empty { D.Disk.reads disk ≡ [] }
     requires only { Only (D.Disk.reads disk) (D.Disk.may_leave disk) }
-    ensures { IfOk result (λ s. IsAt D.Disk s next.now.before
+    ensures ok { IfOk result (λ s. IsAt D.Disk s next.now.before
         (first_bodies next.now)) }
+    ensures not_ok { IfErr result (λ s. s ≢ statuses.Ok) }
 {
     let head = head_octets(alloc, next.number, &next.before)?;
     match Segment::begin(alloc, disk, next.before, &head, &next.first) {
         Ok(segment) => Ok(segment),
         Err(fault) => Err(Status::not_begun(fault)),
-    }
-}
-
-// What the house says first.
-fn say_first<K: Sink>(alloc: Global, house: &House, sink: &mut K) -> Result<(), Status>
-    ensures { (turn : HasTurn house.now.home house.now.last)
-        → OnOk result (Appends (K.written sink.old) (K.written sink.new)
-        (lines_text 0 (first_lines house.now house.now.home turn))) }
-{
-    let text = house.first_words(alloc)?;
-    match put_all(sink, &text) {
-        Ok(()) => Ok(()),
-        Err(_) => Err(Status::WriteFault),
     }
 }
 
@@ -91,57 +76,33 @@ pub struct Left {
     pub digest: [u8; DIGEST],
 }
 
-// Answers lines until the segment has grown or the run ends.
-fn serve_segment<S: Source, K: Sink, D: Disk>(
-    alloc: Global,
-    house: &mut House,
-    segment: &mut Segment<D>,
-    lines: &mut Lines,
-    source: &mut S,
-    sink: &mut K,
-) -> Left
-    requires ready { (before : List ℕ) × (bodies : List (List ℕ))
-        × IsAt D.Disk segment.old before bodies }
-    requires unbroken { fault_of_lines lines.old ≡ None }
-    ensures served { (before : List ℕ) (bodies : List (List ℕ))
-        → IsAt D.Disk segment.old before bodies
-        → Served Responds D.Disk before bodies house.old house.new segment.old segment.new
-        lines.old lines.new (run_of S.left S.faults K.written K.faults source.old source.new
-        sink.old sink.new) result.ending }
-    ensures digest { (before : List ℕ) (bodies : List (List ℕ))
-        → IsAt D.Disk segment.new before bodies
-        → result.digest ≡ last_digest before bodies }
-{
-    let most = segment.size().saturating_mul(3).max(MOST_SEGMENT);
-    let ending = serve(alloc, house, segment, most, lines, source, sink);
-    Left {
-        ending,
-        digest: segment.digest(),
-    }
-}
-
-// Says what the house says first, if it speaks, and answers lines.
+// Says what is said first, and answers lines until the segment has grown or the run ends.
 fn speak_and_serve<S: Source, K: Sink, D: Disk>(
     alloc: Global,
-    speaks: bool,
+    said: &[u8],
     house: &mut House,
     segment: &mut Segment<D>,
     lines: &mut Lines,
     source: &mut S,
     sink: &mut K,
-) -> Result<Left, Status>
+) -> Ending
     requires ready { (before : List ℕ) × (bodies : List (List ℕ))
         × IsAt D.Disk segment.old before bodies }
     requires unbroken { fault_of_lines lines.old ≡ None }
+    ensures { (before : List ℕ) (bodies : List (List ℕ))
+        → IsAt D.Disk segment.old before bodies
+        → Spoken D.Disk before bodies said.now house.old house.new segment.old segment.new
+        lines.old lines.new (run_of S.left S.faults K.written K.faults source.old source.new
+        sink.old sink.new) result }
 {
-    if speaks {
-        say_first(alloc, house, sink)?;
+    if put_all(sink, said).is_err() {
+        return Ending::WriteFault;
     }
-    Ok(serve_segment(alloc, house, segment, lines, source, sink))
+    let most = segment.size().saturating_mul(3).max(MOST_SEGMENT);
+    serve(alloc, house, segment, most, lines, source, sink)
 }
 
-/// Makes a segment, gives it its number, and answers lines until it has grown or the run ends. The
-/// digest of a segment that has grown is that of its chain.
+/// Makes a segment, gives it its number, and answers lines until it has grown or the run ends.
 pub(crate) fn serve_on<F: Folder, S: Source, K: Sink>(
     alloc: Global,
     folder: &mut F,
@@ -155,16 +116,19 @@ pub(crate) fn serve_on<F: Folder, S: Source, K: Sink>(
     requires above { (files : List NumberedFile) → F.kept folder.old files
         → number_in (last_file files) < next.now.number }
     requires unbroken { fault_of_lines lines.old ≡ None }
-    ensures unbroken { IfOk result
-        (λ left. left.ending ≡ Grown → fault_of_lines lines.new ≡ None) }
-    ensures digest { IfOk result
-        (λ left. left.ending ≡ Grown → IsDigestOf next.now left.digest) }
+    ensures done { SegmentDone (F.kept folder.old) (F.left_ever folder.old) (F.kept folder.new)
+        (F.left_ever folder.new) next.now house.old house.new lines.old lines.new
+        (run_of S.left S.faults K.written K.faults source.old source.new sink.old sink.new)
+        result }
     ensures locked { F.locked folder.new ≡ true }
 {
     let file = folder.make(alloc)?;
     let mut segment = begin(alloc, file, next)?;
     folder.name(alloc, segment.disk(), next.number)?;
-    let left = speak_and_serve(alloc, next.speaks, house, &mut segment, lines, source, sink);
+    let ending = speak_and_serve(
+        alloc, &next.said, house, &mut segment, lines, source, sink,
+    );
+    let digest = segment.digest();
     folder.close(next.number, segment.into_disk());
-    left
+    Ok(Left { ending, digest })
 }

@@ -5,5 +5,5 @@ mod Waits
 mod Segments
 mod LastTurns
 mod Cells
-mod Crashes
+pub mod Crashes
 mod Examples

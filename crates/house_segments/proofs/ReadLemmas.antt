@@ -1,5 +1,5 @@
 -- The record at the front of octets, and a chain that is read record by record.
-use Rattle.std.proofs.Common.{◌≡◌, ◌≢◌, ℕ, ◌+◌, ◌≤◌, ◌<◌, ◌==◌, nat_le, true, false, Bool, List, [], ◌∷◌, ◌++◌, length, take, drop, slice_index, refl, sym, ◌∙◌, ap, subst, inl, inr, ⊎_elim}
+use Rattle.std.proofs.Common.{◌≡◌, ◌≢◌, ℕ, ◌+◌, ◌≤◌, ◌<◌, ◌==◌, nat_le, true, false, List, [], ◌∷◌, ◌++◌, length, take, drop, slice_index, refl, sym, ◌∙◌, ap, subst, inl, inr}
 use Rattle.std.proofs.Common.{arith, append_assoc, append-nil, take-append-drop, length-append}
 use Rattle.std.specs.Prelude.{Option, Some, None, IfNone}
 use Rattle.std.proofs.lemmas.List.{append_cancel_left, drop-drop}
@@ -10,7 +10,7 @@ use Rattle.house_journal.specs.JournalRecords.{gate_of, images, is_open, length_
 use Rattle.house_journal.proofs.Readings.{few_shut}
 use Rattle.house_journal.proofs.Records.{opened, closed, counted, uncounted}
 use Rattle.house_segments.specs.Chains.{chained, digest_after, last_digest, sealed}
-use Rattle.house_segments.specs.Reading.{EndedLater, HadMore, IsLast, IsSegment, end_of}
+use Rattle.house_segments.specs.Reading.{EndedLater, IsLast, IsSegment, end_of}
 use Rattle.house_segments.proofs.ChainLemmas.{chained-append, last_digest-append}
 
 -- ---- the record at the front
@@ -232,7 +232,7 @@ pub record GoesOn (before : List ℕ) (xs ys more : List (List ℕ)) : Type 0 wh
   pub bodies : ys ≡ xs ++ others
   pub chain : more ≡ chained (last_digest before xs) others
 
-chain_on : (before : List ℕ) (xs ys more : List (List ℕ)) → chained before xs ++ more ≡ chained before ys → GoesOn before xs ys more
+pub chain_on : (before : List ℕ) (xs ys more : List (List ℕ)) → chained before xs ++ more ≡ chained before ys → GoesOn before xs ys more
 unfolding first_in others_in
 chain_on before [] ys more same = record { others = ys; bodies = refl; chain = same }
 chain_on before (x ∷ xs) [] more same = absurd (cc (same))
@@ -248,7 +248,7 @@ chain_on before (x ∷ xs) (y ∷ ys) more same =
     }
 
 -- the heads of two chains of one title, one of which goes on, follow one digest
-same_before : (title before given : List ℕ) (xs ys more : List (List ℕ))
+pub same_before : (title before given : List ℕ) (xs ys more : List (List ℕ))
     → chained before ((title ++ before) ∷ xs) ++ more ≡ chained given ((title ++ given) ∷ ys) → before ≡ given
 unfolding first_in
 same_before title before given xs ys more same =

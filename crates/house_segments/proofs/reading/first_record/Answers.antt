@@ -1,5 +1,5 @@
-use Rattle.std.proofs.Common.{◌<◌, length, arith}
-use Rattle.house_segments.proofs.ReadLemmas.{few_end, few_none}
+use Rattle.std.proofs.Common.{arith}
+use Rattle.house_segments.proofs.ReadLemmas.{few_none}
 use Rattle.house_segments.proofs.reading.first_record.Goals as goal
 
 pub returns-in-None-clause-none : goal.returns-in-None-clause-none

@@ -1,4 +1,4 @@
-use Rattle.std.proofs.Common.{◌≡◌, ◌∷◌, ◌+◌, drop, length, rules, arith}
+use Rattle.std.proofs.Common.{◌≡◌, ◌∷◌, drop, rules, arith}
 use Rattle.std.proofs.lemmas.Grind.{common_steps}
 use Rattle.house_journal.specs.JournalRecords.{images}
 use Rattle.house_segments.proofs.ReadLemmas.{had_more, none_ended}
