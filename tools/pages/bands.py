@@ -3,7 +3,7 @@ from . import sources
 
 # The bands, highest first.
 BANDS = {
-    "programs, laws, tests": ["cdsreplay", "cdsmend", "cdshouse", "cell_replay", "mend_program", "form_laws", "two_houses", "disk_tests", "service_tests", "house_tests", "line_tests", "net_tests", "run_tests", "cdsexplain"],
+    "programs, laws, tests": ["cdsreplay", "cdsmend", "cdshouse", "house_program", "cell_replay", "mend_program", "form_laws", "two_houses", "disk_tests", "service_tests", "house_tests", "line_tests", "net_tests", "run_tests", "cdsexplain"],
     "forms": ["script_replay", "clerk_replay", "inquire_replay", "journal_replay", "mend_replay", "line_forms", "reply_buffer", "inquire_forms", "journal_forms", "ns_commands", "cds_explain"],
     "cells and houses": ["cds_cell", "clearinghouse", "house_directory", "cell_model", "mend_model", "cell_runs", "house_turns", "house_runs"],
     "names and servers": ["resolver", "clerk_cache", "ns_import", "ns_inquire", "ns_groups", "ns_profiles", "server_entries"],

@@ -1,6 +1,6 @@
 -- Segments that follow one another, and their files.
 use Rattle.std.proofs.Common.{◌≡◌, ◌≢◌, inl, inr, ⊎_elim, ℕ, ◌+◌, ◌-◌, List, [], ◌∷◌, ◌++◌, length, map, take, refl, sym, ◌∙◌, ap, subst, append_assoc, append-nil, length-append, arith}
-use Rattle.std.specs.Prelude.{Option, Some, None, replicate}
+use Rattle.std.specs.Prelude.{Option, Some, None, codes, decimal, replicate}
 use Rattle.std.proofs.Math.Seq.{take-append_seam}
 use Rattle.sha2.proofs.Facts256.{length-sha256}
 use Rattle.house_entries.specs.Bodies.{head_of}
@@ -22,25 +22,22 @@ use Rattle.house_program.specs.declared.reading.FolderHouse.{FolderHouse}
 -- ---- segments
 
 -- segments that follow these records, where the house is so, and the house after them
-pub SegmentsTo : (last : Option (List (List ℕ))) → House → List FolderSegment → House → Type 0
+abbrev pub SegmentsTo : (last : Option (List (List ℕ))) → House → List FolderSegment → House → Type 0
 SegmentsTo last house [] at = at ≡ house
 SegmentsTo last house (s ∷ ss) at =
     (begun : House) × (mid : House) × BeginsWith s.begins last house s.first begun × Dialogue Responds s.number begun s.turns mid
     × SegmentsTo (Some (segment_bodies s)) mid ss at
 
 pub none_to : (last : Option (List (List ℕ))) (house : House) → SegmentsTo last house [] house
-unfolding SegmentsTo
 none_to last house = refl
 
 pub are_segments : (last : Option (List (List ℕ))) (house at : House) (ss : List FolderSegment) → SegmentsTo last house ss at → AreSegments last house ss
-unfolding SegmentsTo
 are_segments last house at [] to = tt
 are_segments last house at (s ∷ ss) to = (to.0, to.1, to.2, to.3, are_segments (Some (segment_bodies s)) to.1 at ss to.4)
 
 -- one segment more
 pub segments_on : (last : Option (List (List ℕ))) (house at begun at' : House) (ss : List FolderSegment) (s : FolderSegment) → SegmentsTo last house ss at
     → BeginsWith s.begins (last_bodies last ss) at s.first begun → Dialogue Responds s.number begun s.turns at' → SegmentsTo last house (ss ++ s ∷ []) at'
-unfolding SegmentsTo
 segments_on last house at begun at' [] s to begins talk = (begun, at', subst (λ (h : House). BeginsWith s.begins last h s.first begun) to begins, talk, refl)
 segments_on last house at begun at' (t ∷ ss) s to begins talk =
     (to.0, to.1, to.2, to.3, segments_on (Some (segment_bodies t)) to.1 at begun at' ss s to.4 begins talk)
@@ -94,14 +91,13 @@ files_on number before [] ts fs gs are then =
     let same : number + 0 ≡ number = omega arith in
     subst (λ (l : Files). AreFiles number before ts (l ++ gs)) (sym are) (subst (λ (n : ℕ). AreFiles n before ts gs) same then)
 files_on number before (s ∷ ss) ts fs gs are then =
-    let same : number + length (s ∷ ss) ≡ number + 1 + length ss = omega arith in
-    (
+    let same : number + length (s ∷ ss) ≡ number + 1 + length ss = omega arith in (
       are.0,
       are.1 ++ gs,
       ap (λ (l : Files). l ++ gs) are.2,
       are.3,
       files_on (number + 1) (last_digest before (bodies_in_file number before s)) ss ts are.1 gs are.4
-      (subst (λ (n : ℕ). AreFiles n (digest_after_all number before (s ∷ ss)) ts gs) same then),
+          (subst (λ (n : ℕ). AreFiles n (digest_after_all number before (s ∷ ss)) ts gs) same then),
     )
 
 pub file_on : (number : ℕ) (before : List ℕ) (ss : List FolderSegment) (s : FolderSegment) (fs : Files) (octets : List ℕ) → AreFiles number before ss fs
@@ -156,7 +152,7 @@ last_of number before s (t ∷ ss) last fs are =
     let next = are.4 in
     let rest = last_of (number + 1) (last_digest before (bodies_in_file number before s)) t ss (Some (segment_bodies s)) are.1 are.4 in
     let whole : fs ≡ record { number = number; octets = are.0 } ∷ (record { number = number + 1; octets = next.0 } ∷ next.1) =
-        are.2 ∙ ap (λ (l : Files). record { number = number; octets = are.0 } ∷ l) next.2 in
+    are.2 ∙ ap (λ (l : Files). record { number = number; octets = are.0 } ∷ l) next.2 in
     subst (λ (l : Files). LastOf number before (s ∷ (t ∷ ss)) last l) (sym whole)
     (last_of_on number before s t ss last (record { number = number; octets = are.0 }) (record { number = number + 1; octets = next.0 }) next.1
     (subst (λ (l : Files). LastOf (number + 1) (last_digest before (bodies_in_file number before s)) (t ∷ ss) (Some (segment_bodies s)) l) next.2 rest))
@@ -183,7 +179,9 @@ tail_list (r ∷ rs) = rs
 
 -- the head of a segment is its title and the digest before it
 title_and_digest : (number : ℕ) (before : List ℕ) → head_of number [] ++ before ≡ head_of number before
-title_and_digest number before = simp append_assoc
+title_and_digest number before =
+    append_assoc (codes "cdshouse journal 2 ") (decimal number ++ 10 ∷ []) before
+    ∙ ap (λ (l : List ℕ). codes "cdshouse journal 2 " ++ l) (append_assoc (decimal number) (10 ∷ []) before)
 
 -- the digest of the last record is that of the chain
 last_of_chain : (number : ℕ) (title after : List ℕ) (records bodies : List (List ℕ)) (last digest : List ℕ) → IsLast title records last digest
@@ -191,7 +189,7 @@ last_of_chain : (number : ℕ) (title after : List ℕ) (records bodies : List (
 last_of_chain number title after records bodies last digest is chain =
     let all = is.front ++ last ∷ [] in
     let whole : chained is.before all ++ [] ≡ chained after ((title ++ after) ∷ bodies) =
-        append-nil (chained is.before all) ∙ sym is.chain ∙ chain in
+    append-nil (chained is.before all) ∙ sym is.chain ∙ chain in
     let one = same_before title is.before after is.others bodies []
     (ap (λ (l : List (List ℕ)). chained is.before l ++ []) (sym is.head) ∙ whole) in
     let on = chain_on after all ((title ++ after) ∷ bodies) [] (ap (λ (b : List ℕ). chained b all ++ []) (sym one) ∙ whole) in
@@ -209,13 +207,12 @@ found_last : (number : ℕ) (after : List ℕ) (s : FolderSegment) (octets : Lis
 found_last number after s octets f has is =
     let head_is = title_and_digest number after in
     let chain : images octets ≡ chained after ((head_of number [] ++ after) ∷ segment_bodies s) =
-        has ∙ ap (λ (h : List ℕ). chained after (h ∷ segment_bodies s)) (sym head_is) in
-    let others : is.others ≡ chained (digest_after after (head_of number after)) (segment_bodies s) = ap tail_list (sym is.records ∙ has) in
-    (
+    has ∙ ap (λ (h : List ℕ). chained after (h ∷ segment_bodies s)) (sym head_is) in
+    let others : is.others ≡ chained (digest_after after (head_of number after)) (segment_bodies s) = ap tail_list (sym is.records ∙ has) in (
       last_of_chain number (head_of number []) after (images octets) (segment_bodies s) is.last f.digest is.chain chain
-      ∙ ap (λ (h : List ℕ). last_digest after (h ∷ segment_bodies s)) head_is,
+          ∙ ap (λ (h : List ℕ). last_digest after (h ∷ segment_bodies s)) head_is,
       subst (λ (l : List (List ℕ)). OpensBy l f.house)
-      (ap (map body_in) others ∙ bodies_of_chain (digest_after after (head_of number after)) (segment_bodies s)) is.house,
+          (ap (map body_in) others ∙ bodies_of_chain (digest_after after (head_of number after)) (segment_bodies s)) is.house,
     )
 
 last_bodies-append : (last : Option (List (List ℕ))) (ss ts : List FolderSegment) → last_bodies last (ss ++ ts) ≡ last_bodies (last_bodies last ss) ts
@@ -223,22 +220,19 @@ last_bodies-append last [] ts = refl
 last_bodies-append last (s ∷ ss) ts = last_bodies-append (Some (segment_bodies s)) ss ts
 
 -- what a process goes on from
-pub found_of : (f : FolderHouse) (o : Option NumberedFile) → IsFound o f → Found
+abbrev pub found_of : (f : FolderHouse) (o : Option NumberedFile) → IsFound o f → Found
 found_of f None is = record { last = None; number = f.number; digest = f.digest }
 found_of f (Some file) is = record { last = Some (map body_in is.others); number = f.number; digest = f.digest }
 
 pub found_number : (f : FolderHouse) (o : Option NumberedFile) (is : IsFound o f) → (found_of f o is).number ≡ f.number
-unfolding found_of
 found_number f None is = refl
 found_number f (Some file) is = refl
 
 pub found_digest : (f : FolderHouse) (o : Option NumberedFile) (is : IsFound o f) → (found_of f o is).digest ≡ f.digest
-unfolding found_of
 found_digest f None is = refl
 found_digest f (Some file) is = refl
 
 pub found_opens : (f : FolderHouse) (o : Option NumberedFile) (is : IsFound o f) → OpensFrom (found_of f o is).last f.house
-unfolding found_of
 found_opens f None is = is.0
 found_opens f (Some file) is = is.house
 
@@ -249,14 +243,12 @@ number_of_found f (Some file) is = sym is.numbered
 
 -- where the folder has no file
 none_found : (f : FolderHouse) (o : Option NumberedFile) (is : IsFound o f) → o ≡ None → EndsIn [] (found_of f o is)
-unfolding found_of
 none_found f None is none = record { last = refl; number = is.1; digest = is.2 }
 none_found f (Some file) is none = absurd (cc (none))
 
 -- where it has one
 some_found : (f : FolderHouse) (o : Option NumberedFile) (is : IsFound o f) (gone ss : List FolderSegment) (s : FolderSegment) (files : Files)
     → o ≡ last_file files → AreFiles (length gone + 1) (digest_after_all 1 (replicate 32 0) gone) (s ∷ ss) files → EndsIn (gone ++ s ∷ ss) (found_of f o is)
-unfolding found_of
 some_found f None is gone ss s files one are =
     let l = last_of (length gone + 1) (digest_after_all 1 (replicate 32 0) gone) s ss (last_bodies None gone) files are in
     absurd (cc (one, l.file))
@@ -309,10 +301,10 @@ house_on files front made segments found h after split are follow anew =
     let place : found.number + 1 ≡ length h.gone + 1 + length h.segments = omega (arith, size, number) in
     let order : 1 + length h.gone ≡ length h.gone + 1 = omega arith in
     let digest : found.digest ≡ digest_after_all (length h.gone + 1) (digest_after_all 1 zeros h.gone) h.segments =
-        after.digest ∙ digests_on 1 zeros h.gone h.segments
-        ∙ ap (λ (n : ℕ). digest_after_all n (digest_after_all 1 zeros h.gone) h.segments) order in
+    after.digest ∙ digests_on 1 zeros h.gone h.segments
+    ∙ ap (λ (n : ℕ). digest_after_all n (digest_after_all 1 zeros h.gone) h.segments) order in
     let here = subst (λ (d : List ℕ). AreFiles (length h.gone + 1 + length h.segments) d segments made) digest
-        (subst (λ (n : ℕ). AreFiles n found.digest segments made) place are) in
+    (subst (λ (n : ℕ). AreFiles n found.digest segments made) place are) in
     record {
       gone = h.gone;
       segments = h.segments ++ segments;

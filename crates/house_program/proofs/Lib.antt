@@ -1,3 +1,4 @@
 mod ReadLemmas
 mod FolderLemmas
 mod LifeLemmas
+mod ProcessLemmas

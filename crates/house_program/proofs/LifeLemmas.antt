@@ -227,6 +227,9 @@ module _ (kept ever : Files → Type 0) (next : Next) (house : House) (lines : L
   -- the segment was named, and lines were answered
   module _ {D : Type 0} (g : Ghosts D) (segment segment' : Segment D) (house' : House) (lines' : Lines) (ending : Ending)
       (s : Spoken g next.before (first_bodies next) next.said.items house house' segment segment' lines lines' run ending) where
+    abbrev All : List ℕ → Type 0
+    All = HasFront next.before (first_bodies next) (bodies_of s.turns ++ s.over)
+
     pub named : (kept1 ever1 kept2 ever2 kept3 ever3 : Files → Type 0) (left : Left) → left.ending ≡ ending → IsAt g segment next.before (first_bodies next)
         → ((before : List ℕ) (bodies : List (List ℕ)) → IsAt g segment' before bodies → left.digest ≡ last_digest before bodies)
         → ((f : Files) → kept1 f → kept f) → ((f : Files) → ever1 f → ever f) → ((f : Files) → kept2 f → kept1 f)
@@ -261,7 +264,7 @@ module _ (kept ever : Files → Type 0) (next : Next) (house : House) (lines : L
             none_over = w.none_over;
             all = w.all;
             digest = digest next.before (first_bodies next ++ bodies_of s.turns) w.synced;
-            kept = λ files is. with_more kept kept2 next.number (HasBodies next.before (first_bodies next ++ bodies_of s.turns))
+            leaves = λ files is. with_more kept kept2 next.number (HasBodies next.before (first_bodies next ++ bodies_of s.turns))
                 (g.may_leave (disk_of segment')) files (λ f k. quiet f (others f k))
                 (λ c l. left_at g next.before (first_bodies next ++ bodies_of s.turns) segment' w.synced c l) (closing files is);
             read = w.read;
@@ -271,6 +274,3 @@ module _ (kept ever : Files → Type 0) (next : Next) (house : House) (lines : L
           subst (λ (x : Left). EndsDue lines' run x.ending) same (subst (EndsDue lines' run) (sym so) s.due);
       not_ok = λ status is. absurd (cc (is));
     }
-      where
-        abbrev All : List ℕ → Type 0
-        All = HasFront next.before (first_bodies next) (bodies_of s.turns ++ s.over)

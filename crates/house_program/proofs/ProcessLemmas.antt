@@ -5,7 +5,7 @@ use Rattle.std.specs.Io.KnownBytes.{Appends, IsAtEnd}
 use Rattle.cds_base.specs.Lines.{fault_of_lines, lines_so_far, octets_ahead}
 use Rattle.cds_base.specs.SourceReading.{GrowsByReading}
 use Rattle.cds_base.specs.declared.lines.Lines.{Lines}
-use Rattle.cds_base.proofs.KnownOctets.{appends_more}
+use Rattle.cds_base.proofs.KnownOctets.{appends_more, appends_none, consumes_self}
 use Rattle.house_entries.specs.Bodies.{head_of}
 use Rattle.house_segments.specs.Chains.{last_digest}
 use Rattle.house_segments.specs.Segments.{HasBodies}
@@ -22,14 +22,14 @@ use Rattle.house_runs.specs.Folders.{AreSegments, BeginsWith, Beginning, FolderS
 use Rattle.house_runs.proofs.Crashes.{Done, front_done, of_over}
 use Rattle.house_program.specs.Beginnings.{first_bodies}
 use Rattle.house_program.specs.Files.{Files, NumberedFile, WithFile, last_file, number_in}
-use Rattle.house_program.specs.HouseFolders.{AreFiles, BeginsAnew, EndsIn, Found, IsFront, IsHouseFolder, digest_after_all}
-use Rattle.house_program.specs.Lives.{IsAnswered, IsFirstText, IsKept, IsSaid, Lived, turns_in}
+use Rattle.house_program.specs.HouseFolders.{AreFiles, BeginsAnew, EndsIn, Found, IsFront, IsHouseFolder, LeavesHouse, digest_after_all}
+use Rattle.house_program.specs.Lives.{IsAnswered, IsFirstText, IsIdle, IsKept, IsSaid, Life, Lived, turns_in}
 use Rattle.house_program.specs.PrivateLives.{EndsDue, IsDue, IsPassed, SegmentDone}
 use Rattle.house_program.specs.declared.segments.Left.{Left}
 use Rattle.house_program.specs.declared.segments.Next.{Next}
 use Rattle.house_program.specs.declared.status.Status.{Status}
 use Rattle.house_program.specs.declared.status.Status.TheVariants as statuses
-use Rattle.house_program.proofs.FolderLemmas.{SegmentsTo, anew_on, are_segments, bodies_on, digests_on, file_on, last_on, segments_on}
+use Rattle.house_program.proofs.FolderLemmas.{SegmentsTo, anew_on, are_segments, bodies_on, digests_on, file_on, house_on, none_to, segments_on}
 
 pub turns_on : (ss : List FolderSegment) (s : FolderSegment) → turns_in (ss ++ s ∷ []) ≡ turns_in ss ++ s.turns
 turns_on [] s = append-nil s.turns
@@ -54,8 +54,8 @@ pub record Made (kept0 ever0 kept ever : Files → Type 0) (found : Found) (open
   pub silent : segments ≡ [] → text ≡ []
   pub wrote : Appends written written' text
   pub words : text ++ unsaid ≡ said ++ texts_of (turns_in segments)
-  pub kept : (files : Files) → kept files → HasAll kept0 found segments files
-  pub ever : (files : Files) → ever files → ever0 files ⊎ IsFront kept0 found (folder_bodies segments) files
+  pub leaves : (files : Files) → kept files → HasAll kept0 found segments files
+  pub moments : (files : Files) → ever files → ever0 files ⊎ IsFront kept0 found (folder_bodies segments) files
   pub read : GrowsByReading left left' [] (lines_text (turns_in segments) ++ octets_ahead lines)
 
 -- and the segment that it is to make
@@ -65,7 +65,7 @@ pub record Ready (kept : Files → Type 0) (found : Found) (lines : Lines) (segm
   pub first : segments ≡ [] → begins ≡ ProcessBegins
   pub number : next.number ≡ found.number + 1 + length segments
   pub digest : next.before ≡ digest_after_all (found.number + 1) found.digest segments
-  pub unsaid : next.said.items ≡ unsaid
+  pub says : next.said.items ≡ unsaid
   pub above : (files : Files) → kept files → number_in (last_file files) < next.number
   pub unbroken : fault_of_lines lines ≡ None
 
@@ -91,7 +91,7 @@ module _ (kept0 ever0 kept ever : Files → Type 0) (found : Found) (opened : Ho
     (segments : List FolderSegment) (prior : House) (text unsaid : List ℕ)
     (m : Made kept0 ever0 kept ever found opened said run.left run.left' run.written run.written' lines segments prior text unsaid) where
   pub rests : (kept' ever' : Files → Type 0) (status : Status) → status ≢ statuses.Ok → ((f : Files) → kept' f → kept f) → ((f : Files) → ever' f → ever f)
-      → Lived kept0 ever0 kept' ever' run status
+      → Life kept0 ever0 kept' ever' run status
   rests kept' ever' status bad fewer calm = record {
     found = found;
     opened = opened;
@@ -102,9 +102,9 @@ module _ (kept0 ever0 kept ever : Files → Type 0) (found : Found) (opened : Ho
     opens = m.opens;
     speaks = m.speaks;
     wrote = m.wrote;
-    any_moment = λ files left. ⊎_elim (λ was. inl was) (λ f. inr (front_grows kept0 found (folder_bodies segments) [] files f)) (m.ever files (calm files left));
+    any_moment = λ files left. ⊎_elim (λ was. inl was) (λ f. inr (front_grows kept0 found (folder_bodies segments) [] files f)) (m.moments files (calm files left));
     at_the_end = λ files left.
-        let all = m.kept files (fewer files left) in
+        let all = m.leaves files (fewer files left) in
         record {
           front = record {
             was = all.was;
@@ -132,3 +132,321 @@ module _ (kept0 ever0 kept ever : Files → Type 0) (found : Found) (opened : Ho
         };
     answers = λ is. absurd (bad is);
   }
+
+-- ---- a segment more
+
+-- a front that has one segment more
+pub record OneMore (kept0 : Files → Type 0) (found : Found) (records : List (List ℕ)) (files : Files) (segments : List FolderSegment) (s : FolderSegment) : Type 0 where
+  pub front : IsFront kept0 found records files
+  pub are : front.segments ≡ segments ++ s ∷ []
+
+module _ (kept0 ever0 kept ever : Files → Type 0) (found : Found) (opened : House) (said : List ℕ) (left left' written written' : Option (List ℕ)) (lines : Lines)
+    (segments : List FolderSegment) (prior house : House) (text unsaid : List ℕ) (next : Next)
+    (m : Made kept0 ever0 kept ever found opened said left left' written written' lines segments prior text unsaid)
+    (r : Ready kept found lines segments prior house unsaid next) where
+  -- the segment with these lines
+  abbrev pub segment_with : List Turn → FolderSegment
+  segment_with turns = record { begins = r.begins; first = next.first.items; number = lines_so_far lines + 1; turns = turns }
+
+  -- its records are those that the file has
+  has_bodies : (turns : List Turn) (octets : List ℕ) → HasBodies next.before (first_bodies next ++ bodies_of turns) octets
+      → HasBodies (digest_after_all (found.number + 1) found.digest segments) (head_of (found.number + 1 + length segments)
+      (digest_after_all (found.number + 1) found.digest segments) ∷ segment_bodies (segment_with turns)) octets
+  has_bodies turns octets has =
+      subst (λ (b : List ℕ). HasBodies b (head_of (found.number + 1 + length segments) b ∷ (next.first.items ∷ bodies_of turns)) octets) r.digest
+      (subst (λ (n : ℕ). HasBodies next.before (head_of n next.before ∷ (next.first.items ∷ bodies_of turns)) octets) r.number has)
+
+  all_with : (turns : List Turn) (L : List ℕ → Type 0) → ((c : List ℕ) → L c → HasBodies next.before (first_bodies next ++ bodies_of turns) c)
+      → (files : Files) → WithFile kept next.number L files → HasAll kept0 found (segments ++ segment_with turns ∷ []) files
+  all_with turns L so files w =
+      let all = m.leaves w.front w.before in
+      record {
+        was = all.was;
+        made = all.made ++ record { number = found.number + 1 + length segments; octets = w.octets } ∷ [];
+        kept = all.kept;
+        after = all.after;
+        split =
+            w.split
+            ∙ ap (λ (n : ℕ). w.front ++ record { number = n; octets = w.octets } ∷ []) r.number
+            ∙ ap (λ (l : Files). l ++ record { number = found.number + 1 + length segments; octets = w.octets } ∷ []) all.split
+            ∙ append_assoc all.was all.made (record { number = found.number + 1 + length segments; octets = w.octets } ∷ []);
+        are =
+            file_on (found.number + 1) found.digest segments (segment_with turns) all.made w.octets all.are
+            (has_bodies turns w.octets (so w.octets w.left));
+      }
+
+  front_with : (turns : List Turn) (at : House) (rest over : List (List ℕ)) (done : List Turn) → Dialogue Responds (lines_so_far lines + 1) house turns at
+      → bodies_of done ++ over ≡ bodies_of turns ++ rest → (files : Files)
+      → HasAll kept0 found (segments ++ segment_with turns ∷ []) files
+      → OneMore kept0 found (folder_bodies (segments ++ segment_with done ∷ []) ++ over) files segments (segment_with turns)
+  front_with turns at rest over done talk same files all = record {
+    front = record {
+      was = all.was;
+      made = all.made;
+      segments = segments ++ segment_with turns ∷ [];
+      more = rest;
+      kept = all.kept;
+      after = all.after;
+      split = all.split;
+      are = all.are;
+      follow =
+          are_segments found.last new_house at (segments ++ segment_with turns ∷ [])
+          (segments_on found.last new_house prior house at segments (segment_with turns) m.follow r.starts talk);
+      begins = anew_on segments (segment_with turns) m.anew r.first;
+      records =
+          ap (λ (l : List (List ℕ)). l ++ over) (bodies_on segments (segment_with done))
+          ∙ append_assoc (folder_bodies segments) (next.first.items ∷ bodies_of done) over
+          ∙ ap (λ (l : List (List ℕ)). folder_bodies segments ++ next.first.items ∷ l) same
+          ∙ sym (append_assoc (folder_bodies segments) (next.first.items ∷ bodies_of turns) rest)
+          ∙ ap (λ (l : List (List ℕ)). l ++ rest) (sym (bodies_on segments (segment_with turns)));
+    };
+    are = refl;
+  }
+
+  module _ (kept' ever' : Files → Type 0) (house' : House) (lines' : Lines) (left'' written'' : Option (List ℕ)) (reads reads' writes writes' : ℕ) (result : Result Left Status)
+      (d : SegmentDone kept ever kept' ever' next house house' lines lines'
+      (record { left = left'; left' = left''; written = written'; written' = written''; reads = reads; reads' = reads'; writes = writes; writes' = writes' }) result) where
+    abbrev after_it : List FolderSegment
+    after_it = segments ++ segment_with d.turns ∷ []
+
+    -- a front of the records of the lines that were done
+    front_of : (files : Files) → WithFile kept next.number (HasFront next.before (first_bodies next) (bodies_of d.turns ++ d.over)) files
+        → IsFront kept0 found (folder_bodies after_it ++ d.over) files
+    front_of files w =
+        let is = w.left in
+        let done = front_done Responds d.turns (lines_so_far lines + 1) house d.at d.over is.front is.rest d.talk d.over_one is.split in
+        let same = ap (λ (l : List (List ℕ)). first_bodies next ++ l) (sym done.are) in
+        (front_with done.turns done.at is.rest d.over d.turns done.talk (is.split ∙ ap (λ (l : List (List ℕ)). l ++ is.rest) (sym done.are)) files
+        (all_with done.turns (λ c. c ≡ w.octets) (λ c one. subst (λ (x : List ℕ). HasBodies next.before (first_bodies next ++ bodies_of done.turns) x) (sym one)
+        (subst (λ (l : List (List ℕ)). HasBodies next.before l w.octets) same is.has)) files (record { front = w.front; octets = w.octets; before = w.before; left = refl; split = w.split }))).front
+
+    moments : (files : Files) → ever' files → ever0 files ⊎ IsFront kept0 found (folder_bodies after_it ++ d.over) files
+    moments files is =
+        ⊎_elim
+        (λ was. ⊎_elim (λ old. inl old) (λ f. inr (old_front files f)) (m.moments files was))
+        (λ w. inr (front_of files w)) (d.any_moment files is)
+      where
+        old_front : (files : Files) → IsFront kept0 found (folder_bodies segments) files → IsFront kept0 found (folder_bodies after_it ++ d.over) files
+        old_front files f =
+            subst (λ (l : List (List ℕ)). IsFront kept0 found l files)
+            (sym (append_assoc (folder_bodies segments) (next.first.items ∷ bodies_of d.turns) d.over)
+            ∙ ap (λ (l : List (List ℕ)). l ++ d.over) (sym (bodies_on segments (segment_with d.turns))))
+            (front_grows kept0 found (folder_bodies segments) ((next.first.items ∷ bodies_of d.turns) ++ d.over) files f)
+
+    -- what was said so far, and of this segment
+    words_on : (turns : List Turn) (last more : List ℕ) (some : List ℕ) → next.said.items ++ (texts_of turns ++ last) ≡ some ++ more
+        → said ++ (texts_of (turns_in segments ++ turns) ++ last) ≡ (text ++ some) ++ more
+    words_on turns last more some front =
+        ap (λ (l : List ℕ). said ++ (l ++ last)) (texts-append (turns_in segments) turns)
+        ∙ ap (λ (l : List ℕ). said ++ l) (append_assoc (texts_of (turns_in segments)) (texts_of turns) last)
+        ∙ sym (append_assoc said (texts_of (turns_in segments)) (texts_of turns ++ last))
+        ∙ ap (λ (l : List ℕ). l ++ (texts_of turns ++ last)) (sym m.words ∙ ap (λ (l : List ℕ). text ++ l) (sym r.says))
+        ∙ append_assoc text next.said.items (texts_of turns ++ last)
+        ∙ ap (λ (l : List ℕ). text ++ l) front
+        ∙ sym (append_assoc text some more)
+
+    not_none : {A : Type 0} (ss : List FolderSegment) (s : FolderSegment) → ss ++ s ∷ [] ≡ [] → A
+    not_none [] s none = absurd (cc (none))
+    not_none (t ∷ ss) s none = absurd (cc (none))
+
+    -- nothing was said, and the segment may have no name
+    kept_without : (files : Files) → kept files → d.text ≡ [] → IsKept kept0 found (folder_bodies after_it ++ d.over) said (text ++ d.text) files
+    kept_without files is none =
+        let all = m.leaves files is in
+        let same : text ++ d.text ≡ text = ap (λ (l : List ℕ). text ++ l) none ∙ append-nil text in
+        record {
+          front = record {
+            was = all.was;
+            made = all.made;
+            segments = segments;
+            more = (next.first.items ∷ bodies_of d.turns) ++ d.over;
+            kept = all.kept;
+            after = all.after;
+            split = all.split;
+            are = all.are;
+            follow = are_segments found.last new_house prior segments m.follow;
+            begins = m.anew;
+            records =
+                ap (λ (l : List (List ℕ)). l ++ d.over) (bodies_on segments (segment_with d.turns))
+                ∙ append_assoc (folder_bodies segments) (next.first.items ∷ bodies_of d.turns) d.over;
+          };
+          started = λ no. same ∙ m.silent no;
+          answered = turns_in segments;
+          more = [];
+          split = sym (append-nil (turns_in segments));
+          says = record {
+            last = [];
+            unsaid = unsaid;
+            fault = inl refl;
+            front = ap (λ (l : List ℕ). said ++ l) (append-nil (texts_of (turns_in segments))) ∙ sym m.words ∙ ap (λ (l : List ℕ). l ++ unsaid) (sym same);
+          };
+        }
+
+    -- all lines that were done are kept
+    kept_with : (files : Files) → WithFile kept next.number (HasFront next.before (first_bodies next ++ bodies_of d.turns) d.over) files
+        → IsKept kept0 found (folder_bodies after_it ++ d.over) said (text ++ d.text) files
+    kept_with files w =
+        let is = w.left in
+        let done = of_over Responds (lines_so_far lines + 1 + length d.turns) d.at d.over is.front is.rest d.over_one is.split in
+        let turns = d.turns ++ done.turns in
+        let are : bodies_of turns ≡ bodies_of d.turns ++ is.front =
+        bodies-append d.turns done.turns ∙ ap (λ (l : List (List ℕ)). bodies_of d.turns ++ l) done.are in
+        let has : HasBodies next.before (first_bodies next ++ bodies_of turns) w.octets =
+        subst (λ (l : List (List ℕ)). HasBodies next.before l w.octets)
+        (append_assoc (first_bodies next) (bodies_of d.turns) is.front ∙ ap (λ (l : List (List ℕ)). first_bodies next ++ l) (sym are)) is.has in
+        let one = front_with turns done.at is.rest d.over d.turns (talks_on Responds (lines_so_far lines + 1) house d.at done.at d.turns done.turns d.talk done.talk)
+        (ap (λ (l : List (List ℕ)). bodies_of d.turns ++ l) is.split ∙ sym (append_assoc (bodies_of d.turns) is.front is.rest)
+        ∙ ap (λ (l : List (List ℕ)). l ++ is.rest) (sym are)) files
+        (all_with turns (λ c. c ≡ w.octets) (λ c same. subst (λ (x : List ℕ). HasBodies next.before (first_bodies next ++ bodies_of turns) x) (sym same) has) files
+        (record { front = w.front; octets = w.octets; before = w.before; left = refl; split = w.split })) in
+        record {
+          front = one.front;
+          started = λ none. not_none segments (segment_with turns) (sym one.are ∙ none);
+          answered = turns_in segments ++ d.turns;
+          more = done.turns;
+          split = ap turns_in one.are ∙ turns_on segments (segment_with turns) ∙ sym (append_assoc (turns_in segments) d.turns done.turns);
+          says = record {
+            last = d.says.last;
+            unsaid = d.says.unsaid;
+            fault = d.says.fault;
+            front = words_on d.turns d.says.last d.says.unsaid d.text d.says.front;
+          };
+        }
+
+    -- how the process ends after this segment
+    pub ends : (reads0 reads1 writes0 writes1 : ℕ) (status : Status)
+        → (status ≡ statuses.Ok → (l : Left) × (result ≡ Ok l) × (l.ending ≡ InputEnds))
+        → Life kept0 ever0 kept' ever'
+        (record { left = left; left' = left''; written = written; written' = written''; reads = reads0; reads' = reads1; writes = writes0; writes' = writes1 }) status
+    ends reads0 reads1 writes0 writes1 status ok = record {
+      found = found;
+      opened = opened;
+      segments = after_it;
+      over = d.over;
+      said = said;
+      text = text ++ d.text;
+      opens = m.opens;
+      speaks = m.speaks;
+      wrote = appends_more written written' written'' text d.text m.wrote d.wrote;
+      any_moment = moments;
+      at_the_end = λ files is. ⊎_elim (λ was. kept_without files was.0 was.1) (λ w. kept_with files w) (d.at_the_end files is);
+      answers = λ is.
+          let so = ok is in
+          let p = d.passed so.0 so.1 (inr so.2) in
+          let e = (d.due so.0 so.1).input so.2 in
+          record {
+            all =
+                ap (λ (l : List ℕ). text ++ l) p.all
+                ∙ sym (append-nil (text ++ (next.said.items ++ texts_of d.turns)))
+                ∙ sym (words_on d.turns [] [] (next.said.items ++ texts_of d.turns) (ap (λ (l : List ℕ). next.said.items ++ l) (append-nil (texts_of d.turns)) ∙ sym (append-nil (next.said.items ++ texts_of d.turns))))
+                ∙ ap (λ (l : List ℕ). said ++ l) (append-nil (texts_of (turns_in segments ++ d.turns)))
+                ∙ ap (λ (l : List Turn). said ++ texts_of l) (sym (turns_on segments (segment_with d.turns)));
+            read =
+                subst (GrowsByReading left left'' [])
+                (ap (λ (l : List ℕ). lines_text (turns_in segments) ++ (lines_text d.turns ++ l)) e.0
+                ∙ ap (λ (l : List ℕ). lines_text (turns_in segments) ++ l) (append-nil (lines_text d.turns))
+                ∙ sym (lines-append (turns_in segments) d.turns)
+                ∙ ap lines_text (sym (turns_on segments (segment_with d.turns))))
+                (reads_after left left' left'' [] (lines_text (turns_in segments)) (octets_ahead lines) (lines_text d.turns ++ octets_ahead lines') m.read p.read);
+            ends = e.1;
+          };
+    }
+
+    -- the process goes on in the next segment
+    pub passes : (l : Left) → result ≡ Ok l → l.ending ≡ Grown
+        → Made kept0 ever0 kept' ever' found opened said left left'' written written'' lines' after_it house' (text ++ d.text) []
+    passes l is grown =
+        let p = d.passed l is (inl grown) in
+        record {
+          opens = m.opens;
+          speaks = m.speaks;
+          follow = segments_on found.last new_house prior house house' segments (segment_with d.turns) m.follow r.starts
+              (subst (λ (h : House). Dialogue Responds (lines_so_far lines + 1) house d.turns h) p.here d.talk);
+          anew = anew_on segments (segment_with d.turns) m.anew r.first;
+          silent = λ none. not_none segments (segment_with d.turns) none;
+          wrote = appends_more written written' written'' text d.text m.wrote d.wrote;
+          words =
+              append-nil (text ++ d.text)
+              ∙ ap (λ (l : List ℕ). text ++ l) p.all
+              ∙ sym (append-nil (text ++ (next.said.items ++ texts_of d.turns)))
+              ∙ sym (words_on d.turns [] [] (next.said.items ++ texts_of d.turns) (ap (λ (l : List ℕ). next.said.items ++ l) (append-nil (texts_of d.turns)) ∙ sym (append-nil (next.said.items ++ texts_of d.turns))))
+              ∙ ap (λ (l : List ℕ). said ++ l) (append-nil (texts_of (turns_in segments ++ d.turns)))
+              ∙ ap (λ (l : List Turn). said ++ texts_of l) (sym (turns_on segments (segment_with d.turns)));
+          leaves = λ files k. all_with d.turns (HasBodies next.before (first_bodies next ++ bodies_of d.turns)) (λ c has. has) files (p.leaves files k);
+          moments = λ files e. ⊎_elim (λ old. inl old)
+              (λ f. inr (subst (λ (l : List (List ℕ)). IsFront kept0 found l files)
+              (ap (λ (o : List (List ℕ)). folder_bodies after_it ++ o) p.none_over ∙ append-nil (folder_bodies after_it)) f)) (moments files e);
+          read =
+              subst (GrowsByReading left left'' [])
+              (sym (append_assoc (lines_text (turns_in segments)) (lines_text d.turns) (octets_ahead lines'))
+              ∙ ap (λ (l : List ℕ). l ++ octets_ahead lines') (sym (lines-append (turns_in segments) d.turns) ∙ ap lines_text (sym (turns_on segments (segment_with d.turns)))))
+              (reads_after left left' left'' [] (lines_text (turns_in segments)) (octets_ahead lines) (lines_text d.turns ++ octets_ahead lines') m.read p.read);
+        }
+
+    pub gets_ready : (l : Left) → result ≡ Ok l → l.ending ≡ Grown → (next' : Next) → next'.number ≡ next.number + 1 → next'.before ≡ l.digest
+        → IsSegmentRecord house' next'.first.items → next'.said.items ≡ [] → Ready kept' found lines' after_it house' house' [] next'
+    gets_ready l is grown next' number digest first none =
+        let p = d.passed l is (inl grown) in
+        let size = length-append segments (segment_with d.turns ∷ []) in
+        let numbered = r.number in
+        record {
+          begins = ProcessGoesOn;
+          starts = (refl, first);
+          first = λ no. not_none segments (segment_with d.turns) no;
+          number = omega (arith, number, numbered, size);
+          digest =
+              digest ∙ p.digest
+              ∙ ap (λ (b : List ℕ). last_digest b (head_of next.number b ∷ (next.first.items ∷ bodies_of d.turns))) r.digest
+              ∙ ap (λ (n : ℕ). last_digest (digest_after_all (found.number + 1) found.digest segments)
+              (head_of n (digest_after_all (found.number + 1) found.digest segments) ∷ (next.first.items ∷ bodies_of d.turns))) r.number
+              ∙ sym (digests_on (found.number + 1) found.digest segments (segment_with d.turns ∷ []));
+          says = none;
+          above = λ files k. above_it files (p.leaves files k) number;
+          unbroken = (d.due l is).unbroken grown;
+        }
+      where
+        last_number : (fs : Files) (n : ℕ) (octets : List ℕ) → number_in (last_file (fs ++ record { number = n; octets = octets } ∷ [])) ≡ n
+        last_number [] n octets = refl
+        last_number (f ∷ []) n octets = refl
+        last_number (f ∷ (g ∷ fs)) n octets = last_number (g ∷ fs) n octets
+
+        above_it : (files : Files) → WithFile kept next.number (HasBodies next.before (first_bodies next ++ bodies_of d.turns)) files
+            → next'.number ≡ next.number + 1 → number_in (last_file files) < next'.number
+        above_it files w number =
+            let same : number_in (last_file files) ≡ next.number = ap (λ (l : Files). number_in (last_file l)) w.split ∙ last_number w.front next.number w.octets in
+            omega (arith, same, number)
+
+-- ---- the start
+
+pub starts_made : (kept ever : Files → Type 0) (found : Found) (opened : House) (said : List ℕ) (left written : Option (List ℕ)) (lines : Lines)
+    → OpensFrom found.last opened → IsFirstText (after_start opened opened.home) said → ((files : Files) → kept files → (h : IsHouseFolder files) → EndsIn (h.gone ++ h.segments) found)
+    → octets_ahead lines ≡ [] → Made kept ever kept ever found opened said left left written written lines [] new_house [] said
+starts_made kept ever found opened said left written lines opens speaks after none = record {
+  opens = opens;
+  speaks = speaks;
+  follow = none_to found.last new_house;
+  anew = tt;
+  silent = λ no. refl;
+  wrote = appends_none written;
+  words = sym (append-nil said);
+  leaves = λ files k. record { was = files; made = []; kept = k; after = after files k; split = sym (append-nil files); are = refl };
+  moments = λ files e. inl e;
+  read = record { read = []; taken = consumes_self left; grown = none };
+}
+
+-- ---- what a crash leaves is the folder of a house
+
+front_house : (kept : Files → Type 0) (found : Found) (records : List (List ℕ)) (files : Files) → LeavesHouse kept → IsFront kept found records files
+    → IsHouseFolder files
+front_house kept found records files house f =
+    let h = house f.was f.kept in
+    house_on files f.was f.made f.segments found h (f.after h) f.split f.are f.follow f.begins
+
+pub lived_house : (kept ever kept' ever' : Files → Type 0) (run : Run) (status : Status) → Lived kept ever kept' ever' run status
+    → LeavesHouse kept → LeavesHouse ever → LeavesHouse kept' × LeavesHouse ever'
+lived_house kept ever kept' ever' run status (inl idle) house always =
+    (λ files k. house files (idle.fewer files k), λ files e. always files (idle.calm files e))
+lived_house kept ever kept' ever' run status (inr life) house always = (
+  λ files k. front_house kept life.found _ files house (life.at_the_end files k).front,
+  λ files e. ⊎_elim (always files) (λ f. front_house kept life.found _ files house f) (life.any_moment files e),
+)

@@ -57,12 +57,12 @@ BeginsAnew (s ∷ ss) = s.begins ≡ ProcessBegins
 
 -- files are those of before, from which a process goes on so, and then segments as it makes them,
 -- whose records are a front of these (own)
-pub record IsFront (kept : Files → Type 0) (found : Found) (records : List (List ℕ)) (files : Files) : Type 0 where
+pub record IsFront (old : Files → Type 0) (found : Found) (records : List (List ℕ)) (files : Files) : Type 0 where
   pub was : Files
   pub made : Files
   pub segments : List FolderSegment
   pub more : List (List ℕ)
-  pub kept : kept was
+  pub kept : old was
   pub after : (h : IsHouseFolder was) → EndsIn (h.gone ++ h.segments) found
   pub split : files ≡ was ++ made
   pub are : AreFiles (found.number + 1) found.digest segments made

@@ -1,5 +1,5 @@
 -- What a process did, from its start on.
-use Rattle.std.specs.Prelude.{◌≡◌, ◌⊎◌, ℕ, ◌+◌, List, [], ◌∷◌, ◌++◌, Option, length}
+use Rattle.std.specs.Prelude.{◌≡◌, ◌≢◌, ◌⊎◌, ℕ, ◌+◌, List, [], ◌∷◌, ◌++◌, Option, length}
 use Rattle.std.specs.Io.KnownBytes.{Appends, IsAtEnd}
 use Rattle.cds_base.specs.SourceReading.{GrowsByReading}
 use Rattle.cds_base.specs.declared.scan.LineFault.{LineFault}
@@ -55,7 +55,7 @@ pub record IsAnswered (run : Run) (said : List ℕ) (turns : List Turn) (text : 
 -- What a process did. It went on from the last segment, and put these records; it said this. A
 -- crash at any moment left the folder of before and a front of the records; one after it leaves all
 -- of which anything was said (own)
-pub record Lived (kept ever kept' ever' : Files → Type 0) (run : Run) (status : Status) : Type 0 where
+pub record Life (kept ever kept' ever' : Files → Type 0) (run : Run) (status : Status) : Type 0 where
   pub found : Found
   pub opened : House
   pub segments : List FolderSegment
@@ -68,3 +68,14 @@ pub record Lived (kept ever kept' ever' : Files → Type 0) (run : Run) (status 
   pub any_moment : (files : Files) → ever' files → ever files ⊎ IsFront kept found (folder_bodies segments ++ over) files
   pub at_the_end : (files : Files) → kept' files → IsKept kept found (folder_bodies segments ++ over) said text files
   pub answers : status ≡ Ok → IsAnswered run said (turns_in segments) text
+
+-- nothing was said, and nothing done that a crash may leave (own)
+pub record IsIdle (kept ever kept' ever' : Files → Type 0) (run : Run) (status : Status) : Type 0 where
+  pub wrote : Appends run.written run.written' []
+  pub calm : (files : Files) → ever' files → ever files
+  pub fewer : (files : Files) → kept' files → kept files
+  pub not_ok : status ≢ Ok
+
+-- a process did nothing, or it lived (own)
+abbrev pub Lived : (kept ever kept' ever' : Files → Type 0) → Run → Status → Type 0
+Lived kept ever kept' ever' run status = IsIdle kept ever kept' ever' run status ⊎ Life kept ever kept' ever' run status

@@ -64,7 +64,7 @@ pub record IsPassed (kept kept' : Files → Type 0) (next : Next) (turns : List 
   pub none_over : over ≡ []
   pub all : text ≡ next.said.items ++ texts_of turns
   pub digest : left.digest ≡ last_digest next.before (first_bodies next ++ bodies_of turns)
-  pub kept : (files : Files) → kept' files → WithFile kept next.number (HasBodies next.before (first_bodies next ++ bodies_of turns)) files
+  pub leaves : (files : Files) → kept' files → WithFile kept next.number (HasBodies next.before (first_bodies next ++ bodies_of turns)) files
   pub read : GrowsByReading run.left run.left' (octets_ahead lines) (lines_text turns ++ octets_ahead lines')
 
 -- what was done with a segment that was to be made: without a name nothing was said (own)

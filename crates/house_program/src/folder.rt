@@ -2,7 +2,7 @@
 ghost use Rattle.std.specs.Prelude.{◌≡◌, ◌⊎◌, ◌<◌, ℕ, List, [], Bool, true, IfOk, OnErr, OnOk};
 ghost use Rattle.std.specs.Option.{option_map};
 ghost use Rattle.house_journal.specs.Disks.{Only};
-ghost use Rattle.house_program.specs.declared.folder.FolderFault.TheVariants as faults;
+ghost use Rattle.house_program.specs.declared.folder.FolderFault.TheVariants as why;
 ghost use Rattle.house_program.specs.Files.{HasFolderCause, NumberedFile, Quiet, WithFile, file_of, last_file, number_in};
 
 use house_journal::Disk;
@@ -23,7 +23,7 @@ pub enum FolderFault {
 }
 
 impl From<AllocError> for FolderFault {
-    ghost from_gives = { λ _ f. f ≡ faults.OutOfMemory };
+    ghost from_gives = { λ _ f. f ≡ why.OutOfMemory };
 
     fn from(_error: AllocError) -> FolderFault {
         FolderFault::OutOfMemory
@@ -79,32 +79,27 @@ pub trait Folder {
     /// An empty file, which has no number yet.
     fn make(&mut self, alloc: Global) -> Result<Self::File, FolderFault>
         requires { locked self.old ≡ true }
-        ensures empty { IfOk result (λ f. File.reads f ≡ []) }
-        ensures only { IfOk result (λ f. Only (File.reads f) (File.may_leave f)) }
+        ensures empty { IfOk result (λ f. Self.File.reads f ≡ []) }
+        ensures only { IfOk result (λ f. Only (Self.File.reads f) (Self.File.may_leave f)) }
         ensures locked { locked self.new ≡ true }
         ensures quiet { Quiet kept left_ever named_at self.old self.new }
         ensures cause { HasFolderCause (faults self.old) (faults self.new) result };
 
     /// Gives a file that was made a number, which is greater than those that are there. Until it
     /// answers a crash leaves the number or not.
-    fn name(
-        &mut self,
-        alloc: Global,
-        file: &Self::File,
-        number: u64,
-    ) -> Result<(), FolderFault>
+    fn name(&mut self, alloc: Global, file: &Self::File, number: u64) -> Result<(), FolderFault>
         requires locked { locked self.old ≡ true }
         requires above { (files : List NumberedFile) → kept self.old files
             → number_in (last_file files) < number }
-        ensures named { OnOk result (named_at self.new number (File.moment file.now)) }
+        ensures named { OnOk result (named_at self.new number (Self.File.moment file.now)) }
         ensures others { OnOk result ((files : List NumberedFile) → kept self.new files
             → kept self.old files) }
         ensures one { OnErr result ((files : List NumberedFile) → kept self.new files
             → kept self.old files
-            ⊎ WithFile (kept self.old) number (File.may_leave file.now) files) }
+            ⊎ WithFile (kept self.old) number (Self.File.may_leave file.now) files) }
         ensures ever { (files : List NumberedFile) → left_ever self.new files
             → left_ever self.old files
-            ⊎ WithFile (kept self.old) number (File.may_leave file.now) files }
+            ⊎ WithFile (kept self.old) number (Self.File.may_leave file.now) files }
         ensures locked { locked self.new ≡ true }
         ensures cause { HasFolderCause (faults self.old) (faults self.new) result };
 
@@ -113,10 +108,10 @@ pub trait Folder {
         requires { locked self.old ≡ true }
         ensures kept { (moment : ℕ) → named_at self.old number moment
             → (files : List NumberedFile) → kept self.new files
-            → WithFile (kept self.old) number (File.may_leave file) files }
+            → WithFile (kept self.old) number (Self.File.may_leave file) files }
         ensures ever { (moment : ℕ) → named_at self.old number moment
             → (files : List NumberedFile) → left_ever self.new files → left_ever self.old files
-            ⊎ WithFile (kept self.old) number (File.left_since file moment) files }
+            ⊎ WithFile (kept self.old) number (Self.File.left_since file moment) files }
         ensures locked { locked self.new ≡ true }
         ensures cause { faults self.new ≡ faults self.old };
 }

@@ -3,11 +3,13 @@
 #![tactic(auto)]
 
 mod folder;
+mod memory;
 mod reading;
 mod running;
 mod segments;
 mod status;
 
 pub use folder::{Folder, FolderFault, LastFile};
+pub use memory::{Death, MemFolder};
 pub use running::run;
 pub use status::Status;

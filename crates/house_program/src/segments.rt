@@ -125,9 +125,7 @@ pub(crate) fn serve_on<F: Folder, S: Source, K: Sink>(
     let file = folder.make(alloc)?;
     let mut segment = begin(alloc, file, next)?;
     folder.name(alloc, segment.disk(), next.number)?;
-    let ending = speak_and_serve(
-        alloc, &next.said, house, &mut segment, lines, source, sink,
-    );
+    let ending = speak_and_serve(alloc, &next.said, house, &mut segment, lines, source, sink);
     let digest = segment.digest();
     folder.close(next.number, segment.into_disk());
     Ok(Left { ending, digest })

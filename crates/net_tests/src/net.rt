@@ -1,8 +1,9 @@
 // Five houses over a net that loses, repeats and reorders, and which die at random: once all is
 // delivered, they agree.
-use crate::lives::{Death, Folder};
+use crate::lives::Folder;
 use cell_script::Words;
 use house_journal::Leave;
+use house_program::Death;
 use std::alloc::Global;
 use std::test::Fail;
 
