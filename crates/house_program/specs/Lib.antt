@@ -3,3 +3,4 @@ pub mod Statuses
 pub mod Beginnings
 pub mod HouseFolders
 pub mod Lives
+pub mod HouseCells

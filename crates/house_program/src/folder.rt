@@ -87,12 +87,7 @@ pub trait Folder {
 
     /// Gives a file that was made a number, which is greater than those that are there. Until it
     /// answers a crash leaves the number or not.
-    fn name(
-        &mut self,
-        alloc: Global,
-        file: &Self::File,
-        number: u64,
-    ) -> Result<(), FolderFault>
+    fn name(&mut self, alloc: Global, file: &Self::File, number: u64) -> Result<(), FolderFault>
         requires locked { locked self.old ≡ true }
         requires above { (files : List NumberedFile) → kept self.old files
             → number_in (last_file files) < number }

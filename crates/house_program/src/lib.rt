@@ -3,11 +3,13 @@
 #![tactic(auto)]
 
 mod folder;
+mod laws;
 mod reading;
 mod running;
 mod segments;
 mod status;
 
 pub use folder::{Folder, FolderFault, LastFile};
+pub use laws::houses_that_run_are_cells;
 pub use running::run;
 pub use status::Status;
