@@ -4,3 +4,4 @@ pub mod Beginnings
 pub mod HouseFolders
 pub mod Lives
 pub mod PrivateLives
+pub mod HouseCells

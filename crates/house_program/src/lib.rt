@@ -3,6 +3,7 @@
 #![tactic(auto)]
 
 mod folder;
+mod laws;
 mod memory;
 mod reading;
 mod running;
@@ -10,6 +11,7 @@ mod segments;
 mod status;
 
 pub use folder::{Folder, FolderFault, LastFile};
+pub use laws::houses_that_run_are_cells;
 pub use memory::{Death, MemFolder};
 pub use running::run;
 pub use status::Status;

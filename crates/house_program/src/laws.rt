@@ -1,0 +1,23 @@
+//! What holds of houses that run, each over a folder of its own: the contracts of functions that do
+//! nothing.
+ghost use Rattle.std.specs.Prelude.{List, []};
+ghost use Rattle.house_runs.specs.Runs.{AreOfCell};
+ghost use Rattle.house_program.specs.Files.{Files};
+ghost use Rattle.house_program.specs.HouseCells.{AreHouseFolders, segments_of};
+ghost use Rattle.house_program.specs.HouseFolders.{IsHouseFolder};
+
+use house_runs::running_houses_are_cells;
+
+/// Houses that run are a cell. A folder without a file is that of a house; `run` leaves such a
+/// folder, and so does any crash. Take the folders of any houses: their records tell entries of
+/// honest houses. Take these in any order in which each message that was taken had been posted
+/// before, and the console numbered directories and epochs one after the other. Commands of the
+/// model do exactly that: each house sees its own entries, no command is refused, and the replicas
+/// converge.
+pub fn houses_that_run_are_cells()
+    ensures empty { IsHouseFolder [] }
+    ensures cells { (folders : List Files) (are : AreHouseFolders folders)
+        → AreOfCell (segments_of folders are) }
+{
+    running_houses_are_cells();
+}
