@@ -8,3 +8,5 @@ mod crashes;
 mod lives;
 #[cfg(test)]
 mod net;
+#[cfg(test)]
+mod redoing;
