@@ -1,5 +1,5 @@
 //! Laws of the definitions: functions that do nothing, whose contracts are proved.
-ghost use Rattle.std.specs.Prelude.{◌≡◌, ℕ, Ok};
+ghost use Rattle.std.specs.Prelude.{◌≡◌, ℕ, false, Ok};
 ghost use Rattle.cds_stamps.specs.declared.numbers.DirId.{DirId};
 ghost use Rattle.cds_records.specs.RecordOctets.{image_octets};
 ghost use Rattle.cds_records.specs.RecordRanges.{FitsImage};
@@ -7,7 +7,7 @@ ghost use Rattle.cds_messages.specs.Validity.{IsValidImage};
 ghost use Rattle.cds_messages.specs.declared.message.Message.{Message};
 ghost use Rattle.cell_model.specs.Cells as model;
 ghost use Rattle.cell_model.specs.Turns.{crashed_house, started_house};
-ghost use Rattle.clearinghouse.specs.HouseImages.{image_of, house_after_restart, start_of_octets};
+ghost use Rattle.clearinghouse.specs.HouseImages.{image_of, house_after_restart, skulks_of, start_of_octets, with_skulks};
 ghost use Rattle.clearinghouse.specs.LawfulHouses.{IsLawful};
 ghost use Rattle.house_directory.specs.HouseMessages.{LooksMessage};
 ghost use Rattle.clearinghouse.specs.ModelHouses.{LooksHouse, StandsHouse};
@@ -18,6 +18,12 @@ ghost use Rattle.clearinghouse.specs.declared.house.Clearinghouse.{Clearinghouse
 pub fn a_house_starts_of_its_image()
     ensures { (c : Clearinghouse) → IsLawful c → FitsImage (image_of c)
         → start_of_octets (image_octets (image_of c)) ≡ Ok (house_after_restart c) }
+{}
+
+/// A house that starts of what it kept, and whose skulks run on, is as it was.
+pub fn a_house_goes_on_with_its_skulks()
+    ensures { (c : Clearinghouse) → IsLawful c → c.spent ≡ false
+        → with_skulks (skulks_of c) (house_after_restart c) ≡ c }
 {}
 
 /// A clearinghouse that crashes and starts again stands for the house of the model that does so. It

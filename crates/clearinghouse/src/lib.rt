@@ -6,6 +6,7 @@ mod house;
 mod images;
 pub mod laws;
 mod letters;
+mod running;
 mod taking;
 
 pub use house::Clearinghouse;
@@ -15,3 +16,4 @@ pub use house_directory::{
 };
 pub use images::StartFault;
 pub use letters::Letters;
+pub use running::{Round, RunningSkulk};
