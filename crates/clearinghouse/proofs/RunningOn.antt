@@ -8,11 +8,9 @@ use Rattle.std.specs.Cmp.{tied_itself}
 use Rattle.std.specs.FinMap.{FinMap, entries, entries_sorted, find, get, get-entries, get-insert, insert, is_sorted, same_map}
 use Rattle.std.specs.FinMap.Entries.{below_all}
 use Rattle.cds_stamps.specs.declared.numbers.DirId.{DirId}
-use Rattle.cds_stamps.specs.declared.numbers.EpochNo.{EpochNo}
-use Rattle.cds_stamps.specs.declared.members.Member as declared
 use Rattle.cds_stamps.specs.Keyed.{ties_are_equal}
 use Rattle.cds_messages.specs.Dirs.{dir_cmp, dir_total, dir_exact}
-use Rattle.record_fields.proofs.Ascending.{first_of, second_of, not_found}
+use Rattle.record_fields.proofs.Ascending.{first_of, less, second_of}
 use Rattle.skulk_core.specs.declared.skulk.Skulk.{Skulk}
 use Rattle.skulk_core.specs.declared.skulk.Skulk.TheVariants as skulk
 use Rattle.house_directory.specs.declared.states.Held.{Held}
@@ -20,9 +18,10 @@ use Rattle.house_directory.specs.declared.states.DirState.{DirState}
 use Rattle.house_directory.specs.declared.states.DirState.TheVariants as state
 use Rattle.house_directory.specs.DirectoryTakes.{held_in}
 use Rattle.house_directory.proofs.Maps.{unchanged}
+use Rattle.clearinghouse.specs.declared.running.Round.TheVariants as round
 use Rattle.clearinghouse.specs.declared.running.RunningSkulk.{RunningSkulk}
 use Rattle.clearinghouse.specs.declared.house.Clearinghouse.{Clearinghouse}
-use Rattle.clearinghouse.specs.HouseImages.{dirs_with, house_after_restart, kept_of, running_at, running_skulk, skulks_of, started_of, with_skulk, with_skulks}
+use Rattle.clearinghouse.specs.HouseImages.{dirs_with, house_after_restart, running_at, running_skulk, skulks_of, with_skulk, with_skulks}
 use Rattle.clearinghouse.specs.LawfulHouses.{IsLawful}
 use Rattle.clearinghouse.proofs.Restarting.{again, floor_stays, got_again}
 
@@ -52,9 +51,9 @@ held_runs : (dir : DirId) (h : Held) (s : Skulk) (m : Dirs) → get m dir ≡ So
     → runs_if (running_skulk dir s) m ≡ insert m dir (state.Held (record h { skulk = s }))
 held_runs dir h skulk.Idle m is = sym (unchanged m dir (state.Held (record h { skulk = skulk.Idle })) is)
 held_runs dir h (skulk.Gathering t who) m is =
-    ap (λ o. dirs_with (record { dir = dir; round = _; t = t; answered = who }) (held_in o) m) is
+    ap (λ o. dirs_with (record { dir = dir; round = round.Gather; t = t; answered = who }) (held_in o) m) is
 held_runs dir h (skulk.Spreading t who) m is =
-    ap (λ o. dirs_with (record { dir = dir; round = _; t = t; answered = who }) (held_in o) m) is
+    ap (λ o. dirs_with (record { dir = dir; round = round.Spread; t = t; answered = who }) (held_in o) m) is
 
 -- what a house has of a directory after a crash and a start, and with its skulk that runs on
 one_runs : (e : DirId × DirState) (m : Dirs) → get m e.0 ≡ Some (again e.1) → runs_if (running_at e) m ≡ insert m e.0 e.1
@@ -67,9 +66,15 @@ one_runs (dir, state.Gone e) m is = sym (unchanged m dir (state.Gone e) is)
 abbrev AreAgain : List (DirId × DirState) → Dirs → Type 0
 AreAgain es m = (q : DirId) (s : DirState) → find dir_cmp q es ≡ Some s → get m q ≡ Some (again s)
 
+-- what is below all keys is not found
+not_found : (q : DirId) (es : List (DirId × DirState)) → T (below_all dir_cmp q es) → find dir_cmp q es ≡ None
+not_found q [] p = refl
+not_found q (e ∷ es) p =
+    ap (λ r. cond (is_eq r) (Some e.1) (find dir_cmp q es)) (less (dir_cmp q e.0) (first_of _ _ p)) ∙ not_found q es (second_of _ _ p)
+
 module _ (e : DirId × DirState) (es : List (DirId × DirState)) (below : T (below_all dir_cmp e.0 es)) where
   absent : (q : DirId) → eq_by_cmp dir_cmp q e.0 ≡ true → find dir_cmp q es ≡ None
-  absent q same = not_found dir_total dir_exact q es (subst (λ k. T (below_all dir_cmp k es)) (sym (ties_are_equal dir_exact q e.0 same)) below)
+  absent q same = not_found q es (subst (λ k. T (below_all dir_cmp k es)) (sym (ties_are_equal dir_exact q e.0 same)) below)
 
   others_again : (m : Dirs) → AreAgain (e ∷ es) m → AreAgain es (insert m e.0 e.1)
   others_again m are q s found = get-insert dir_total m e.0 e.1 q ∙ by (eq_by_cmp dir_cmp q e.0) refl
@@ -111,8 +116,8 @@ same_dirs c = same_map dir_total dir_exact _ _ (λ q.
     first_or None = refl
     first_or (Some s) = refl
 
--- a house that starts of what it kept, and whose skulks run on, is as it was
-pub goes_on : (c : Clearinghouse) → IsLawful c → c.spent ≡ false → with_skulks (skulks_of c) (house_after_restart c) ≡ c
-goes_on c lawful usable =
+-- a house that starts of what it kept, and whose skulks run on, is as it was, and not spent
+pub goes_on : (c : Clearinghouse) → IsLawful c → with_skulks (skulks_of c) (house_after_restart c) ≡ record c { spent = false }
+goes_on c lawful =
     only_dirs (skulks_of c) (house_after_restart c)
-    ∙ (λ i. record { house = c.house; node = c.node; floor = floor_stays c lawful i; dirs = same_dirs c i; spent = sym usable i })
+    ∙ (λ i. record { house = c.house; node = c.node; floor = floor_stays c lawful i; dirs = same_dirs c i; spent = false })
