@@ -1,15 +1,18 @@
 mod Pieces
 mod Cuts
-mod SaidAgain
+pub mod SaidAgain
 mod PlainTexts
 mod PlainWords
-mod PlainLines
+pub mod PlainLines
 pub mod LastTurns
+pub mod RunningLines
+mod SkulkWords
+pub mod Resuming
+mod Redoing
 mod Letters
 mod Outcomes
 mod Comes
 mod Replies
 mod Recorded
 mod Joining
-mod Starts
 mod Asked

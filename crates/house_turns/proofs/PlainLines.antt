@@ -1,5 +1,5 @@
--- Lines that say something: no line ends in them, and they begin otherwise than the text of a
--- start.
+-- Lines that say something: no line ends in them, and they begin otherwise than the line of a skulk
+-- that runs.
 use Rattle.std.proofs.Common.{◌≡◌, ℕ, ◌+◌, Bool, true, false, List, [], ◌∷◌, ◌++◌, length, refl, sym, ap, subst, ◌∙◌, append_assoc, arith}
 use Rattle.std.specs.Prelude.{◌==◌, nat_eq, not, if◌then◌else◌, codes, Option, Some, None, Result, Ok, Err}
 use Rattle.std.specs.List.{list_all, starts_with}
@@ -20,7 +20,7 @@ use Rattle.house_lines.specs.declared.line.EpochList.{EpochList}
 use Rattle.house_lines.specs.declared.line.HouseLine.{HouseLine}
 use Rattle.house_turns.specs.HouseReplies.{take_line, with_spaces}
 use Rattle.house_turns.specs.LineOutcomes.{HasNoEnd}
-use Rattle.house_turns.specs.Openings.{is_start}
+use Rattle.house_turns.specs.Openings.{is_skulk}
 use Rattle.house_turns.proofs.PlainTexts.{both_end_nowhere, more_end_nowhere, none_end_nowhere, text_ends_nowhere}
 use Rattle.house_turns.proofs.SaidAgain.{hex_ends_nowhere}
 use Rattle.house_turns.proofs.PlainWords.{ArePlain, plain_attr, plain_directory, plain_full_name, plain_house, plain_listed, plain_member, plain_name, plain_node, plain_number, plain_octets, plain_serial, plain_value, same_word}
@@ -173,13 +173,13 @@ module _ {L : Type 0} where
 
 -- ---- first words
 
--- no line ends in octets, and no text that they begin is that of a start
+-- no line ends in octets, and no text that they begin is that of a skulk
 pub record BeginsTurn (octets : List ℕ) : Type 0 where
   pub plain : HasNoEnd octets
-  pub no_start : (rest : List ℕ) → is_start (octets ++ rest) ≡ false
+  pub no_skulk : (rest : List ℕ) → is_skulk (octets ++ rest) ≡ false
 
-begins : (octets : List ℕ) → list_all (λ b. not (b == 10)) octets ≡ true → ((rest : List ℕ) → is_start (octets ++ rest) ≡ false) → BeginsTurn octets
-begins octets plain no_start = record { plain = text_ends_nowhere octets plain; no_start = no_start }
+begins : (octets : List ℕ) → list_all (λ b. not (b == 10)) octets ≡ true → ((rest : List ℕ) → is_skulk (octets ++ rest) ≡ false) → BeginsTurn octets
+begins octets plain no_skulk = record { plain = text_ends_nowhere octets plain; no_skulk = no_skulk }
 
 same_begins : (w text : List ℕ) → bytes_eq w text ≡ true → BeginsTurn text → BeginsTurn w
 same_begins w text is begins = subst BeginsTurn (sym ((bytes_eq-Decides w text).0 is)) begins
@@ -372,12 +372,12 @@ line_begins (w ∷ ws) l is =
     let read = words_read w ws l is in
     record {
       plain = joined_end_nowhere (w ∷ ws) (read.0.plain, read.1);
-      no_start = λ rest. let first = joined_first w ws rest in ap is_start first.1 ∙ read.0.no_start first.0;
+      no_skulk = λ rest. let first = joined_first w ws rest in ap is_skulk first.1 ∙ read.0.no_skulk first.0;
     }
 
 -- and so does that of a message that is taken
 pub take_begins : (octets : List ℕ) → BeginsTurn (take_line octets)
 take_begins octets = record {
   plain = both_end_nowhere (codes "take ") (encode_lower octets) (text_ends_nowhere (codes "take ") refl) (hex_ends_nowhere octets);
-  no_start = λ rest. refl;
+  no_skulk = λ rest. refl;
 }

@@ -1,6 +1,6 @@
 -- How a house goes on from the records of a segment, the first record of a process and of a next
 -- segment, and what a house says first.
-use Rattle.std.specs.Prelude.{◌≡◌, ◌≢◌, ℕ, ◌+◌, ◌==◌, ◌||◌, Bool, false, List, [], ◌∷◌, ◌++◌, length, take, if◌then◌else◌, Option, Some, None, Ok, codes, decimal}
+use Rattle.std.specs.Prelude.{◌≡◌, ◌≢◌, ℕ, ◌+◌, ◌==◌, Bool, false, List, [], ◌∷◌, ◌++◌, length, take, if◌then◌else◌, Option, Some, None, Ok, codes, decimal}
 use Rattle.std.specs.List.{before_first}
 use Rattle.std.specs.Str.{bytes_eq}
 use Rattle.hex.specs.Hex.{encode_lower}
@@ -30,9 +30,9 @@ new_house = record { home = None; node = 0; clock = 0; entry = 0; last = []; mor
 abbrev pub begins_with : (front : List ℕ) → List ℕ → Bool
 begins_with front octets = bytes_eq (take (length front) octets) front
 
--- a text begins with a line that says that a process or a segment begins
-abbrev pub is_start : List ℕ → Bool
-is_start text = begins_with (codes "start" ++ 10 ∷ []) text || begins_with (codes "segment ") text
+-- a text begins as the line of a skulk that runs
+abbrev pub is_skulk : List ℕ → Bool
+is_skulk = begins_with (codes "running ")
 
 -- ---- the first record of a process, and of the next segment of one
 
@@ -77,7 +77,7 @@ pub data Resumes (body : List ℕ) : House → Type 0 where
   WentOn : (entry clock : ℕ) (skulks : List RunningSkulk) (last image : List ℕ)
       (c : Clearinghouse)
       → IsBody body entry clock (segment_line entry ++ (running_lines skulks ++ last)) (Some image)
-      → AllFit skulks → begins_with (codes "running ") last ≡ false
+      → AllFit skulks → is_skulk last ≡ false
       → start_of_octets image ≡ Ok c
       → Resumes body (house_with (with_skulks skulks c) entry clock last)
 
@@ -153,7 +153,7 @@ pub record IsTurnText (text : List ℕ) : Type 0 where
   pub is : text ≡ turn_text line posts answer
   pub line_ends_nowhere : HasNoEnd line
   pub answer_ends_nowhere : HasNoEnd answer
-  pub no_skulk : begins_with (codes "running ") text ≡ false
+  pub no_skulk : is_skulk text ≡ false
 
 -- a house that was made has a last turn
 abbrev pub HasTurn : Option Clearinghouse → (last : List ℕ) → Type 0

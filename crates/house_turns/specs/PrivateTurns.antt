@@ -45,7 +45,7 @@ use Rattle.clearinghouse.specs.ModelHouses.{StandsHouse}
 use Rattle.house_turns.specs.declared.house.House.{House}
 use Rattle.house_turns.specs.LineOutcomes.{ComesTo, IsOneLine, IsOutcome, Outcome, Posts, StaysAt, Tells}
 use Rattle.house_turns.specs.HouseReplies.{new_clearinghouse, turn_lines, turn_text}
-use Rattle.house_turns.specs.Openings.{begins_with, house_with, segment_line}
+use Rattle.house_turns.specs.Openings.{house_with, is_skulk, segment_line}
 use Rattle.house_turns.specs.RunningSkulks.{AllFit, running_lines}
 use Rattle.house_turns.specs.declared.running.RunningLines.{RunningLines}
 use Rattle.clearinghouse.specs.declared.running.RunningSkulk.{RunningSkulk}
@@ -236,7 +236,7 @@ StartsOf image (Some c) = start_of_octets image ≡ Ok c
 pub record SkulksFirst (text : List ℕ) (skulks : List RunningSkulk) (rest : List ℕ) : Type 0 where
   pub whole : text ≡ running_lines skulks ++ rest
   pub fit : AllFit skulks
-  pub ends : begins_with (codes "running ") rest ≡ false
+  pub ends : is_skulk rest ≡ false
 
 -- what is read of the front of a text
 abbrev pub ReadsSkulks : (text : List ℕ) → Option RunningLines → Type 0

@@ -7,9 +7,9 @@ ghost use Rattle.house_turns.specs.Records.{IsRecord};
 use crate::again::{push_again, push_said};
 use crate::house::House;
 use crate::resuming::segment_line;
-use crate::running::push_skulks;
+use crate::running::{push_node, push_skulks};
 use cds_stamps::{HouseNo, Node};
-use script_answers::{begin_line, push_hex, push_number};
+use script_answers::{begin_line, push_number};
 use std::alloc::{AllocError, Global};
 
 impl House {
@@ -67,7 +67,7 @@ fn push_house(text: &mut Vec<u8>, house: HouseNo, node: Node) -> Result<(), Allo
     text.extend_from_slice(b"house ")?;
     push_number(text, u64::from(house.0))?;
     text.push(b' ')?;
-    push_hex(text, &node.number().to_be_bytes()[2..])?;
+    push_node(text, node)?;
     text.push(b'\n')?;
     Ok(())
 }

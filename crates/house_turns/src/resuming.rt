@@ -92,11 +92,7 @@ fn run_on(home: &mut Clearinghouse, skulks: &[RunningSkulk])
 }
 
 // The house of the first record of a segment, whose image this is.
-fn resume_made(
-    alloc: Global,
-    body: &Body<'_>,
-    image: &[u8],
-) -> Result<Option<House>, AllocError>
+fn resume_made(alloc: Global, body: &Body<'_>, image: &[u8]) -> Result<Option<House>, AllocError>
     ensures { IfOk result
         (ResumesBy body.now.number body.now.clock body.now.text.now image.now) }
 {
@@ -127,13 +123,7 @@ pub fn resume(alloc: Global, body: &[u8]) -> Result<Option<House>, AllocError>
 
 impl House {
     // A house with this clearinghouse, after so many entries, and with this last turn.
-    fn with(
-        alloc: Global,
-        home: Clearinghouse,
-        entry: u64,
-        clock: u64,
-        last: OctetBuffer,
-    ) -> House
+    fn with(alloc: Global, home: Clearinghouse, entry: u64, clock: u64, last: OctetBuffer) -> House
         ensures { result ≡ house_with home entry clock last }
     {
         let node = home.node();
@@ -171,7 +161,10 @@ impl House {
         ensures lawful { MayEnd self.home → IfOk result (λ o. is_some o ≡ true) }
     {
         let House {
-            home, entry, last, ..
+            home,
+            entry,
+            last,
+            ..
         } = self;
         let Some(home) = home else {
             return Ok(Some(House::new(alloc)));

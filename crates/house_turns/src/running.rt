@@ -14,7 +14,7 @@ ghost use Rattle.house_turns.specs.RunningSkulks.{AllFit, FitsRunning, running_l
 use crate::again::cut_at;
 use cds_stamps::{DirId, MemberMask, Node, Stamp};
 use clearinghouse::{Round, RunningSkulk};
-use script_answers::{push_number, push_stamp};
+use script_answers::{push_hex, push_number};
 use std::alloc::{AllocError, Global};
 
 // The word of a round.
@@ -25,6 +25,26 @@ fn round_word(round: Round) -> &'static [u8]
         Round::Gather => b"gather",
         Round::Spread => b"spread",
     }
+}
+
+/// Adds a node, in twelve hexadecimal digits.
+pub(crate) fn push_node(text: &mut Vec<u8>, node: Node) -> Result<(), AllocError>
+    ensures digits { OnOk result
+        (text.new.items ≡ text.old.items ++ encode_lower (node_octets node)) }
+    ensures fits { OnOk result (node < 2 ^ 48) }
+{
+    let number = node.number();
+    push_hex(text, &number.to_be_bytes()[2..])
+}
+
+// Adds a stamp: its time, `@` and its node.
+fn push_stamp(text: &mut Vec<u8>, stamp: &Stamp) -> Result<(), AllocError>
+    ensures stamp { OnOk result (text.new.items ≡ text.old.items ++ stamp_text stamp.now) }
+    ensures fits { OnOk result (FitsStamp stamp.now) }
+{
+    push_number(text, stamp.time)?;
+    text.push(b'@')?;
+    push_node(text, stamp.node)
 }
 
 // Adds the line of a skulk that runs.
