@@ -1,9 +1,9 @@
 // The last record of a segment that an earlier process left, whose chain is compared from its head
 // on.
-ghost use Rattle.std.specs.Prelude.{◌≡◌, ◌<◌, ◌∷◌, [], length, IfSome, IfNone};
+ghost use Rattle.std.specs.Prelude.{◌≡◌, ◌≢◌, ◌<◌, ◌∷◌, ◌++◌, [], ℕ, List, length, IfSome, IfNone, IsTrue, IsFalse};
 ghost use Rattle.house_journal.specs.JournalRecords.{images};
 ghost use Rattle.house_segments.specs.Chains.{digest_after, sealed};
-ghost use Rattle.house_segments.specs.Reading.{IsLast};
+ghost use Rattle.house_segments.specs.Reading.{EndedLater, IsLast, IsSegment, end_of};
 
 use crate::chain::{DIGEST, digest_of};
 
@@ -15,11 +15,13 @@ pub struct LastRecord<'a> {
 }
 
 // The record of which octets begin with the length, and what follows it.
-#[tactic(auto, using(crate::proofs::ReadLemmas::sized_open, crate::proofs::ReadLemmas::few_none, crate::proofs::ReadLemmas::long_none))]
+#[tactic(auto, using(crate::proofs::ReadLemmas::sized_open, crate::proofs::ReadLemmas::sized_end, crate::proofs::ReadLemmas::few_none, crate::proofs::ReadLemmas::few_end, crate::proofs::ReadLemmas::long_none, crate::proofs::ReadLemmas::long_end))]
 fn sized_record(octets: &[u8]) -> Option<(&[u8], &[u8])>
     ensures some { IfSome result (λ r. images (1 ∷ octets.now) ≡ r.0.now ∷ images r.1.now) }
+    ensures end { IfSome result (λ r. end_of (1 ∷ octets.now) ≡ end_of r.1.now) }
     ensures shorter { IfSome result (λ r. length r.1.now < length octets.now) }
     ensures none { IfNone result (images (1 ∷ octets.now) ≡ []) }
+    ensures at_end { IfNone result (end_of (1 ∷ octets.now) ≡ 1 ∷ octets.now) }
 {
     if octets.len() < 9 {
         return None;
@@ -35,11 +37,13 @@ fn sized_record(octets: &[u8]) -> Option<(&[u8], &[u8])>
 }
 
 /// The record at the front of octets and what follows it, if the gate there is open.
-#[tactic(auto, using(crate::proofs::ReadLemmas::other_none))]
+#[tactic(auto, using(crate::proofs::ReadLemmas::other_none, crate::proofs::ReadLemmas::other_end, crate::proofs::ReadLemmas::few_end))]
 pub fn first_record(octets: &[u8]) -> Option<(&[u8], &[u8])>
     ensures some { IfSome result (λ r. images octets.now ≡ r.0.now ∷ images r.1.now) }
+    ensures end { IfSome result (λ r. end_of octets.now ≡ end_of r.1.now) }
     ensures shorter { IfSome result (λ r. length r.1.now < length octets.now) }
     ensures none { IfNone result (images octets.now ≡ []) }
+    ensures at_end { IfNone result (end_of octets.now ≡ octets.now) }
 {
     match octets.split_first() {
         None => None,
@@ -53,9 +57,11 @@ pub fn first_record(octets: &[u8]) -> Option<(&[u8], &[u8])>
 }
 
 // The body and the digest of a record, if it comes after a record with this digest.
+#[tactic(auto, using(crate::proofs::ReadLemmas::few_unsealed))]
 fn unsealed<'a>(before: &[u8], octets: &'a [u8]) -> Option<LastRecord<'a>>
     ensures is { IfSome result (λ r. octets.now ≡ sealed before.now r.body.now) }
     ensures digest { IfSome result (λ r. r.digest ≡ digest_after before.now r.body.now) }
+    ensures none { IfNone result ((body : List ℕ) → octets.now ≢ sealed before.now body) }
 {
     if octets.len() < DIGEST {
         return None;
@@ -69,8 +75,11 @@ fn unsealed<'a>(before: &[u8], octets: &'a [u8]) -> Option<LastRecord<'a>>
 }
 
 // The head of a segment, if it is this text and a digest.
+#[tactic(auto, using(crate::proofs::ReadLemmas::few_head, crate::proofs::ReadLemmas::short_head))]
 fn head_of<'a>(title: &[u8], octets: &'a [u8]) -> Option<LastRecord<'a>>
-    ensures { IfSome result (λ r. IsLast title.now (octets.now ∷ []) r.body.now r.digest) }
+    ensures some { IfSome result (λ r. IsLast title.now (octets.now ∷ []) r.body.now r.digest) }
+    ensures none { IfNone result ((before : List ℕ) → length before ≡ 32
+        → octets.now ≢ sealed before (title.now ++ before)) }
 {
     if octets.len() < DIGEST {
         return None;
@@ -93,10 +102,14 @@ fn head_of<'a>(title: &[u8], octets: &'a [u8]) -> Option<LastRecord<'a>>
     Some(LastRecord { body, digest })
 }
 
-// Whether the list ended later once, which no crash undoes: the gate at the front of these octets
-// is open and no record follows, or a record follows that comes after a record with this digest,
-// and the gate after it is open.
-fn went_on(before: &[u8], octets: &[u8]) -> bool {
+// Whether the list ended later once, which no crash undoes: the gate that ends it is 1; or a record
+// follows that comes after a record with this digest, and another whole one follows that.
+#[tactic(auto, using(crate::proofs::ReadLemmas::none_ended, crate::proofs::ReadLemmas::had_more))]
+fn went_on(before: &[u8], octets: &[u8]) -> bool
+    requires { images octets.now ≡ [] }
+    ensures yes { IsTrue result → EndedLater before.now octets.now }
+    ensures no { IsFalse result → EndedLater before.now octets.now → ⊥ }
+{
     let Some((gate, rest)) = octets.split_first() else {
         return false;
     };
@@ -106,14 +119,23 @@ fn went_on(before: &[u8], octets: &[u8]) -> bool {
     let Some((next, behind)) = sized_record(rest) else {
         return false;
     };
-    behind.first() == Some(&1) && unsealed(before, next).is_some()
+    let Some((_, _)) = first_record(behind) else {
+        return false;
+    };
+    match unsealed(before, next) {
+        Some(_) => true,
+        None => false,
+    }
 }
 
 /// The last record of a segment whose head is this text and a digest; none, if the octets are no
 /// such segment: if a record does not end in the digest of the record before and of itself, or if
 /// the list ended later once.
+#[tactic(auto, using(crate::proofs::ReadLemmas::none_segment, crate::proofs::ReadLemmas::headless))]
 pub fn last_record<'a>(title: &[u8], octets: &'a [u8]) -> Option<LastRecord<'a>>
-    ensures { IfSome result (λ r. IsLast title.now (images octets.now) r.body.now r.digest) }
+    ensures some { IfSome result (λ r. IsLast title.now (images octets.now) r.body.now r.digest) }
+    ensures ends { IfSome result (λ r. EndedLater r.digest (end_of octets.now) → ⊥) }
+    ensures none { IfNone result (IsSegment title.now octets.now → ⊥) }
 {
     let (first, mut rest) = first_record(octets)?;
     let mut last = head_of(title, first)?;

@@ -89,6 +89,13 @@ impl<D: Disk> Segment<D> {
         self.digest
     }
 
+    /// Its disk.
+    pub fn disk(&self) -> &D
+        ensures { result.now ≡ disk_of self.now }
+    {
+        &self.disk
+    }
+
     /// Gives its disk back.
     pub fn into_disk(self) -> D
         ensures { result ≡ disk_of self }

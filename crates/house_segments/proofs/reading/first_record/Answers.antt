@@ -1,4 +1,4 @@
-use Rattle.std.proofs.Common.{◌<◌, length, arith}
+use Rattle.std.proofs.Common.{arith}
 use Rattle.house_segments.proofs.ReadLemmas.{few_none}
 use Rattle.house_segments.proofs.reading.first_record.Goals as goal
 
