@@ -8,7 +8,7 @@ use Rattle.house_turns.specs.HouseReplies.{Responds}
 use Rattle.house_turns.specs.Openings.{EndsLife, HasTurn, IsSegmentRecord, IsTurnText, NoneMade, OpensBy, RedoneBy, Restarts, Resumes, after_start, new_house, start_text}
 use Rattle.house_turns.specs.Records.{IsRecord}
 use Rattle.house_turns.proofs.LastTurns.{has_turn, turn_after}
-use Rattle.house_turns.proofs.Resuming.{last_of_segment, last_of_start}
+use Rattle.house_turns.proofs.Resumptions.{last_of_segment, last_of_start}
 use Rattle.house_runs.specs.Folders.{AreSegments, Beginning, BeginsWith, FolderSegment, IsFolder, OpensFrom, ProcessBegins, ProcessGoesOn, last_bodies, segment_bodies}
 use Rattle.house_runs.proofs.Segments.{first_of_split, new_segment, new_start, none_resumed, start_home, start_last}
 

@@ -25,17 +25,17 @@ not_over (b ∷ before) answer over = absurd (cc over)
 -- messages and an answer are those of one reading
 same_posts : (ps qs : List Post) (a b : List ℕ) → HasNoEnd a → HasNoEnd b → posts_text ps ++ (a ++ 10 ∷ []) ≡ posts_text qs ++ (b ++ 10 ∷ [])
     → (map post_kept ps ≡ map post_kept qs) × (a ≡ b)
-same_posts [] [] a b no no' same = (refl, (halves 10 a [] b [] no no' same).0)
-same_posts (p ∷ ps) [] a b no no' same =
-    let cut = halves 10 (post_kept p) (posts_text ps ++ (a ++ 10 ∷ [])) b [] (post_has_no_end p) no' (sym (posts_first p ps (a ++ 10 ∷ [])) ∙ same) in
+same_posts [] [] a b plain plain' same = (refl, (halves 10 a [] b [] plain plain' same).0)
+same_posts (p ∷ ps) [] a b plain plain' same =
+    let cut = halves 10 (post_kept p) (posts_text ps ++ (a ++ 10 ∷ [])) b [] (post_has_no_end p) plain' (sym (posts_first p ps (a ++ 10 ∷ [])) ∙ same) in
     absurd (not_over (posts_text ps) a (sym cut.1))
-same_posts [] (q ∷ qs) a b no no' same =
-    let cut = halves 10 a [] (post_kept q) (posts_text qs ++ (b ++ 10 ∷ [])) no (post_has_no_end q) (same ∙ posts_first q qs (b ++ 10 ∷ [])) in
+same_posts [] (q ∷ qs) a b plain plain' same =
+    let cut = halves 10 a [] (post_kept q) (posts_text qs ++ (b ++ 10 ∷ [])) plain (post_has_no_end q) (same ∙ posts_first q qs (b ++ 10 ∷ [])) in
     absurd (not_over (posts_text qs) b cut.1)
-same_posts (p ∷ ps) (q ∷ qs) a b no no' same =
+same_posts (p ∷ ps) (q ∷ qs) a b plain plain' same =
     let cut = halves 10 (post_kept p) (posts_text ps ++ (a ++ 10 ∷ [])) (post_kept q) (posts_text qs ++ (b ++ 10 ∷ [])) (post_has_no_end p) (post_has_no_end q)
     (sym (posts_first p ps (a ++ 10 ∷ [])) ∙ same ∙ posts_first q qs (b ++ 10 ∷ [])) in
-    let rest = same_posts ps qs a b no no' cut.1 in
+    let rest = same_posts ps qs a b plain plain' cut.1 in
     ((λ i. cut.0 i ∷ rest.0 i), rest.1)
 
 -- the law

@@ -7,7 +7,7 @@ pub mod PlainLines
 pub mod LastTurns
 pub mod RunningLines
 mod SkulkWords
-pub mod Resuming
+pub mod Resumptions
 mod Redoing
 mod Letters
 mod Outcomes

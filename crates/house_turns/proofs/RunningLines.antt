@@ -13,6 +13,7 @@ use Rattle.std.proofs.lemmas.List.Concat.{flat_map-cons}
 use Rattle.std.proofs.lemmas.List.Elements.{All-append, All-cons, All-head, All-nil, All-tail, All-weaker}
 use Rattle.std.proofs.lemmas.Nat.{from_be_bytes-to_be_bytes_8}
 use Rattle.std.proofs.lemmas.Str.Parse.{numerals_by_value, tells_all_ascii_digits}
+use Rattle.std.proofs.Math.Nat.{mod-lt}
 use Rattle.hex.specs.Hex.{IsBytes, decode_of, encode_lower}
 use Rattle.hex.proofs.HexLemmas.{decode_of-encode_lower}
 use Rattle.cds_stamps.specs.declared.stamp.Stamp.{Stamp}
@@ -27,7 +28,7 @@ use Rattle.house_turns.specs.PrivateTurns.{SkulksFirst}
 use Rattle.house_turns.specs.RunningSkulks.{AllFit, FitsRunning, round_word, running_line, running_lines}
 use Rattle.house_turns.proofs.Cuts.{cut_after, cut_before}
 use Rattle.house_turns.proofs.PlainTexts.{both_end_nowhere, more_end_nowhere, text_ends_nowhere}
-use Rattle.house_turns.proofs.SaidAgain.{decimal_digits, decimal_ends_nowhere, hex_digits, hex_ends_nowhere, no_space}
+use Rattle.house_turns.proofs.SaidAgain.{IsDigit, decimal_digits, decimal_ends_nowhere, hex_digits, hex_ends_nowhere, no_space}
 
 -- ---- octets without a separator
 
@@ -70,16 +71,16 @@ pub decimal_no_sign : (n : ℕ) → n < 2 ^ 64 → All (λ b. b ≢ 64) (decimal
 decimal_no_sign n small = digits_no_sign (decimal n) (digits_decimal (numerals_by_value (λ ds. all_ascii_digits ds ≡ true) tells_all_ascii_digits) n small)
 
 pub decimal_no_space : (n : ℕ) → All (λ b. b ≢ 32) (decimal n)
-decimal_no_space n = All-weaker _ (λ (b : ℕ). b ≢ 32) no_space (decimal n) (decimal_digits n)
+decimal_no_space n = All-weaker IsDigit (λ (b : ℕ). b ≢ 32) no_space (decimal n) (decimal_digits n)
 
 hex_no_space : (octets : List ℕ) → All (λ b. b ≢ 32) (encode_lower octets)
-hex_no_space octets = All-weaker _ (λ (b : ℕ). b ≢ 32) no_space (encode_lower octets) (hex_digits octets)
+hex_no_space octets = All-weaker IsDigit (λ (b : ℕ). b ≢ 32) no_space (encode_lower octets) (hex_digits octets)
 
 -- ---- nodes
 
 byte_low : (k n i : ℕ) → slice_index (bytes_high_first k n) i < 256
 byte_low zero n i = omega arith
-byte_low (suc k) n zero = omega arith
+byte_low (suc k) n zero = mod-lt _ (omega arith)
 byte_low (suc k) n (suc i) = byte_low k n i
 
 pub node_bytes : (n : ℕ) → IsBytes (node_octets n)

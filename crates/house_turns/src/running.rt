@@ -31,7 +31,7 @@ fn round_word(round: Round) -> &'static [u8]
 pub(crate) fn push_node(text: &mut Vec<u8>, node: Node) -> Result<(), AllocError>
     ensures digits { OnOk result
         (text.new.items ≡ text.old.items ++ encode_lower (node_octets node)) }
-    ensures fits { OnOk result (node < 2 ^ 48) }
+    ensures fits { node < 2 ^ 48 }
 {
     let number = node.number();
     push_hex(text, &number.to_be_bytes()[2..])
@@ -44,7 +44,8 @@ fn push_stamp(text: &mut Vec<u8>, stamp: &Stamp) -> Result<(), AllocError>
 {
     push_number(text, stamp.time)?;
     text.push(b'@')?;
-    push_node(text, stamp.node)
+    push_node(text, stamp.node)?;
+    Ok(())
 }
 
 // Adds the line of a skulk that runs.
@@ -59,7 +60,8 @@ fn push_line(text: &mut Vec<u8>, skulk: &RunningSkulk) -> Result<(), AllocError>
     text.push(b' ')?;
     text.extend_from_slice(round_word(skulk.round))?;
     text.push(b' ')?;
-    push_number(text, skulk.answered.0)
+    push_number(text, skulk.answered.0)?;
+    Ok(())
 }
 
 /// Adds the lines of skulks that run.

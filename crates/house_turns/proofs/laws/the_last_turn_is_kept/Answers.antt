@@ -1,5 +1,5 @@
 use Rattle.house_turns.proofs.LastTurns.{last_redone}
-use Rattle.house_turns.proofs.Resuming.{last_of_segment, last_of_start, last_opened}
+use Rattle.house_turns.proofs.Resumptions.{last_of_segment, last_of_start, last_opened}
 use Rattle.house_turns.proofs.laws.the_last_turn_is_kept.Goals as goal
 
 pub returns : goal.returns
