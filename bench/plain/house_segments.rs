@@ -138,8 +138,9 @@ fn body_of(record: &[u8], before: Option<&Sum>) -> Option<(Sum, usize)> {
     if sha256(before, body) == *sum { Some((*sum, body.len())) } else { None }
 }
 
-/// Whether a record after a gate that is not open was counted once, or the gate is 1: no crash leaves that.
-fn was_counted(octets: &[u8], gate: usize, before: &Sum) -> bool {
+/// Whether this gate, which ends the list, was open once: it is 1, or a record that fits comes after it, and an open gate after that. No crash
+/// leaves that. (A crash in the first write of a put may leave the whole record and any octet at its end, also a 1.)
+fn was_open(octets: &[u8], gate: usize, before: &Sum) -> bool {
     let Some((last, rest)) = octets.get(gate..).and_then(<[u8]>::split_first) else {
         return false;
     };
@@ -147,8 +148,8 @@ fn was_counted(octets: &[u8], gate: usize, before: &Sum) -> bool {
         return true;
     }
     let opened = [&[1], rest].concat();
-    let is_whole = record_at(&opened, 0).filter(|record| body_of(record, Some(before)).is_some());
-    is_whole.is_some_and(|record| opened.get(1 + LENGTH + record.len()) == Some(&1))
+    let next = record_at(&opened, 0).filter(|record| body_of(record, Some(before)).is_some());
+    next.is_some_and(|record| record_at(&opened, 1 + LENGTH + record.len()).is_some())
 }
 
 /// Takes the records in the octets of segment `number` after its first one; nothing where they are no such segment, or damaged.
@@ -166,7 +167,7 @@ pub fn read(octets: &[u8], number: u64, mut take: impl FnMut(Record)) -> Option<
         sum = next;
         gate += 1 + LENGTH + record.len();
     }
-    if was_counted(octets, gate, &sum) { None } else { Some(Sums { before, last: sum, is_begun: gate > begin }) }
+    if was_open(octets, gate, &sum) { None } else { Some(Sums { before, last: sum, is_begun: gate > begin }) }
 }
 
 /// The folder of a house, which no other process has.

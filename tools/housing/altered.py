@@ -6,7 +6,7 @@ import random
 import shutil
 
 import journals
-from cell import Cell
+from doors.prompt import Cell
 from net import Net
 from processes import Process, take_lines
 
@@ -52,7 +52,7 @@ SMALL = ["house 1 00000000000a", "house 2 00000000000b", "root 1 2", "create 1 1
 def worked(folder, program, seed, session, lost=LOST, delayed=DELAYED):
     """The folders of a cell that worked."""
     chance = random.Random(seed)
-    cell = Cell(folder, program, Net(chance, loss=lost), delayed, lambda text: None)
+    cell = Cell(folder, ([program], []), Net(chance, loss=lost), delayed, lambda text: None)
     for line in session:
         cell.answer(line.split())
     cell.close()

@@ -46,6 +46,8 @@ PUT_REFUSED = r'''Err(refusal) => {
 PIECES = "let pieces = std::mem::take(&mut self.pieces);"
 KEEP_PIECES = """let is_message = matches!(line, Line::Take(_) | Line::More(_));
         let pieces = if is_message { std::mem::take(&mut self.pieces) } else { Vec::new() };"""
+BEHIND = "next.is_some_and(|record| record_at(&opened, 1 + LENGTH + record.len()).is_some())"
+ANY_BEHIND = "next.is_some_and(|record| opened.get(1 + LENGTH + record.len()) == Some(&1))"
 
 # What the bug is, the file, and its edits: the present text, and the text in its place.
 BUGS = [
@@ -65,6 +67,7 @@ BUGS = [
     ("a start does not count as an entry", MAIN, ("home.entry += u64::from(home.house.is_some());", "")),
     ("a start goes on from the turn before the last", SEGMENTS, (LAST, LAST_BUT_ONE)),
     ("pieces of a message are kept over another line", TURNS, (PIECES, KEEP_PIECES)),
+    ("an octet 1 behind a record that was not put is damage", SEGMENTS, (BEHIND, ANY_BEHIND)),
 ]
 
 

@@ -6,7 +6,7 @@ import subprocess
 ROOT = os.path.dirname(os.path.dirname(os.path.dirname(os.path.realpath(__file__))))
 
 
-def compiled(source, target, *options, root=ROOT):
+def compiled(source: str, target: str, *options: str, root: str = ROOT) -> str:
     """The path of what a source is compiled to; it is compiled where it is not there, or older than the sources beside it."""
     source, target = f"{root}/{source}", f"{root}/{target}"
     sources = [source, *glob.glob(f"{os.path.dirname(source)}/**/*.rs", recursive=True)]
@@ -22,7 +22,7 @@ class Programs:
     """The house that is tried, the program that replays, the one that explains, if it is tried, too, and the disk between the house and its
     folder."""
 
-    def __init__(self, house=None, plain=None, explainer=None):
+    def __init__(self, house: str | None = None, plain: str | None = None, explainer: str | None = None) -> None:
         self.house = os.path.abspath(house) if house else compiled("bench/house.rs", "out/plain-house")
         self.explainer = explainer and os.path.abspath(explainer)
         self.plain = os.path.abspath(plain) if plain else compiled("bench/plain.rs", "out/plain")

@@ -184,9 +184,10 @@ impl Disk {
         left
     }
 
-    /// What of a write's octets a crash leaves: all, none, the first ones, noise of full length, or some of its sectors.
+    /// What of a write's octets a crash leaves: all, none, the first ones, noise of full length, some of its sectors, or all but the last
+    /// one, which is 1 as that of an open gate.
     fn torn(&mut self, way: usize, octets: &[u8]) -> Vec<Option<u8>> {
-        let way = if way < 2 { way } else { self.below(6) };
+        let way = if way < 2 { way } else { self.below(7) };
         let first = self.below(octets.len() + 1);
         let mut sector = true;
         let chosen = octets.iter().enumerate().map(|(at, octet)| match way {
@@ -198,6 +199,7 @@ impl Disk {
                 Some(*octet).filter(|_| sector)
             }
             5 => Some(self.below(256) as u8),
+            6 if at + 1 == octets.len() => Some(1),
             _ => Some(*octet),
         });
         chosen.collect()

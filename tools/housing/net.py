@@ -1,18 +1,23 @@
 """A net that loses, repeats, delays and reorders messages. It never makes one up, and gives each to its receiver alone."""
+from __future__ import annotations
+
+from random import Random
+
+Message = tuple[int, str]
 
 
 class Net:
     """Messages on their way, each as (to, octets). Of 100 messages `loss` are lost, and `repeats` come once more."""
 
-    def __init__(self, random, loss=0, repeats=0, kept=0):
+    def __init__(self, random: Random, loss: int = 0, repeats: int = 0, kept: int = 0) -> None:
         self.random, self.loss, self.repeats, self.kept = random, loss, repeats, kept
-        self.messages = []
+        self.messages: list[Message] = []
         self.lost = self.repeated = self.posted = 0
 
-    def chance(self, of_hundred):
+    def chance(self, of_hundred: float) -> bool:
         return self.random.random() * 100 < of_hundred
 
-    def post(self, messages):
+    def post(self, messages: list[Message]) -> None:
         for message in messages:
             self.posted += 1
             if self.chance(self.loss):
@@ -23,7 +28,7 @@ class Net:
                 self.messages.append(message)
                 self.repeated += 1
 
-    def next_for(self, house):
+    def next_for(self, house: int) -> str | None:
         """A message for a house, mostly its oldest one, which mostly does not come again; or None."""
         places = [place for place, (to, _) in enumerate(self.messages) if to == house]
         if not places:

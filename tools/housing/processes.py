@@ -18,46 +18,48 @@ class Silent(Exception):
 class Process:
     """A house that runs. `posts` are messages that it posted and that nobody fetched yet, each as (to, octets)."""
 
-    def __init__(self, program, folder, environment=None):
+    def __init__(self, program: str, folder: str, environment: dict[str, str] | None = None) -> None:
         variables = dict(os.environ, **(environment or {}))
         # (a session of its own: Ctrl-C at the prompt is not for houses)
         self.child = subprocess.Popen(
             [program, folder], stdin=subprocess.PIPE, stdout=subprocess.PIPE, env=variables, bufsize=0, start_new_session=True
         )
+        assert self.child.stdin and self.child.stdout
+        self.sink, self.source = self.child.stdin, self.child.stdout
         self.folder = folder
         self.waiting = b""
-        self.pieces = []
-        self.posts = []
+        self.pieces: list[str] = []
+        self.posts: list[tuple[int, str]] = []
 
     @property
-    def status(self):
+    def status(self) -> int | None:
         return self.child.returncode
 
-    def send(self, lines):
+    def send(self, lines: list[str]) -> None:
         """Sends lines, as far as it reads them."""
         try:
-            self.child.stdin.write("".join(f"{line}\n" for line in lines).encode())
+            self.sink.write("".join(f"{line}\n" for line in lines).encode())
         except BrokenPipeError:
             pass
 
-    def line(self, until):
+    def line(self, until: float) -> str | None:
         """The next line that it says, or None at the end."""
         while b"\n" not in self.waiting:
             left = until - time.monotonic()
-            if left <= 0 or not select.select([self.child.stdout], [], [], left)[0]:
+            if left <= 0 or not select.select([self.source], [], [], left)[0]:
                 raise Silent(f"{self.folder}: silent")
-            octets = os.read(self.child.stdout.fileno(), 1 << 16)
+            octets = os.read(self.source.fileno(), 1 << 16)
             if not octets:
                 return None
             self.waiting += octets
         line, self.waiting = self.waiting.split(b"\n", 1)
         return line.decode("ascii")
 
-    def next_line(self):
+    def next_line(self) -> str | None:
         """The next line that it says as it is, or None at the end."""
         return self.line(time.monotonic() + LONGEST)
 
-    def answer(self):
+    def answer(self) -> list[str] | None:
         """The lines of the next answer without their numbers and without posts, or None where it ended before."""
         found, until = [], time.monotonic() + LONGEST
         while True:
@@ -75,29 +77,29 @@ class Process:
             if words[0] in ENDS:
                 return found
 
-    def fetched(self):
+    def fetched(self) -> list[tuple[int, str]]:
         """The messages that it posted since this was asked last."""
         posts, self.posts = self.posts, []
         return posts
 
-    def kill(self):
+    def kill(self) -> None:
         if self.child.poll() is None:
             self.child.send_signal(signal.SIGKILL)
 
-    def drained(self):
+    def drained(self) -> list[list[str]]:
         """The answers that it still gives until it ends."""
         found = []
         while (answer := self.answer()) is not None:
             found.append(answer)
         self.child.wait()
-        self.child.stdin.close()
-        self.child.stdout.close()
+        self.sink.close()
+        self.source.close()
         return found
 
-    def close(self):
+    def close(self) -> list[list[str]]:
         """Ends its input. Returns the answers that it still gives."""
         try:
-            self.child.stdin.close()
+            self.sink.close()
         except BrokenPipeError:
             pass
         return self.drained()
@@ -107,7 +109,7 @@ class Process:
 PIECE = 2000
 
 
-def take_lines(octets):
+def take_lines(octets: str) -> list[str]:
     """The lines that give a house a message, from its digits."""
     pieces = [octets[at : at + 2 * PIECE] for at in range(0, len(octets), 2 * PIECE)]
     return [f"more {piece}" for piece in pieces[:-1]] + [f"take {pieces[-1]}"]

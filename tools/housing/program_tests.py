@@ -290,6 +290,25 @@ def test_damage(room, kit):
         assert (status == 9) == is_damaged(path), at
 
 
+def test_an_octet_behind_a_record_that_is_not_put(room, kit):
+    """A crash in the first write of a put may leave all of the record, and any octet at its end. With a record behind it that is damage."""
+    folder = made(room, kit)
+    path = f"{folder}/1"
+    with open(path, "rb") as file:
+        octets = file.read()
+    records, gate = journals.listed(octets)
+    last = gate - len(records[-1]) - 9
+    closed = octets[:last] + b"\0" + octets[last + 1 : gate]
+    for end in [b"\0", b"\1", b"\2", b"\xff", b"", b"\1" + bytes(9)]:
+        with open(path, "wb") as file:
+            file.write(closed + end)
+        is_whole = len(end) < 10
+        assert last_said(kit, folder) == ((["0 last root 2", "0 ok"], 0) if is_whole else ([], 9)), end
+        assert is_damaged(path) != is_whole, end
+        if is_whole:
+            os.remove(f"{folder}/2")
+
+
 def is_damaged(path):
     """Whether a reader of segments, which is no house, says so."""
     try:

@@ -2,16 +2,16 @@
 import subprocess
 
 
-def answers_of(octets):
+def answers_of(octets: bytes) -> dict[int, list[str]]:
     """The answers of an output: the lines of each number without it."""
-    found = {}
+    found: dict[int, list[str]] = {}
     for line in octets.decode("ascii").splitlines():
         number, _, text = line.partition(" ")
         found.setdefault(int(number), []).append(text)
     return found
 
 
-def differences(program, script):
+def differences(program: str, script: list[tuple[str, list[str] | None]]) -> tuple[list[tuple[str, str, str]], int]:
     """What `PROGRAM run` answers otherwise than the script, as (line, answer, what is due), and how many lines were compared."""
     lines = "".join(f"{line}\n" for line, _ in script)
     ran = subprocess.run([program, "run"], input=lines.encode(), capture_output=True, check=False)

@@ -9,7 +9,7 @@ import explaining
 import journals
 import replaying
 from console import Console
-from ledger import Ledger
+from doors.ledger import Ledger
 from processes import Process, take_lines
 
 CELL, HOUSES = f"{building.ROOT}/tools/cell", f"{building.ROOT}/tools/houses"

@@ -9,3 +9,4 @@ mod Does
 pub mod Starting
 pub mod Restarting
 pub mod Looks
+pub mod RunningOn

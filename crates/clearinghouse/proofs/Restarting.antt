@@ -29,14 +29,15 @@ use Rattle.clearinghouse.proofs.Starting.{got_kept, got_started, image_valid, st
 -- ---- what it has
 
 -- what is had of a directory after a crash and a start
-abbrev again : DirState → DirState
+abbrev pub again : DirState → DirState
 again s = started_of (kept_of s)
 
 mapped_twice : (o : Option DirState) → option_map started_of (option_map kept_of o) ≡ option_map again o
 mapped_twice None = refl
 mapped_twice (Some s) = refl
 
-got_again : (c : Clearinghouse) (q : DirId) → get (house_after_restart c).dirs q ≡ option_map again (get c.dirs q)
+-- what it has then of a directory
+pub got_again : (c : Clearinghouse) (q : DirId) → get (house_after_restart c).dirs q ≡ option_map again (get c.dirs q)
 got_again c q = got_started (image_of c) q ∙ ap (option_map started_of) (got_kept c q) ∙ mapped_twice (get c.dirs q)
 
 -- ---- its floor

@@ -1,7 +1,7 @@
 -- A house that starts of an image.
-use Rattle.std.proofs.Common.{◌≡◌, ℕ, ◌<◌, ◌≤◌, Bool, true, false, cond, List, [], ◌∷◌, length, max, Option, Some, None, Result, Ok, Err, refl, sym}
+use Rattle.std.proofs.Common.{◌≡◌, ℕ, ◌≤◌, Bool, true, false, cond, List, [], ◌∷◌, max, Option, Some, None, Ok, refl, sym}
 use Rattle.std.proofs.Common.{ap, subst, ◌∙◌, arith}
-use Rattle.std.specs.Prelude.{◌+◌, IfOk, IfSome, map, if◌then◌else◌}
+use Rattle.std.specs.Prelude.{IfSome, map}
 use Rattle.std.specs.Option.{option_map}
 use Rattle.std.specs.FinMap.{FinMap, entries, find, from_entries, get, get-entries}
 use Rattle.std.specs.BTreeMap.{is_at}

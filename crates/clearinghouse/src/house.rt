@@ -61,7 +61,7 @@ impl Clearinghouse {
         self.house
     }
 
-    /// Its node.
+    /// The node of its stamps.
     pub fn node(&self) -> Node
         ensures { result ≡ self.now.node }
     {
@@ -89,28 +89,6 @@ impl Clearinghouse {
         ensures { result ≡ self.now.spent }
     {
         self.spent
-    }
-
-    /// The same clearinghouse once more.
-    pub fn copy(&self, alloc: Global) -> Result<Clearinghouse, AllocError>
-        ensures same { IfOk result (λ c. c ≡ self.now) }
-        ensures usable { IfOk result (λ _. self.now.spent ≡ false) }
-    {
-        self.usable()?;
-        let Clearinghouse {
-            house,
-            node,
-            floor,
-            dirs,
-            spent,
-        } = self;
-        Ok(Clearinghouse {
-            house: *house,
-            node: *node,
-            floor: *floor,
-            dirs: dirs.copy(alloc)?,
-            spent: *spent,
-        })
     }
 
     /// Makes a directory of which it is the master: in epoch 1, with a replica that is empty. It

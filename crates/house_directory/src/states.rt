@@ -139,17 +139,6 @@ impl DirStates {
     {
         Ok(self.states.insert(dir, state)?)
     }
-
-    /// The same of the same directories.
-    pub fn copy(&self, alloc: Global) -> Result<DirStates, AllocError>
-        ensures { IfOk result (λ d. d ≡ self.now) }
-    {
-        let mut copy = DirStates::new(alloc);
-        for (dir, state) in self.iter() {
-            copy.insert(*dir, state.copy(alloc)?)?;
-        }
-        Ok(copy)
-    }
 }
 
 impl DirState {
@@ -176,32 +165,9 @@ impl DirState {
             DirState::Gone(_) => None,
         }
     }
-
-    /// The same, with memory of its own.
-    pub fn copy(&self, alloc: Global) -> Result<DirState, AllocError>
-        ensures { IfOk result (λ d. d ≡ self.now) }
-    {
-        match self {
-            DirState::Held(held) => Ok(DirState::Held(held.copy(alloc)?)),
-            DirState::Gone(epoch) => Ok(DirState::Gone(*epoch)),
-        }
-    }
 }
 
 impl Held {
-    /// The same, with memory of its own.
-    pub fn copy(&self, alloc: Global) -> Result<Held, AllocError>
-        ensures { IfOk result (λ h. h ≡ self.now) }
-    {
-        let members = self.members.copy(alloc)?;
-        Ok(Held {
-            epoch: self.epoch,
-            members,
-            replica: self.replica.copy(alloc)?,
-            skulk: self.skulk,
-        })
-    }
-
     /// Whether this house accepts updates by the member list.
     pub(crate) fn accepts_from(&self, house: HouseNo) -> bool
         ensures { result ≡ is_accepting house.0 (members_of self.now.members) }

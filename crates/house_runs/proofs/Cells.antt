@@ -12,13 +12,8 @@ use Rattle.cell_runs.specs.HonestRuns.{IsHonest}
 use Rattle.cell_runs.specs.Orders.{AreRuns, IsOrderOf, MadeHouse, NoneRefused, commands_of, new_house, numbers_in}
 use Rattle.cell_runs.specs.Views.{view_from}
 use Rattle.house_runs.specs.Folders.{FolderSegment, folder_bodies}
-use Rattle.house_runs.specs.Runs.{AreFolders, AreOfCell, HouseRun, TellNoRun, TellRun, TellRuns, TellWithout, entries_at, houses_in}
+use Rattle.house_runs.specs.Runs.{AreFolders, AreHonest, AreOfCell, HouseRun, TellNoRun, TellRun, TellRuns, TellWithout, entries_at, houses_in}
 use Rattle.house_runs.proofs.Segments.{TellHouseOrNone, folders_tell}
-
--- runs of honest houses
-abbrev AreHonest : List HouseRun → Type 0
-AreHonest [] = Unit {0}
-AreHonest (r ∷ rs) = IsHonest r.made.house (new_house r.made.node) r.entries × AreHonest rs
 
 -- the records of folders tell runs of honest houses
 record TellAll (folders : List (List FolderSegment)) : Type 0 where
@@ -83,6 +78,7 @@ module _ (views : (houses : List MadeHouse) (logs : ℕ → List Entry) (line : 
       record {
         runs = all.runs;
         tell = all.tell;
+        honest = all.honest;
         cell = λ distinct line order.
             let logs : ℕ → List Entry = entries_at all.runs in
             let runs : AreRuns (houses_in all.runs) logs = record {

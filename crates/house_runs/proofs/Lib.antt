@@ -1,5 +1,6 @@
 mod JoinedWords
 mod Turns
+mod Readings
 mod Lines
 mod Waits
 mod Segments

@@ -2,7 +2,6 @@
 use Rattle.std.proofs.Common.{◌≡◌, ℕ, Bool, true, false, List, [], ◌++◌, length, refl, sym, ap, subst, ◌∙◌}
 use Rattle.std.specs.Prelude.{Option, Some, None, Result, Ok, Err, nat_lt}
 use Rattle.std.specs.FinMap.{get-empty}
-use Rattle.cds_records.specs.RecordOctets.{image_octets}
 use Rattle.cds_stamps.specs.declared.numbers.HouseNo.{HouseNo}
 use Rattle.cell_model.specs.Cells as model
 use Rattle.cell_script.specs.Words.{words_of}
@@ -12,11 +11,9 @@ use Rattle.script_answers.specs.declared.answer.Answer.TheVariants as answer
 use Rattle.house_directory.specs.ModelReplicas.{StandsSlot}
 use Rattle.house_directory.specs.declared.states.DirState.TheVariants as state
 use Rattle.house_directory.specs.declared.states.Held.{Held}
-use Rattle.clearinghouse.specs.HouseImages.{image_of}
 use Rattle.clearinghouse.specs.LawfulHouses.{IsLawful}
 use Rattle.clearinghouse.specs.ModelHouses.{StandsHouse}
 use Rattle.clearinghouse.specs.declared.house.Clearinghouse.{Clearinghouse}
-use Rattle.house_entries.specs.Bodies.{IsBody}
 use Rattle.house_lines.specs.LineRows.{said_in}
 use Rattle.house_lines.specs.declared.line.HouseLine.{HouseLine}
 use Rattle.house_lines.specs.declared.line.HouseLine.TheVariants as asks
@@ -25,10 +22,9 @@ use Rattle.cell_runs.specs.Orders.{new_house}
 use Rattle.house_turns.specs.declared.house.House.{House}
 use Rattle.house_turns.specs.declared.house.TheConstants.{MOST_MESSAGE}
 use Rattle.house_turns.specs.HouseReplies.{RepliesAnew, RepliesBy, RepliesIf, RepliesMoreIf, RepliesTake, RepliesTo, Responds, TellsLines, with_spaces, new_clearinghouse, turn_text}
-use Rattle.house_turns.specs.Records.{image_in}
 use Rattle.house_runs.specs.Tales.{IsMakingBody, LineSays}
 use Rattle.house_runs.proofs.JoinedWords.{words_again}
-use Rattle.house_runs.proofs.Lines.{Runs, record_runs}
+use Rattle.house_runs.proofs.Lines.{Runs}
 
 -- a new clearinghouse is for the new house of the model
 pub new_stands : (x : HouseNo) (node : ℕ) → StandsHouse (new_clearinghouse x node) (new_house node)
@@ -49,7 +45,7 @@ pub record Makes (body : List ℕ) (mid : House) : Type 0 where
   pub number : HouseNo
   pub node : ℕ
   pub makes : IsMakingBody body (record { house = number.0; node = node })
-  pub runs : Runs number.0 mid body (new_clearinghouse number node)
+  pub runs : Runs number.0 mid (new_clearinghouse number node)
 
 -- a line gives no record, and there is no house yet; or it makes one
 pub data LineWaits (said : Said) (mid : House) : Type 0 where
@@ -79,15 +75,12 @@ module _ (h : House) (home : h.home ≡ None) (number : ℕ) (said : Said) (mid 
             number = mid.entry;
             clock = mid.clock;
             line = with_spaces words;
-            image = image_octets (image_of c);
             house = x;
             says = is;
             numbered = refl;
-            is = subst
-                (λ (o : Option Clearinghouse). IsBody reply.octets mid.entry mid.clock (turn_text (with_spaces words) [] (answer_line answer.Done)) (image_in o))
-                made reply.record_is.body;
+            is = reply.record_is.body;
           };
-          runs = record_runs x.0 mid (turn_text (with_spaces words) [] (answer_line answer.Done)) reply.octets c made refl (new_lawful x node) reply.record_is;
+          runs = record { home = made; number = refl; lawful = new_lawful x node };
         })
 
     more_kept : (many : Bool) (octets : List ℕ) → RepliesMoreIf many h number octets said mid → LineWaits said mid

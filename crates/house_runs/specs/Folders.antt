@@ -34,8 +34,8 @@ abbrev pub OpensFrom : Option (List (List ℕ)) → House → Type 0
 OpensFrom None house = house ≡ new_house
 OpensFrom (Some bodies) house = OpensBy bodies house
 
--- a segment that follows a segment with these records begins with this one, and the house is so
--- then: it is opened and started; or it is as it was
+-- a segment that follows these records begins with this one, and the house is so then: it is opened
+-- and started; or it is as it was
 abbrev pub BeginsWith : Beginning → (last : Option (List (List ℕ))) → (house : House)
     → (first : List ℕ) → (begun : House) → Type 0
 BeginsWith ProcessBegins last house first begun =
@@ -44,7 +44,7 @@ BeginsWith ProcessBegins last house first begun =
 BeginsWith ProcessGoesOn last house first begun =
     (begun ≡ house) × IsSegmentRecord begun first
 
--- segments that follow a segment with these records, where the house is so
+-- segments that follow one with these records, where the house is so
 abbrev pub AreSegments : (last : Option (List (List ℕ))) → House → List FolderSegment → Type 0
 AreSegments last house [] = Unit {0}
 AreSegments last house (s ∷ ss) =
@@ -52,8 +52,9 @@ AreSegments last house (s ∷ ss) =
     × Dialogue Responds s.number begun s.turns at
     × AreSegments (Some (segment_bodies s)) at ss
 
--- the records of the last one of segments that follow one with these, if there is one
-abbrev pub last_bodies : (last : Option (List (List ℕ))) → List FolderSegment → Option (List (List ℕ))
+-- the records of the last of segments that follow these, if there is one
+abbrev pub last_bodies : (last : Option (List (List ℕ))) → List FolderSegment
+    → Option (List (List ℕ))
 last_bodies last [] = last
 last_bodies last (s ∷ ss) = last_bodies (Some (segment_bodies s)) ss
 

@@ -4,7 +4,8 @@ use Rattle.cell_model.specs.Agreement.{Converges}
 use Rattle.cell_model.specs.Cells.{empty_cell}
 use Rattle.cell_model.specs.Steps.{stands_twice}
 use Rattle.cell_runs.specs.Entries.{Entry}
-use Rattle.cell_runs.specs.Orders.{IsOrderOf, MadeHouse, NoneRefused, commands_of, numbers_in}
+use Rattle.cell_runs.specs.HonestRuns.{IsHonest}
+use Rattle.cell_runs.specs.Orders.{IsOrderOf, MadeHouse, NoneRefused, commands_of, new_house, numbers_in}
 use Rattle.cell_runs.specs.Views.{view_from}
 use Rattle.house_runs.specs.Folders.{FolderSegment, IsFolder, folder_bodies}
 use Rattle.house_runs.specs.Tales.{TellHouse, TellNoHouse}
@@ -51,10 +52,16 @@ pub record AreDone (rs : List HouseRun) (line : List (ℕ × Entry)) : Type 0 wh
   pub done : NoneRefused (commands_of (houses_in rs) line)
   pub settled : Converges (commands_of (houses_in rs) line)
 
--- folders are those of a cell: they tell runs, and the commands of any order of these do what they
--- tell, if no number and no node is there twice
+-- these are runs of houses that do as the model does
+abbrev pub AreHonest : List HouseRun → Type 0
+AreHonest [] = Unit {0}
+AreHonest (r ∷ rs) = IsHonest r.made.house (new_house r.made.node) r.entries × AreHonest rs
+
+-- folders are those of a cell: they tell runs of honest houses, and the commands of any order of
+-- these do what they tell, if no number and no node is there twice
 pub record AreOfCell (folders : List (List FolderSegment)) : Type 0 where
   pub runs : List HouseRun
   pub tell : TellRuns folders runs
+  pub honest : AreHonest runs
   pub cell : AreDistinct (houses_in runs) → (line : List (ℕ × Entry))
       → IsOrderOf (houses_in runs) (entries_at runs) line → AreDone runs line

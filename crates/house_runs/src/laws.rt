@@ -10,9 +10,10 @@ ghost use Rattle.house_serving.specs.declared.ending.Ending.{Ending};
 ghost use Rattle.house_turns.specs.HouseReplies.{Responds};
 ghost use Rattle.house_turns.specs.Openings.{HasTurn, after_start};
 ghost use Rattle.house_turns.specs.declared.house.House.{House};
-ghost use Rattle.house_runs.specs.Folders.{FolderSegment, HasLines, IsFolder, OpensFrom, folder_bodies, last_record};
+ghost use Rattle.house_runs.specs.Folders.{FolderSegment, HasLines, IsFolder, OpensFrom, folder_bodies, last_bodies};
 ghost use Rattle.house_runs.specs.Runs.{AreFolders, AreOfCell};
-ghost use Rattle.house_runs.specs.Tales.{TellHonestHouse, TellNoHouse};
+ghost use Rattle.cell_runs.specs.Entries.{TurnEntry};
+ghost use Rattle.house_runs.specs.Tales.{AreAlike, IsTurnBody, TellHonestHouse, TellNoHouse};
 
 use cell_runs::runs_are_cells;
 use house_journal::Disk;
@@ -41,12 +42,19 @@ pub fn running_houses_are_honest()
         → TellNoHouse (folder_bodies segments) ⊎ TellHonestHouse (folder_bodies segments) }
 {}
 
+/// A record tells one turn: of two that it tells the clock, the messages and the answer are the same,
+/// and one line says what both were told to do.
+pub fn a_record_tells_one_turn()
+    ensures { (body : List ℕ) (e f : TurnEntry)
+        → IsTurnBody body e → IsTurnBody body f → AreAlike e f }
+{}
+
 /// A house that starts can say its last turn again. Take a folder as the processes of a house leave
-/// it, with any crashes between, and a process that goes on from its last record: if a house was
-/// made, it has a last turn then, and the line and the answer of that are one line each.
+/// it, with any crashes between, and a process that goes on from the records of its last segment: if
+/// a house was made, it has a last turn then, and the line and the answer of that are one line each.
 pub fn each_start_has_a_turn()
     ensures { (segments : List FolderSegment) (opened : House)
-        → IsFolder segments → OpensFrom (last_record None segments) opened
+        → IsFolder segments → OpensFrom (last_bodies None segments) opened
         → HasTurn (after_start opened opened.home).home (after_start opened opened.home).last }
 {}
 

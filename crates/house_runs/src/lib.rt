@@ -4,4 +4,7 @@
 
 mod laws;
 
-pub use laws::{crashes_leave_lines, running_houses_are_cells, running_houses_are_honest};
+pub use laws::{
+    a_record_tells_one_turn, crashes_leave_lines, each_start_has_a_turn, running_houses_are_cells,
+    running_houses_are_honest,
+};

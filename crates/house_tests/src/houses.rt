@@ -215,7 +215,7 @@ fn a_skulk_brings_two_houses_together(rt: HostRuntime) -> Result<(), Fail> {
     for wanted in ROUNDS {
         assert_eq!(rt; delivered(alloc, &mut pair)?, wanted);
     }
-    assert_eq!(rt; entries_at(&pair.second.copy(alloc)?), Some(1));
+    assert_eq!(rt; entries_at(&pair.second), Some(1));
     Ok(())
 }
 
