@@ -1,5 +1,5 @@
 //! Tests of the ends of a program and of its disks, of what neither a clause nor a case says: how
-//! ends of std fail, and disks of which each call fails in turn.
+//! ends of std fail, disks of which each call fails in turn, and segments that a crash leaves.
 #![tactic(auto)]
 
 #[cfg(test)]
@@ -8,3 +8,5 @@ mod ends;
 mod faltering;
 #[cfg(test)]
 mod journals;
+#[cfg(test)]
+mod segments;

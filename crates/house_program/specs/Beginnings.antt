@@ -1,9 +1,11 @@
 -- What a process finds in the last segment of its folder, and what the next one begins with.
-use Rattle.std.specs.Prelude.{◌≡◌, ◌≢◌, ◌-◌, ℕ, List, [], ◌∷◌, ◌++◌, Option, None, Some, codes, length, map, replicate, take}
+use Rattle.std.specs.Prelude.{◌≡◌, ◌-◌, ℕ, Bool, false, if◌then◌else◌, List, [], ◌∷◌, ◌++◌, Option, None, Some, codes, length, map, replicate, take}
 use Rattle.house_journal.specs.JournalRecords.{images}
 use Rattle.house_entries.specs.Bodies.{head_of}
 use Rattle.house_segments.specs.Reading.{IsLast}
-use Rattle.house_turns.specs.Openings.{OpensBy, new_house}
+use Rattle.house_turns.specs.Openings.{OpensBy, begins_with, new_house}
+use Rattle.house_program.specs.declared.status.Status.{Status}
+use Rattle.house_program.specs.declared.status.Status.TheVariants.{BadFolder, OtherVersion}
 use Rattle.house_program.specs.Files.{NumberedFile, last_file}
 use Rattle.house_program.specs.declared.reading.FolderHouse.{FolderHouse}
 use Rattle.house_program.specs.declared.segments.Next.{Next}
@@ -34,12 +36,15 @@ pub record FindsSo (kept : List NumberedFile → Type 0) (f : FolderHouse) : Typ
   pub always : (files : List NumberedFile) → kept files → last_file files ≡ file
   pub is : IsFound file f
 
--- the first record begins as that of a segment of another version (own)
-pub record IsOtherVersion (octets : List ℕ) : Type 0 where
-  pub rest : List ℕ
-  pub others : List (List ℕ)
-  pub records : images octets ≡ (codes "cdshouse journal " ++ rest) ∷ others
-  pub other : (more : List ℕ) → rest ≢ codes "2 " ++ more
+-- the first of these records begins as that of a segment of another version (own)
+abbrev pub begins_otherwise : (records : List (List ℕ)) → Bool
+begins_otherwise [] = false
+begins_otherwise (head ∷ others) =
+    if begins_with (codes "cdshouse journal 2 ") head then false else begins_with (codes "cdshouse journal ") head
+
+-- why a segment is not read, if these are its records (own)
+abbrev pub status_not_read : (records : List (List ℕ)) → Status
+status_not_read records = if begins_otherwise records then OtherVersion else BadFolder
 
 -- the bodies that a segment begins with: its head, and its first record (own)
 abbrev pub first_bodies : Next → List (List ℕ)

@@ -1,9 +1,9 @@
 // What a process finds in the last segment of its folder: the house that its records say, which
 // does them again.
-ghost use Rattle.std.specs.Prelude.{◌≡◌, ◌≢◌, ◌↔◌, ◌++◌, ℕ, List, MatchOption, true, IfErr, IfOk, IsFalse, IsTrue, OnOk, map, replicate};
+ghost use Rattle.std.specs.Prelude.{◌≡◌, ◌≢◌, true, IfErr, IfOk, OnOk, map, replicate};
 ghost use Rattle.house_journal.specs.JournalRecords.{images};
 ghost use Rattle.house_program.specs.Beginnings as beginnings;
-ghost use Rattle.house_program.specs.Beginnings.{FindsSo, IsLastSegment, IsOtherVersion};
+ghost use Rattle.house_program.specs.Beginnings.{FindsSo, IsLastSegment, begins_otherwise, status_not_read};
 ghost use Rattle.house_program.specs.Files.{Quiet};
 ghost use Rattle.house_program.specs.declared.status.Status.TheVariants as statuses;
 ghost use Rattle.house_turns.specs.Openings.{EndsLife, OpensBy, RedoneBy, Resumes, new_house};
@@ -42,14 +42,6 @@ fn body_in(record: &[u8]) -> &[u8]
     ensures { result.now ≡ beginnings.body_in record.now }
 {
     &record[..record.len().saturating_sub(DIGEST)]
-}
-
-// What comes after the front of octets, if they begin so.
-fn behind<'a>(octets: &'a [u8], front: &[u8]) -> Option<&'a [u8]>
-    ensures { MatchOption result ((rest : List ℕ) → octets.now ≢ front.now ++ rest)
-        (λ rest. octets.now ≡ front.now ++ rest.now) }
-{
-    octets.strip_prefix(front)
 }
 
 // Does again what the records of these octets say.
@@ -92,22 +84,17 @@ fn ended(alloc: Global, house: House) -> Result<House, Status>
 
 // Whether octets begin as a segment of another version.
 fn is_other_version(octets: &[u8]) -> bool
-    ensures yes { IsTrue result → IsOtherVersion octets.now }
-    ensures no { IsFalse result → IsOtherVersion octets.now → ⊥ }
+    ensures { result ≡ begins_otherwise (images octets.now) }
 {
     let Some((head, _)) = first_record(octets) else {
         return false;
     };
-    match behind(head, b"cdshouse journal ") {
-        Some(rest) => behind(rest, b"2 ").is_none(),
-        None => false,
-    }
+    !head.starts_with(b"cdshouse journal 2 ") && head.starts_with(b"cdshouse journal ")
 }
 
 // Why octets are no segment.
 fn not_read(octets: &[u8]) -> Status
-    ensures other { result ≡ statuses.OtherVersion ↔ IsOtherVersion octets.now }
-    ensures bad { result ≢ statuses.OtherVersion → result ≡ statuses.BadFolder }
+    ensures { result ≡ status_not_read (images octets.now) }
 {
     if is_other_version(octets) {
         Status::OtherVersion
