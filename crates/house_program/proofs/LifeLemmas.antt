@@ -1,6 +1,6 @@
 -- What a process did, segment by segment.
 use Rattle.std.proofs.Common.{◌≡◌, ◌≢◌, ◌⊎◌, inl, inr, ⊎_elim, ℕ, ◌+◌, ◌<◌, List, [], ◌∷◌, ◌++◌, length, take, drop, refl, sym, ◌∙◌, ap, subst, append_assoc, append-nil, take-append-drop, arith}
-use Rattle.std.specs.Prelude.{Option, Some, None, Result, Ok, Err}
+use Rattle.std.specs.Prelude.{Option, Some, None, Result, Ok, Err, IsErrAnd}
 use Rattle.std.specs.Io.KnownBytes.{Appends, IsAtEnd}
 use Rattle.cds_base.specs.Lines.{fault_of_lines, lines_so_far, octets_ahead}
 use Rattle.cds_base.specs.SourceReading.{GrowsByReading}
@@ -25,6 +25,9 @@ use Rattle.house_program.specs.Lives.{IsFaultLine, IsSaid}
 use Rattle.house_program.specs.PrivateLives.{EndsDue, IsDue, IsPassed, IsWhole, SegmentDone, Spoken}
 use Rattle.house_program.specs.declared.segments.Left.{Left}
 use Rattle.house_program.specs.declared.segments.Next.{Next}
+use Rattle.house_program.specs.Statuses.{status_after, status_of_folder}
+use Rattle.house_program.specs.declared.folder.FolderFault.{FolderFault}
+use Rattle.house_program.specs.declared.folder.FolderFault.TheVariants as folders
 use Rattle.house_program.specs.declared.status.Status.{Status}
 use Rattle.house_program.specs.declared.status.Status.TheVariants as statuses
 
@@ -191,6 +194,16 @@ with_more kept kept1 number L L1 files fewer weaker w = record {
   split = w.split;
 }
 
+-- a segment that was begun, whether it got its number or not
+pub unnamed : {D : Type 0} (g : Ghosts D) (segment : Segment D) (next : Next) (base base1 kept kept1 X : Files → Type 0)
+    → IsAt g segment next.before (first_bodies next) → ((f : Files) → base1 f → base f) → ((f : Files) → kept1 f → kept f)
+    → ((f : Files) → X f → base1 f ⊎ WithFile kept1 next.number (g.may_leave (disk_of segment)) f)
+    → (f : Files) → X f → base f ⊎ WithFile kept next.number (HasBodies next.before (first_bodies next)) f
+unnamed g segment next base base1 kept kept1 X at fewer quiet either f is =
+    ⊎_elim (λ was. inl (fewer f was))
+    (λ w. inr (with_more kept kept1 next.number (HasBodies next.before (first_bodies next)) (g.may_leave (disk_of segment)) f quiet
+    (λ c l. left_at g next.before (first_bodies next) segment at c l) w)) (either f is)
+
 module _ (kept ever : Files → Type 0) (next : Next) (house : House) (lines : Lines) (run : Run) where
   abbrev AtFirst : List (List ℕ) → List ℕ → Type 0
   AtFirst more = HasFront next.before (first_bodies next) more
@@ -223,6 +236,15 @@ module _ (kept ever : Files → Type 0) (next : Next) (house : House) (lines : L
     where
       err_is : (a b : Status) → (let e : Result Left Status = Err a in e ≡ Err b) → a ≡ b
       err_is a b same = cc (same)
+
+  -- the same of any error that is no success
+  pub refused : (kept' ever' : Files → Type 0) (Q : Status → Type 0) (r : Result Left Status) → IsErrAnd r Q → ((s : Status) → Q s → s ≢ statuses.Ok)
+      → Appends run.written run.written' []
+      → ((files : Files) → kept' files → kept files ⊎ WithFile kept next.number (HasBodies next.before (first_bodies next)) files)
+      → ((files : Files) → ever' files → ever files ⊎ WithFile kept next.number (HasBodies next.before (first_bodies next)) files)
+      → SegmentDone kept ever kept' ever' next house house lines lines run r
+  refused kept' ever' Q (Ok x) is bad wrote at_end moments = absurd is
+  refused kept' ever' Q (Err s) is bad wrote at_end moments = unsaid kept' ever' s (bad s is) wrote at_end moments
 
   -- the segment was named, and lines were answered
   module _ {D : Type 0} (g : Ghosts D) (segment segment' : Segment D) (house' : House) (lines' : Lines) (ending : Ending)
@@ -274,3 +296,36 @@ module _ (kept ever : Files → Type 0) (next : Next) (house : House) (lines : L
           subst (λ (x : Left). EndsDue lines' run x.ending) same (subst (EndsDue lines' run) (sym so) s.due);
       not_ok = λ status is. absurd (cc (is));
     }
+
+-- ---- statuses
+
+pub folder_not_ok : (f : FolderFault) (s : Status) → s ≡ status_of_folder f → s ≢ statuses.Ok
+folder_not_ok folders.Unreadable s is ok = absurd (cc (is, ok))
+folder_not_ok folders.Taken s is ok = absurd (cc (is, ok))
+folder_not_ok folders.Failed s is ok = absurd (cc (is, ok))
+folder_not_ok folders.OutOfMemory s is ok = absurd (cc (is, ok))
+
+pub same_not_ok : (e s : Status) → e ≢ statuses.Ok → s ≡ e → s ≢ statuses.Ok
+same_not_ok e s bad same ok = bad (sym same ∙ ok)
+
+-- the status after an ending is a success where the input ended
+pub ok_ends : (e : Ending) (s : Status) → Some s ≡ status_after e → s ≡ statuses.Ok → e ≡ InputEnds
+ok_ends InputEnds s is ok = refl
+ok_ends BadInput s is ok = absurd (cc (is, ok))
+ok_ends ReadFault s is ok = absurd (cc (is, ok))
+ok_ends WriteFault s is ok = absurd (cc (is, ok))
+ok_ends OutOfMemory s is ok = absurd (cc (is, ok))
+ok_ends Full s is ok = absurd (cc (is, ok))
+ok_ends DiskFault s is ok = absurd (cc (is, ok))
+ok_ends Grown s is ok = absurd (cc (is, ok))
+
+-- the process goes on after this ending alone
+pub goes_on : (e : Ending) → None ≡ status_after e → e ≡ Grown
+goes_on InputEnds is = absurd (cc)
+goes_on BadInput is = absurd (cc)
+goes_on ReadFault is = absurd (cc)
+goes_on WriteFault is = absurd (cc)
+goes_on OutOfMemory is = absurd (cc)
+goes_on Full is = absurd (cc)
+goes_on DiskFault is = absurd (cc)
+goes_on Grown is = refl

@@ -1,6 +1,6 @@
 -- A process as it goes on from segment to segment, and what it did when it ends.
 use Rattle.std.proofs.Common.{◌≡◌, ◌≢◌, ◌⊎◌, inl, inr, ⊎_elim, ℕ, ◌+◌, ◌<◌, List, [], ◌∷◌, ◌++◌, length, refl, sym, ◌∙◌, ap, subst, append_assoc, append-nil, length-append, arith}
-use Rattle.std.specs.Prelude.{Option, Some, None, Result, Ok, Err}
+use Rattle.std.specs.Prelude.{Option, Some, None, Result, Ok, Err, IsErrAnd}
 use Rattle.std.specs.Io.KnownBytes.{Appends, IsAtEnd}
 use Rattle.cds_base.specs.Lines.{fault_of_lines, lines_so_far, octets_ahead}
 use Rattle.cds_base.specs.SourceReading.{GrowsByReading}
@@ -13,23 +13,26 @@ use Rattle.house_serving.specs.Serving.{HasFront, IsOver, Run}
 use Rattle.house_serving.specs.Turns.{Dialogue, Turn, bodies_of, lines_text, texts_of}
 use Rattle.house_serving.specs.declared.ending.Ending.{Ending}
 use Rattle.house_serving.specs.declared.ending.Ending.TheVariants.{Grown, InputEnds}
-use Rattle.house_serving.proofs.Runs.{reads_after}
+use Rattle.house_serving.proofs.Runs.{reads_after, run_between}
 use Rattle.house_serving.proofs.Works.{bodies-append, lines-append, talks_on, texts-append}
 use Rattle.house_turns.specs.HouseReplies.{Responds}
-use Rattle.house_turns.specs.Openings.{IsSegmentRecord, after_start, new_house}
+use Rattle.house_turns.specs.Openings.{IsSegmentRecord, after_start, new_house, start_text}
+use Rattle.house_turns.specs.Records.{IsRecord}
 use Rattle.house_turns.specs.declared.house.House.{House}
 use Rattle.house_runs.specs.Folders.{AreSegments, BeginsWith, Beginning, FolderSegment, OpensFrom, ProcessBegins, ProcessGoesOn, folder_bodies, last_bodies, segment_bodies}
 use Rattle.house_runs.proofs.Crashes.{Done, front_done, of_over}
-use Rattle.house_program.specs.Beginnings.{first_bodies}
+use Rattle.house_program.specs.Beginnings.{FindsSo, first_bodies}
 use Rattle.house_program.specs.Files.{Files, NumberedFile, WithFile, last_file, number_in}
 use Rattle.house_program.specs.HouseFolders.{AreFiles, BeginsAnew, EndsIn, Found, IsFront, IsHouseFolder, LeavesHouse, digest_after_all}
 use Rattle.house_program.specs.Lives.{IsAnswered, IsFirstText, IsIdle, IsKept, IsSaid, Life, Lived, turns_in}
 use Rattle.house_program.specs.PrivateLives.{EndsDue, IsDue, IsPassed, SegmentDone}
+use Rattle.house_program.specs.Statuses.{status_of}
+use Rattle.house_program.specs.declared.reading.FolderHouse.{FolderHouse}
 use Rattle.house_program.specs.declared.segments.Left.{Left}
 use Rattle.house_program.specs.declared.segments.Next.{Next}
 use Rattle.house_program.specs.declared.status.Status.{Status}
 use Rattle.house_program.specs.declared.status.Status.TheVariants as statuses
-use Rattle.house_program.proofs.FolderLemmas.{SegmentsTo, anew_on, are_segments, bodies_on, digests_on, file_on, house_on, none_to, segments_on}
+use Rattle.house_program.proofs.FolderLemmas.{SegmentsTo, anew_on, are_segments, bodies_on, digests_on, file_on, found_digest, found_number, found_of, found_opens, goes_from, house_on, none_to, number_of_found, segments_on}
 
 pub turns_on : (ss : List FolderSegment) (s : FolderSegment) → turns_in (ss ++ s ∷ []) ≡ turns_in ss ++ s.turns
 turns_on [] s = append-nil s.turns
@@ -450,3 +453,169 @@ lived_house kept ever kept' ever' run status (inr life) house always = (
   λ files k. front_house kept life.found _ files house (life.at_the_end files k).front,
   λ files e. ⊎_elim (always files) (λ f. front_house kept life.found _ files house f) (life.any_moment files e),
 )
+
+-- ---- a process at work, whatever it found and made so far
+pub record IsLiving (kept0 ever0 kept ever : Files → Type 0) (run : Run) (lines : Lines) (house : House) (next : Next) : Type 0 where
+  pub found : Found
+  pub opened : House
+  pub said : List ℕ
+  pub segments : List FolderSegment
+  pub prior : House
+  pub text : List ℕ
+  pub unsaid : List ℕ
+  pub made : Made kept0 ever0 kept ever found opened said run.left run.left' run.written run.written' lines segments prior text unsaid
+  pub ready : Ready kept found lines segments prior house unsaid next
+
+-- it began
+pub living_first : (kept ever : Files → Type 0) (f : FolderHouse) (so : FindsSo kept f) (left written : Option (List ℕ)) (reads writes : ℕ) (lines : Lines) (house : House) (next : Next)
+    → IsFirstText (after_start f.house f.house.home) next.said.items → octets_ahead lines ≡ [] → fault_of_lines lines ≡ None
+    → next.number ≡ f.number + 1 → next.before ≡ f.digest → house ≡ after_start f.house f.house.home
+    → IsRecord house (start_text f.house.home f.house.last) next.first.items
+    → IsLiving kept ever kept ever (run_between left left written written reads reads writes writes) lines house next
+living_first kept ever f so left written reads writes lines house next speaks none unbroken number digest is record_is =
+    let found = found_of f so.file so.is in
+    let at = found_number f so.file so.is in
+    let in_file = number_of_found f so.file so.is in
+    record {
+      found = found;
+      opened = f.house;
+      said = next.said.items;
+      segments = [];
+      prior = new_house;
+      text = [];
+      unsaid = next.said.items;
+      made =
+          starts_made kept ever found f.house next.said.items left written lines (found_opens f so.file so.is) speaks
+          (λ files k h. goes_from f so.file so.is files (so.always files k) h) none;
+      ready = record {
+        begins = ProcessBegins;
+        starts = (f.house, found_opens f so.file so.is, is, record_is);
+        first = λ no. refl;
+        number = omega (arith, number, at);
+        digest = digest ∙ sym (found_digest f so.file so.is);
+        says = refl;
+        above = λ files k. above_all files k;
+        unbroken = unbroken;
+      };
+    }
+  where
+    above_all : (files : Files) → kept files → number_in (last_file files) < next.number
+    above_all files k =
+        let same : number_in (last_file files) ≡ f.number = ap number_in (so.always files k) ∙ number_of_found f so.file so.is in
+        omega (arith, same, number)
+
+module _ (kept0 ever0 kept ever kept' ever' : Files → Type 0) (left left' left'' written written' written'' : Option (List ℕ)) (reads0 reads reads' writes0 writes writes' : ℕ)
+    (lines lines' : Lines) (house house' : House) (next : Next) (result : Result Left Status)
+    (l : IsLiving kept0 ever0 kept ever (run_between left left' written written' reads0 reads writes0 writes) lines house next)
+    (d : SegmentDone kept ever kept' ever' next house house' lines lines' (run_between left' left'' written' written'' reads reads' writes writes') result) where
+  abbrev whole_run : Run
+  whole_run = run_between left left'' written written'' reads0 reads' writes0 writes'
+
+  -- it ends in this segment
+  pub living_ends : (status : Status) → (status ≡ statuses.Ok → (x : Left) × (result ≡ Ok x) × (x.ending ≡ InputEnds))
+      → Lived kept0 ever0 kept' ever' whole_run status
+  living_ends status ok =
+      inr (ends kept0 ever0 kept ever l.found l.opened l.said left left' written written' lines l.segments l.prior house l.text l.unsaid next l.made l.ready
+      kept' ever' house' lines' left'' written'' reads reads' writes writes' result d reads0 reads' writes0 writes' status ok)
+
+  -- it goes on
+  pub living_on : (x : Left) → result ≡ Ok x → x.ending ≡ Grown → (next' : Next) → next'.number ≡ next.number + 1 → next'.before ≡ x.digest
+      → IsSegmentRecord house' next'.first.items → next'.said.items ≡ [] → IsLiving kept0 ever0 kept' ever' whole_run lines' house' next'
+  living_on x is grown next' number digest first none = record {
+    found = l.found;
+    opened = l.opened;
+    said = l.said;
+    segments = l.segments ++ segment_with kept0 ever0 kept ever l.found l.opened l.said left left' written written' lines l.segments l.prior house l.text l.unsaid next
+        l.made l.ready d.turns ∷ [];
+    prior = house';
+    text = l.text ++ d.text;
+    unsaid = [];
+    made =
+        passes kept0 ever0 kept ever l.found l.opened l.said left left' written written' lines l.segments l.prior house l.text l.unsaid next l.made l.ready
+        kept' ever' house' lines' left'' written'' reads reads' writes writes' result d x is grown;
+    ready =
+        gets_ready kept0 ever0 kept ever l.found l.opened l.said left left' written written' lines l.segments l.prior house l.text l.unsaid next l.made l.ready
+        kept' ever' house' lines' left'' written'' reads reads' writes writes' result d x is grown next' number digest first none;
+  }
+
+  -- it ends after this segment, since memory ran out
+  pub living_stops : (x : Left) → result ≡ Ok x → x.ending ≡ Grown → (status : Status) → status ≢ statuses.Ok → Lived kept0 ever0 kept' ever' whole_run status
+  living_stops x is grown status bad =
+      inr (rests kept0 ever0 kept' ever' l.found l.opened l.said whole_run lines' _ _ _ _
+      (passes kept0 ever0 kept ever l.found l.opened l.said left left' written written' lines l.segments l.prior house l.text l.unsaid next l.made l.ready
+      kept' ever' house' lines' left'' written'' reads reads' writes writes' result d x is grown) kept' ever' status bad (λ f k. k) (λ f e. e))
+
+-- ---- errors
+
+-- an error, and what holds of it
+pub err_lived : (kept0 ever0 kept ever : Files → Type 0) (run : Run) (Q : Status → Type 0) (r : Result Status Status) → IsErrAnd r Q
+    → ((s : Status) → Q s → Lived kept0 ever0 kept ever run s) → Lived kept0 ever0 kept ever run (status_of r)
+err_lived kept0 ever0 kept ever run Q (Ok s) is all = absurd is
+err_lived kept0 ever0 kept ever run Q (Err s) is all = all s is
+
+-- nothing was done before it
+pub idle : (kept ever kept' ever' : Files → Type 0) (run : Run) (status : Status) → status ≢ statuses.Ok → Appends run.written run.written' []
+    → ((f : Files) → kept' f → kept f) → ((f : Files) → ever' f → ever f) → Lived kept ever kept' ever' run status
+idle kept ever kept' ever' run status bad wrote fewer calm = inl record { wrote = wrote; calm = calm; fewer = fewer; not_ok = bad }
+
+pub memory_not_ok : (s : Status) → s ≡ statuses.OutOfMemory → s ≢ statuses.Ok
+memory_not_ok s is ok = absurd (cc (is, ok))
+
+pub full_not_ok : (s : Status) → s ≡ statuses.Full → s ≢ statuses.Ok
+full_not_ok s is ok = absurd (cc (is, ok))
+
+-- the same of a process that went on from less
+pub lived_later : (kept0 ever0 kept1 ever1 kept ever : Files → Type 0) (run : Run) (status : Status) → ((f : Files) → kept1 f → kept0 f) → ((f : Files) → ever1 f → ever0 f)
+    → Lived kept1 ever1 kept ever run status → Lived kept0 ever0 kept ever run status
+lived_later kept0 ever0 kept1 ever1 kept ever run status fewer calm (inl idle) =
+    inl record { wrote = idle.wrote; calm = λ f e. calm f (idle.calm f e); fewer = λ f k. fewer f (idle.fewer f k); not_ok = idle.not_ok }
+lived_later kept0 ever0 kept1 ever1 kept ever run status fewer calm (inr life) = inr record {
+  found = life.found;
+  opened = life.opened;
+  segments = life.segments;
+  over = life.over;
+  said = life.said;
+  text = life.text;
+  opens = life.opens;
+  speaks = life.speaks;
+  wrote = life.wrote;
+  any_moment = λ f e. ⊎_elim (λ was. inl (calm f was)) (λ x. inr (front_later f x)) (life.any_moment f e);
+  at_the_end = λ f k.
+      let x = life.at_the_end f k in
+      record {
+        front = record {
+          was = x.front.was;
+          made = x.front.made;
+          segments = x.front.segments;
+          more = x.front.more;
+          kept = fewer x.front.was x.front.kept;
+          after = x.front.after;
+          split = x.front.split;
+          are = x.front.are;
+          follow = x.front.follow;
+          begins = x.front.begins;
+          records = x.front.records;
+        };
+        started = x.started;
+        answered = x.answered;
+        more = x.more;
+        split = x.split;
+        says = x.says;
+      };
+  answers = life.answers;
+}
+  where
+    front_later : (f : Files) → IsFront kept1 life.found (folder_bodies life.segments ++ life.over) f → IsFront kept0 life.found (folder_bodies life.segments ++ life.over) f
+    front_later f x = record {
+      was = x.was;
+      made = x.made;
+      segments = x.segments;
+      more = x.more;
+      kept = fewer x.was x.kept;
+      after = x.after;
+      split = x.split;
+      are = x.are;
+      follow = x.follow;
+      begins = x.begins;
+      records = x.records;
+    }

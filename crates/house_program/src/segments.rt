@@ -95,11 +95,13 @@ fn speak_and_serve<S: Source, K: Sink, D: Disk>(
         lines.old lines.new (run_of S.left S.faults K.written K.faults source.old source.new
         sink.old sink.new) result }
 {
-    if put_all(sink, said).is_err() {
-        return Ending::WriteFault;
+    match put_all(sink, said) {
+        Ok(()) => {
+            let most = segment.size().saturating_mul(3).max(MOST_SEGMENT);
+            serve(alloc, house, segment, most, lines, source, sink)
+        }
+        Err(_) => Ending::WriteFault,
     }
-    let most = segment.size().saturating_mul(3).max(MOST_SEGMENT);
-    serve(alloc, house, segment, most, lines, source, sink)
 }
 
 /// Makes a segment, gives it its number, and answers lines until it has grown or the run ends.
