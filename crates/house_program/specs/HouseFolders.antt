@@ -57,7 +57,7 @@ BeginsAnew (s ∷ ss) = s.begins ≡ ProcessBegins
 
 -- files are those of before, from which a process goes on so, and then segments as it makes them,
 -- whose records are a front of these (own)
-pub record IsFront (old : Files → Type 0) (found : Found) (records : List (List ℕ)) (files : Files) : Type 0 where
+pub record IsFront (old : Files → Type 0) (found : Found) (all : List (List ℕ)) (files : Files) : Type 0 where
   pub was : Files
   pub made : Files
   pub segments : List FolderSegment
@@ -68,4 +68,4 @@ pub record IsFront (old : Files → Type 0) (found : Found) (records : List (Lis
   pub are : AreFiles (found.number + 1) found.digest segments made
   pub follow : AreSegments found.last new_house segments
   pub begins : BeginsAnew segments
-  pub records : records ≡ folder_bodies segments ++ more
+  pub records : all ≡ folder_bodies segments ++ more
