@@ -70,7 +70,7 @@ impl Twins {
     }
 }
 
-fn twins(alloc: Global) -> Result<Twins, Fail> {
+fn new_twins(alloc: Global) -> Result<Twins, Fail> {
     let mut house = House::new(alloc);
     let first = house.start(alloc)?;
     let Some(twin) = resume(alloc, &first)? else {
@@ -86,7 +86,7 @@ fn twins(alloc: Global) -> Result<Twins, Fail> {
 #[test]
 fn each_command_is_done_again(rt: HostRuntime) -> Result<(), Fail> {
     let alloc = rt.alloc();
-    let mut twins = twins(alloc)?;
+    let mut twins = new_twins(alloc)?;
     for line in LINES.iter() {
         twins.line(alloc, line)?;
         assert_eq!(rt;
@@ -111,7 +111,7 @@ fn each_command_is_done_again(rt: HostRuntime) -> Result<(), Fail> {
 fn an_altered_record_is_not_done_again(rt: HostRuntime) -> Result<(), Fail> {
     let alloc = rt.alloc();
     for count in 0..LINES.len() {
-        let mut twins = twins(alloc)?;
+        let mut twins = new_twins(alloc)?;
         for line in LINES.iter().take(count) {
             twins.line(alloc, line)?;
         }
@@ -126,7 +126,7 @@ fn an_altered_record_is_not_done_again(rt: HostRuntime) -> Result<(), Fail> {
 #[test]
 fn a_house_ends(rt: HostRuntime) -> Result<(), Fail> {
     let alloc = rt.alloc();
-    let mut twins = twins(alloc)?;
+    let mut twins = new_twins(alloc)?;
     for line in LINES.iter() {
         twins.line(alloc, line)?;
     }
