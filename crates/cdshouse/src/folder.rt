@@ -1,6 +1,9 @@
 // The folder of a house in a file system. No clause sees its files: that each call does what its
 // trait says of it has to be believed of these bodies.
 ghost use Rattle.std.specs.Prelude.{◌≡◌, Some, is_some};
+ghost use Rattle.cds_base.specs.Counts.{Rose};
+ghost use Rattle.house_program.specs.Files.{HasFolderCause};
+ghost use Rattle.house_program.specs.declared.folder.FolderFault.TheVariants as why;
 
 use crate::names::{number_in, path_of, segment_path};
 use file_disk::FileDisk;
@@ -95,24 +98,25 @@ fn renamed(rt: &HostRuntime, folder: &str, from: &str, to: &str) -> io::Result<(
     synced(rt, folder)
 }
 
-// Why a call that reads was not done.
-fn unread(error: &io::Error) -> FolderFault {
-    match error.kind() {
-        io::ErrorKind::OutOfMemory => FolderFault::OutOfMemory,
-        _ => FolderFault::Unreadable,
-    }
-}
-
 impl<'a> HostFolder<'a> {
     // Counts a failure.
-    fn failed(&mut self) -> FolderFault {
+    fn failed(&mut self) -> FolderFault
+        ensures fault { result ≡ why.Failed }
+        ensures lock { self.new.lock ≡ self.old.lock }
+        ensures named { self.new.named ≡ self.old.named }
+        ensures faults { Rose self.old.faults self.new.faults }
+    {
         self.faults = self.faults.saturating_add(1);
         FolderFault::Failed
     }
 
     // Syncs a file or the folder: a process may have died between a write and its sync, and then
     // it shows what a crash may still take away.
-    fn sync(&mut self, path: &str) -> Result<(), FolderFault> {
+    fn sync(&mut self, path: &str) -> Result<(), FolderFault>
+        ensures lock { self.new.lock ≡ self.old.lock }
+        ensures named { self.new.named ≡ self.old.named }
+        ensures cause { HasFolderCause self.old.faults self.new.faults result }
+    {
         match synced(self.rt, path) {
             Ok(()) => Ok(()),
             Err(_) => Err(self.failed()),
@@ -135,9 +139,8 @@ impl<'a> Folder for HostFolder<'a> {
 
     fn lock(&mut self) -> Result<(), FolderFault> {
         let path = self.path_to("lock")?;
-        let file = match opened(self.rt, path.as_str(), false) {
-            Ok(file) => file,
-            Err(error) => return Err(unread(&error)),
+        let Ok(file) = opened(self.rt, path.as_str(), false) else {
+            return Err(FolderFault::Unreadable);
         };
         match file.try_lock() {
             Ok(()) => {
@@ -154,13 +157,16 @@ impl<'a> Folder for HostFolder<'a> {
         let number = match greatest(self.rt, self.path) {
             Ok(0) => return Ok(None),
             Ok(number) => number,
-            Err(error) => return Err(unread(&error)),
+            Err(_) => return Err(FolderFault::Unreadable),
         };
         let path = self.segment(number)?;
         self.sync(path.as_str())?;
         match fs::read(self.rt, path.as_str()) {
             Ok(octets) => Ok(Some(LastFile { number, octets })),
-            Err(error) => Err(unread(&error)),
+            Err(error) if error.kind() == io::ErrorKind::OutOfMemory => {
+                Err(FolderFault::OutOfMemory)
+            }
+            Err(_) => Err(FolderFault::Unreadable),
         }
     }
 

@@ -36,11 +36,14 @@ pub record FindsSo (kept : List NumberedFile → Type 0) (f : FolderHouse) : Typ
   pub always : (files : List NumberedFile) → kept files → last_file files ≡ file
   pub is : IsFound file f
 
--- the first of these records begins as that of a segment of another version (own)
+-- a first record is the head of a segment of another version (own)
+abbrev pub is_other_head : List ℕ → Bool
+is_other_head head = if begins_with (codes "cdshouse journal 2 ") head then false else begins_with (codes "cdshouse journal ") head
+
+-- the first of these records is so (own)
 abbrev pub begins_otherwise : (records : List (List ℕ)) → Bool
 begins_otherwise [] = false
-begins_otherwise (head ∷ others) =
-    if begins_with (codes "cdshouse journal 2 ") head then false else begins_with (codes "cdshouse journal ") head
+begins_otherwise (head ∷ others) = is_other_head head
 
 -- why a segment is not read, if these are its records (own)
 abbrev pub status_not_read : (records : List (List ℕ)) → Status

@@ -82,14 +82,25 @@ fn ended(alloc: Global, house: House) -> Result<House, Status>
     }
 }
 
+// Whether a first record is the head of a segment of another version.
+fn is_other_head(head: &[u8]) -> bool
+    ensures { result ≡ beginnings.is_other_head head.now }
+{
+    if head.starts_with(b"cdshouse journal 2 ") {
+        false
+    } else {
+        head.starts_with(b"cdshouse journal ")
+    }
+}
+
 // Whether octets begin as a segment of another version.
 fn is_other_version(octets: &[u8]) -> bool
     ensures { result ≡ begins_otherwise (images octets.now) }
 {
-    let Some((head, _)) = first_record(octets) else {
-        return false;
-    };
-    !head.starts_with(b"cdshouse journal 2 ") && head.starts_with(b"cdshouse journal ")
+    match first_record(octets) {
+        Some((head, _)) => is_other_head(head),
+        None => false,
+    }
 }
 
 // Why octets are no segment.
