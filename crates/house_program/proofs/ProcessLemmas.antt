@@ -545,6 +545,12 @@ module _ (kept0 ever0 kept ever kept' ever' : Files → Type 0) (left left' left
       (passes kept0 ever0 kept ever l.found l.opened l.said left left' written written' lines l.segments l.prior house l.text l.unsaid next l.made l.ready
       kept' ever' house' lines' left'' written'' reads reads' writes writes' result d x is grown) kept' ever' status bad (λ f k. k) (λ f e. e))
 
+-- it ends between two segments
+pub living_rests : (kept0 ever0 kept ever : Files → Type 0) (run : Run) (lines : Lines) (house : House) (next : Next) (status : Status)
+    → IsLiving kept0 ever0 kept ever run lines house next → status ≢ statuses.Ok → Lived kept0 ever0 kept ever run status
+living_rests kept0 ever0 kept ever run lines house next status l bad =
+    inr (rests kept0 ever0 kept ever l.found l.opened l.said run lines l.segments l.prior l.text l.unsaid l.made kept ever status bad (λ f k. k) (λ f e. e))
+
 -- ---- errors
 
 -- an error, and what holds of it
