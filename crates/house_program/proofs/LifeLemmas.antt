@@ -195,14 +195,14 @@ with_more kept kept1 number L L1 files fewer weaker w = record {
 }
 
 -- a segment that was begun, whether it got its number or not
-pub unnamed : {D : Type 0} (g : Ghosts D) (segment : Segment D) (next : Next) (base base1 kept kept1 X : Files → Type 0)
-    → IsAt g segment next.before (first_bodies next) → ((f : Files) → base1 f → base f) → ((f : Files) → kept1 f → kept f)
-    → ((f : Files) → X f → base1 f ⊎ WithFile kept1 next.number (g.may_leave (disk_of segment)) f)
+pub unnamed : {D : Type 0} (g : Ghosts D) (segment : Segment D) (d : D) (next : Next) (base base1 kept kept1 X : Files → Type 0)
+    → d ≡ disk_of segment → IsAt g segment next.before (first_bodies next) → ((f : Files) → base1 f → base f) → ((f : Files) → kept1 f → kept f)
+    → ((f : Files) → X f → base1 f ⊎ WithFile kept1 next.number (g.may_leave d) f)
     → (f : Files) → X f → base f ⊎ WithFile kept next.number (HasBodies next.before (first_bodies next)) f
-unnamed g segment next base base1 kept kept1 X at fewer quiet either f is =
+unnamed {D} g segment d next base base1 kept kept1 X same at fewer quiet either f is =
     ⊎_elim (λ was. inl (fewer f was))
-    (λ w. inr (with_more kept kept1 next.number (HasBodies next.before (first_bodies next)) (g.may_leave (disk_of segment)) f quiet
-    (λ c l. left_at g next.before (first_bodies next) segment at c l) w)) (either f is)
+    (λ w. inr (with_more kept kept1 next.number (HasBodies next.before (first_bodies next)) (g.may_leave d) f quiet
+    (λ c l. left_at g next.before (first_bodies next) segment at c (subst (λ (x : D). g.may_leave x c) same l)) w)) (either f is)
 
 module _ (kept ever : Files → Type 0) (next : Next) (house : House) (lines : Lines) (run : Run) where
   abbrev AtFirst : List (List ℕ) → List ℕ → Type 0
@@ -252,14 +252,15 @@ module _ (kept ever : Files → Type 0) (next : Next) (house : House) (lines : L
     abbrev All : List ℕ → Type 0
     All = HasFront next.before (first_bodies next) (bodies_of s.turns ++ s.over)
 
-    pub named : (kept1 ever1 kept2 ever2 kept3 ever3 : Files → Type 0) (left : Left) → left.ending ≡ ending → IsAt g segment next.before (first_bodies next)
+    pub named : (kept1 ever1 kept2 ever2 kept3 ever3 : Files → Type 0) (left : Left) (d d' : D) → left.ending ≡ ending → IsAt g segment next.before (first_bodies next)
         → ((before : List ℕ) (bodies : List (List ℕ)) → IsAt g segment' before bodies → left.digest ≡ last_digest before bodies)
+        → d ≡ disk_of segment → d' ≡ disk_of segment'
         → ((f : Files) → kept1 f → kept f) → ((f : Files) → ever1 f → ever f) → ((f : Files) → kept2 f → kept1 f)
-        → ((f : Files) → ever2 f → ever1 f ⊎ WithFile kept1 next.number (g.may_leave (disk_of segment)) f)
-        → ((f : Files) → kept3 f → WithFile kept2 next.number (g.may_leave (disk_of segment')) f)
-        → ((f : Files) → ever3 f → ever2 f ⊎ WithFile kept2 next.number (g.left_since (disk_of segment') (g.moment (disk_of segment))) f)
+        → ((f : Files) → ever2 f → ever1 f ⊎ WithFile kept1 next.number (g.may_leave d) f)
+        → ((f : Files) → kept3 f → WithFile kept2 next.number (g.may_leave d') f)
+        → ((f : Files) → ever3 f → ever2 f ⊎ WithFile kept2 next.number (g.left_since d' (g.moment d)) f)
         → SegmentDone kept ever kept3 ever3 next house house' lines lines' run (Ok left)
-    named kept1 ever1 kept2 ever2 kept3 ever3 left so at digest quiet calm others naming closing moments = record {
+    named kept1 ever1 kept2 ever2 kept3 ever3 left d d' so at digest same same' quiet calm others naming closing moments = record {
       turns = s.turns;
       over = s.over;
       text = s.text;
@@ -269,14 +270,16 @@ module _ (kept ever : Files → Type 0) (next : Next) (house : House) (lines : L
       wrote = s.wrote;
       any_moment = λ files is. ⊎_elim
           (λ was. ⊎_elim (λ old. inl (calm files old))
-          (λ w. inr (with_more kept kept1 next.number All (g.may_leave (disk_of segment)) files quiet
-          (λ c l. front_none next.before (first_bodies next) (bodies_of s.turns ++ s.over) c (left_at g next.before (first_bodies next) segment at c l)) w))
+          (λ w. inr (with_more kept kept1 next.number All (g.may_leave d) files quiet
+          (λ c l. front_none next.before (first_bodies next) (bodies_of s.turns ++ s.over) c
+          (left_at g next.before (first_bodies next) segment at c (subst (λ (x : D). g.may_leave x c) same l))) w))
           (naming files was))
-          (λ w. inr (with_more kept kept2 next.number All (g.left_since (disk_of segment') (g.moment (disk_of segment))) files (λ f k. quiet f (others f k))
-          s.crash.each w))
+          (λ w. inr (with_more kept kept2 next.number All (g.left_since d' (g.moment d)) files (λ f k. quiet f (others f k))
+          (λ c l. s.crash.each c (subst (λ (x : D). g.left_since x (g.moment (disk_of segment)) c) same'
+          (subst (λ (x : D). g.left_since d' (g.moment x) c) same l))) w))
           (moments files is);
       at_the_end = λ files is. inr (with_more kept kept2 next.number (HasFront next.before (first_bodies next ++ bodies_of s.turns) s.over)
-          (g.may_leave (disk_of segment')) files (λ f k. quiet f (others f k)) s.acknowledged (closing files is));
+          (g.may_leave d') files (λ f k. quiet f (others f k)) (λ c l. s.acknowledged c (subst (λ (x : D). g.may_leave x c) same' l)) (closing files is));
       says = s.says;
       passed = λ l is due.
           let same : left ≡ l = cc (is) in
@@ -287,8 +290,8 @@ module _ (kept ever : Files → Type 0) (next : Next) (house : House) (lines : L
             all = w.all;
             digest = digest next.before (first_bodies next ++ bodies_of s.turns) w.synced;
             leaves = λ files is. with_more kept kept2 next.number (HasBodies next.before (first_bodies next ++ bodies_of s.turns))
-                (g.may_leave (disk_of segment')) files (λ f k. quiet f (others f k))
-                (λ c l. left_at g next.before (first_bodies next ++ bodies_of s.turns) segment' w.synced c l) (closing files is);
+                (g.may_leave d') files (λ f k. quiet f (others f k))
+                (λ c l. left_at g next.before (first_bodies next ++ bodies_of s.turns) segment' w.synced c (subst (λ (x : D). g.may_leave x c) same' l)) (closing files is);
             read = w.read;
           };
       due = λ l is.

@@ -3,7 +3,7 @@ use Rattle.house_program.proofs.ReadLemmas.{IsRedoing}
 use Rattle.house_program.proofs.reading.redo_all.Given as goal
 
 abbrev pub invariant-records : goal.invariant-records
-invariant-records g l = IsRedoing l.octets l.rest g.house.old l.house
+invariant-records l = IsRedoing l.octets l.rest l.fn.house l.house
 
 abbrev pub decreases-records : goal.decreases-records
-decreases-records g l = length l.rest
+decreases-records l = length l.rest

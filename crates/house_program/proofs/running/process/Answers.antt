@@ -6,7 +6,7 @@ use Rattle.house_program.proofs.running.process.Goals as goal
 
 pub returns-in_err-lock : goal.returns-in_err-lock
 returns-in_err-lock g c =
-    err_lived _ _ _ _ _ _ c.from_residual-in_err-lock.result c.from_residual-in_err-lock.ensures.1
+    err_lived _ _ _ _ _ _ c.from_residual.result c.from_residual.ensures.1
     (λ s is. idle _ _ _ _ _ s (folder_not_ok _ s is) (appends_none _) c.lock.ensures.quiet.fewer c.lock.ensures.quiet.calm)
 
 pub returns-in_err-found : goal.returns-in_err-found

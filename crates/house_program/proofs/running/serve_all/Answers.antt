@@ -6,7 +6,7 @@ use Rattle.house_program.proofs.running.serve_all.Goals as goal
 
 pub returns-in_err-lines : goal.returns-in_err-lines
 returns-in_err-lines g c =
-    err_lived _ _ _ _ _ _ c.from_residual-in_err-lines.result c.from_residual-in_err-lines.ensures.1
+    err_lived _ _ _ _ _ _ c.from_residual.result c.from_residual.ensures.1
     (λ s is. idle _ _ _ _ _ s (memory_not_ok s is) (appends_none _) (λ f k. k) (λ f e. e))
 
 pub returns-in_err-first : goal.returns-in_err-first
