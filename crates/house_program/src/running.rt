@@ -41,8 +41,8 @@ fn serve_all<F: Folder, S: Source, K: Sink>(
         if let Some(status) = Status::after(left.ending) {
             return Ok(status);
         }
-        let first = house.next_segment(alloc)?;
-        next = next_after(next.number, left.digest, first, Vec::new(alloc))?;
+        let record = house.next_segment(alloc)?;
+        next = next_after(next.number, left.digest, record, Vec::new(alloc))?;
     }
     Ok(Status::Full)
 }
