@@ -1,7 +1,4 @@
 // Segments whose last put was stopped, and segments that are damaged.
-ghost use Rattle.std.specs.Prelude.{◌≡◌, [], ℕ, List, IfOk};
-ghost use Rattle.house_segments.specs.Segments.{IsAt};
-
 use house_journal::{Disk, MemDisk};
 use house_segments::{DIGEST, LastRecord, Segment, last_record};
 use std::alloc::Global;
@@ -19,23 +16,16 @@ fn octets_of(alloc: Global, disk: &mut MemDisk) -> Result<Vec<u8>, Fail> {
     }
 }
 
-// A segment with a head and a first record.
-fn segment_of_two(alloc: Global) -> Result<Segment<MemDisk>, Fail>
-    ensures { IfOk result (λ s. (before : List ℕ) × (bodies : List (List ℕ))
-        × IsAt MemDisk.Disk s before bodies) }
-{
+// The octets of a segment of three records: its head, and two more, of 46 and 47 octets with their
+// gates. The closed gate follows.
+fn octets_of_three(alloc: Global) -> Result<Vec<u8>, Fail> {
     let before = [7; DIGEST];
     let mut head = Vec::from_slice(alloc, b"title")?;
     head.extend_from_slice(&before)?;
-    match Segment::begin(alloc, MemDisk::new(alloc), before, &head, b"first") {
-        Ok(segment) => Ok(segment),
-        Err(_) => Err("no segment".into()),
-    }
-}
-
-// Its octets after one record more, of 47 octets with its gate; the closed gate follows.
-fn octets_of_three(alloc: Global) -> Result<Vec<u8>, Fail> {
-    let mut segment = segment_of_two(alloc)?;
+    let begun = Segment::begin(alloc, MemDisk::new(alloc), before, &head, b"first");
+    let Ok(mut segment) = begun else {
+        return Err("no segment".into());
+    };
     if segment.put(alloc, b"second").is_err() {
         return Err("no record".into());
     }
