@@ -55,8 +55,8 @@ const LAST_GATE: usize = 48;
 
 const GATE_BEFORE: usize = 94;
 
-// A crash in a put leaves any octet as its gate, or 0 there and any octets behind. So the last octet
-// of the file may be 1 although nothing follows.
+// A crash in a put leaves any octet as its gate, or 0 there and any octets after it. So the last
+// octet of the file may be 1 although nothing follows.
 #[test]
 fn a_stopped_put_leaves_a_segment(rt: HostRuntime) -> Result<(), Fail> {
     let octets = octets_of_three(rt.alloc())?;

@@ -14,7 +14,8 @@ use Rattle.house_program.specs.declared.segments.Next.{Next}
 abbrev pub body_in : (record_octets : List ℕ) → List ℕ
 body_in r = take (length r - 32) r
 
--- the octets are a segment of this number, and the house goes on from its records after the head (own)
+-- the octets are a segment of this number, and the house goes on from its records after the head
+-- (own)
 pub record IsLastSegment (number : ℕ) (octets : List ℕ) (f : FolderHouse) : Type 0 where
   pub head : List ℕ
   pub others : List (List ℕ)
@@ -30,7 +31,8 @@ abbrev pub IsFound : Option NumberedFile → FolderHouse → Type 0
 IsFound None f = (f.house ≡ new_house) × (f.number ≡ 0) × (f.digest ≡ replicate 32 0)
 IsFound (Some file) f = IsLastSegment file.number file.octets f
 
--- what a process finds is the last file, which is this one, if there is one, whatever a crash leaves (own)
+-- what a process finds is the last file, which is this one, if there is one, whatever a crash
+-- leaves (own)
 pub record FindsSo (kept : List NumberedFile → Type 0) (f : FolderHouse) : Type 0 where
   pub file : Option NumberedFile
   pub always : (files : List NumberedFile) → kept files → last_file files ≡ file
@@ -38,7 +40,8 @@ pub record FindsSo (kept : List NumberedFile → Type 0) (f : FolderHouse) : Typ
 
 -- a first record is the head of a segment of another version (own)
 abbrev pub is_other_head : List ℕ → Bool
-is_other_head head = if begins_with (codes "cdshouse journal 2 ") head then false else begins_with (codes "cdshouse journal ") head
+is_other_head head = if begins_with (codes "cdshouse journal 2 ") head then false else begins_with
+    (codes "cdshouse journal ") head
 
 -- the first of these records is so (own)
 abbrev pub begins_otherwise : (records : List (List ℕ)) → Bool

@@ -30,7 +30,8 @@ last_file = last_or None
 
 -- a crash may leave these other files, and then the one of this number, with octets that a crash
 -- may leave of it (own)
-pub record WithFile (others : Files → Type 0) (number : ℕ) (may_leave : List ℕ → Type 0) (files : Files) : Type 0 where
+pub record WithFile (others : Files → Type 0) (number : ℕ) (may_leave : List ℕ → Type 0)
+    (files : Files) : Type 0 where
   pub front : Files
   pub octets : List ℕ
   pub before : others front
@@ -38,12 +39,14 @@ pub record WithFile (others : Files → Type 0) (number : ℕ) (may_leave : List
   pub split : files ≡ front ++ record { number = number; octets = octets } ∷ []
 
 -- a call after which a crash leaves nothing that it might not have left before (own)
-pub record Quiet {F : Type 0} (kept left_ever : F → Files → Type 0) (named_at : F → ℕ → ℕ → Type 0) (old new : F) : Type 0 where
+pub record Quiet {F : Type 0} (kept left_ever : F → Files → Type 0) (named_at : F → ℕ → ℕ → Type 0)
+    (old new : F) : Type 0 where
   pub fewer : (files : Files) → kept new files → kept old files
   pub calm : (files : Files) → left_ever new files → left_ever old files
   pub names : (number moment : ℕ) → named_at new number moment → named_at old number moment
 
--- a call answers Failed only where the count of failures rose, which it does at no other answer (own)
+-- a call answers Failed only where the count of failures rose, which it does at no other answer
+-- (own)
 abbrev pub HasFolderCause : {T : Type 0} → (before now : ℕ) → Result T FolderFault → Type 0
 HasFolderCause before now (Ok x) = now ≡ before
 HasFolderCause before now (Err Failed) = Rose before now

@@ -15,17 +15,20 @@ bodies_in_file number before s = head_of number before ∷ segment_bodies s
 -- the digest after segments, of which the first has this number and comes after this digest (own)
 abbrev pub digest_after_all : (number : ℕ) → (before : List ℕ) → List FolderSegment → List ℕ
 digest_after_all number before [] = before
-digest_after_all number before (s ∷ ss) = digest_after_all (number + 1) (last_digest before (bodies_in_file number before s)) ss
+digest_after_all number before (s ∷ ss) = digest_after_all (number + 1)
+    (last_digest before (bodies_in_file number before s)) ss
 
 -- files are these segments, of which the first has this number and comes after this digest (own)
 abbrev pub AreFiles : (number : ℕ) → (before : List ℕ) → List FolderSegment → Files → Type 0
 AreFiles number before [] files = files ≡ []
 AreFiles number before (s ∷ ss) files =
-    (octets : List ℕ) × (others : Files) × (files ≡ record { number = number; octets = octets } ∷ others)
+    (octets : List ℕ) × (others : Files) × (files
+    ≡ record { number = number; octets = octets } ∷ others)
     × HasBodies before (bodies_in_file number before s) octets
     × AreFiles (number + 1) (last_digest before (bodies_in_file number before s)) ss others
 
--- files are what the processes of a house left, with any crashes between; the oldest may be gone (own)
+-- files are what the processes of a house left, with any crashes between; the oldest may be gone
+-- (own)
 pub record IsHouseFolder (files : Files) : Type 0 where
   pub gone : List FolderSegment
   pub segments : List FolderSegment
@@ -57,7 +60,8 @@ BeginsAnew (s ∷ ss) = s.begins ≡ ProcessBegins
 
 -- files are those of before, from which a process goes on so, and then segments as it makes them,
 -- whose records are a front of these (own)
-pub record IsFront (old : Files → Type 0) (found : Found) (all : List (List ℕ)) (files : Files) : Type 0 where
+pub record IsFront (old : Files → Type 0) (found : Found) (all : List (List ℕ))
+    (files : Files) : Type 0 where
   pub was : Files
   pub made : Files
   pub segments : List FolderSegment

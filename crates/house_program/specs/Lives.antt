@@ -22,7 +22,8 @@ turns_in (s ∷ ss) = s.turns ++ turns_in ss
 
 -- what a house says first (own)
 abbrev pub IsFirstText : House → List ℕ → Type 0
-IsFirstText h said = (turn : HasTurn h.home h.last) → said ≡ texts.lines_text 0 (first_lines h h.home turn)
+IsFirstText h said = (turn : HasTurn h.home h.last) → said ≡ texts.lines_text 0
+    (first_lines h h.home turn)
 
 -- nothing, or the line of a fault of octets (own)
 abbrev pub IsFaultLine : List ℕ → Type 0
@@ -38,7 +39,8 @@ pub record IsSaid (said : List ℕ) (turns : List Turn) (text : List ℕ) : Type
 
 -- A crash leaves a front of what was made, and of that all that was said: if anything was, the
 -- start; and the lines that were answered, and perhaps more (own)
-pub record IsKept (kept : Files → Type 0) (found : Found) (records : List (List ℕ)) (said text : List ℕ) (files : Files) : Type 0 where
+pub record IsKept (kept : Files → Type 0) (found : Found) (records : List (List ℕ))
+    (said text : List ℕ) (files : Files) : Type 0 where
   pub front : IsFront kept found records files
   pub started : front.segments ≡ [] → text ≡ []
   pub answered : List Turn
@@ -55,7 +57,8 @@ pub record IsAnswered (run : Run) (said : List ℕ) (turns : List Turn) (text : 
 -- What a process did. It went on from the last segment, and put these records; it said this. A
 -- crash at any moment left the folder of before and a front of the records; one after it leaves all
 -- of which anything was said (own)
-pub record Life (kept ever kept' ever' : Files → Type 0) (run : Run) (status : Status) : Type 0 where
+pub record Life (kept ever kept' ever' : Files → Type 0) (run : Run)
+    (status : Status) : Type 0 where
   pub found : Found
   pub opened : House
   pub segments : List FolderSegment
@@ -65,12 +68,15 @@ pub record Life (kept ever kept' ever' : Files → Type 0) (run : Run) (status :
   pub opens : OpensFrom found.last opened
   pub speaks : IsFirstText (after_start opened opened.home) said
   pub wrote : Appends run.written run.written' text
-  pub any_moment : (files : Files) → ever' files → ever files ⊎ IsFront kept found (folder_bodies segments ++ over) files
-  pub at_the_end : (files : Files) → kept' files → IsKept kept found (folder_bodies segments ++ over) said text files
+  pub any_moment : (files : Files) → ever' files → ever files ⊎ IsFront kept found
+      (folder_bodies segments ++ over) files
+  pub at_the_end : (files : Files) → kept' files → IsKept kept found
+      (folder_bodies segments ++ over) said text files
   pub answers : status ≡ Ok → IsAnswered run said (turns_in segments) text
 
 -- nothing was said, and nothing done that a crash may leave (own)
-pub record IsIdle (kept ever kept' ever' : Files → Type 0) (run : Run) (status : Status) : Type 0 where
+pub record IsIdle (kept ever kept' ever' : Files → Type 0) (run : Run)
+    (status : Status) : Type 0 where
   pub wrote : Appends run.written run.written' []
   pub calm : (files : Files) → ever' files → ever files
   pub fewer : (files : Files) → kept' files → kept files
@@ -78,4 +84,5 @@ pub record IsIdle (kept ever kept' ever' : Files → Type 0) (run : Run) (status
 
 -- a process did nothing, or it lived (own)
 abbrev pub Lived : (kept ever kept' ever' : Files → Type 0) → Run → Status → Type 0
-Lived kept ever kept' ever' run status = IsIdle kept ever kept' ever' run status ⊎ Life kept ever kept' ever' run status
+Lived kept ever kept' ever' run status = IsIdle kept ever kept' ever' run status
+    ⊎ Life kept ever kept' ever' run status

@@ -28,13 +28,16 @@ abbrev pub IsDue : Ending → Type 0
 IsDue ending = (ending ≡ Grown) ⊎ (ending ≡ InputEnds)
 
 -- all of the lines that were read were done and answered, and all their records are synced (own)
-pub record IsWhole {D : Type 0} (g : Ghosts D) (before : List ℕ) (bodies : List (List ℕ)) (said : List ℕ) (turns : List Turn) (over : List (List ℕ))
-    (text : List ℕ) (at house' : House) (segment' : Segment D) (lines lines' : Lines) (run : Run) : Type 0 where
+pub record IsWhole {D : Type 0} (g : Ghosts D) (before : List ℕ) (bodies : List (List ℕ))
+    (said : List ℕ) (turns : List Turn) (over : List (List ℕ))
+    (text : List ℕ) (at house' : House) (segment' : Segment D) (lines lines' : Lines)
+    (run : Run) : Type 0 where
   pub here : at ≡ house'
   pub none_over : over ≡ []
   pub all : text ≡ said ++ texts_of turns
   pub synced : IsAt g segment' before (bodies ++ bodies_of turns)
-  pub read : GrowsByReading run.left run.left' (octets_ahead lines) (lines_text turns ++ octets_ahead lines')
+  pub read : GrowsByReading run.left run.left' (octets_ahead lines)
+      (lines_text turns ++ octets_ahead lines')
 
 -- what an ending says besides (own)
 pub record EndsDue (lines' : Lines) (run : Run) (ending : Ending) : Type 0 where
@@ -42,8 +45,10 @@ pub record EndsDue (lines' : Lines) (run : Run) (ending : Ending) : Type 0 where
   pub input : ending ≡ InputEnds → (octets_ahead lines' ≡ []) × IsAtEnd run.left'
 
 -- what is said first, and then lines over a segment that has these records (own)
-pub record Spoken {D : Type 0} (g : Ghosts D) (before : List ℕ) (bodies : List (List ℕ)) (said : List ℕ) (house house' : House)
-    (segment segment' : Segment D) (lines lines' : Lines) (run : Run) (ending : Ending) : Type 0 where
+pub record Spoken {D : Type 0} (g : Ghosts D) (before : List ℕ) (bodies : List (List ℕ))
+    (said : List ℕ) (house house' : House)
+    (segment segment' : Segment D) (lines lines' : Lines) (run : Run)
+    (ending : Ending) : Type 0 where
   pub turns : List Turn
   pub over : List (List ℕ)
   pub text : List ℕ
@@ -51,24 +56,31 @@ pub record Spoken {D : Type 0} (g : Ghosts D) (before : List ℕ) (bodies : List
   pub talk : Dialogue Responds (lines_so_far lines + 1) house turns at
   pub over_one : IsOver Responds (lines_so_far lines + 1 + length turns) at over
   pub wrote : Appends run.written run.written' text
-  pub crash : LeavesOnly g (disk_of segment) (disk_of segment') (HasFront before bodies (bodies_of turns ++ over))
-  pub acknowledged : (c : List ℕ) → g.may_leave (disk_of segment') c → HasFront before (bodies ++ bodies_of turns) over c
+  pub crash : LeavesOnly g (disk_of segment) (disk_of segment')
+      (HasFront before bodies (bodies_of turns ++ over))
+  pub acknowledged : (c : List ℕ) → g.may_leave (disk_of segment') c → HasFront before
+      (bodies ++ bodies_of turns) over c
   pub says : IsSaid said turns text
-  pub whole : IsDue ending → IsWhole g before bodies said turns over text at house' segment' lines lines' run
+  pub whole : IsDue ending
+      → IsWhole g before bodies said turns over text at house' segment' lines lines' run
   pub due : EndsDue lines' run ending
 
 -- the segment was made and named, and what was done with it was whole (own)
-pub record IsPassed (kept kept' : Files → Type 0) (next : Next) (turns : List Turn) (over : List (List ℕ)) (text : List ℕ) (at house' : House)
+pub record IsPassed (kept kept' : Files → Type 0) (next : Next) (turns : List Turn)
+    (over : List (List ℕ)) (text : List ℕ) (at house' : House)
     (lines lines' : Lines) (run : Run) (left : Left) : Type 0 where
   pub here : at ≡ house'
   pub none_over : over ≡ []
   pub all : text ≡ next.said.items ++ texts_of turns
   pub digest : left.digest ≡ last_digest next.before (first_bodies next ++ bodies_of turns)
-  pub leaves : (files : Files) → kept' files → WithFile kept next.number (HasBodies next.before (first_bodies next ++ bodies_of turns)) files
-  pub read : GrowsByReading run.left run.left' (octets_ahead lines) (lines_text turns ++ octets_ahead lines')
+  pub leaves : (files : Files) → kept' files → WithFile kept next.number
+      (HasBodies next.before (first_bodies next ++ bodies_of turns)) files
+  pub read : GrowsByReading run.left run.left' (octets_ahead lines)
+      (lines_text turns ++ octets_ahead lines')
 
 -- what was done with a segment that was to be made: without a name nothing was said (own)
-pub record SegmentDone (kept ever kept' ever' : Files → Type 0) (next : Next) (house house' : House) (lines lines' : Lines) (run : Run)
+pub record SegmentDone (kept ever kept' ever' : Files → Type 0) (next : Next)
+    (house house' : House) (lines lines' : Lines) (run : Run)
     (result : Result Left Status) : Type 0 where
   pub turns : List Turn
   pub over : List (List ℕ)
@@ -77,9 +89,11 @@ pub record SegmentDone (kept ever kept' ever' : Files → Type 0) (next : Next) 
   pub talk : Dialogue Responds (lines_so_far lines + 1) house turns at
   pub over_one : IsOver Responds (lines_so_far lines + 1 + length turns) at over
   pub wrote : Appends run.written run.written' text
-  pub any_moment : (files : Files) → ever' files → ever files ⊎ WithFile kept next.number (HasFront next.before (first_bodies next) (bodies_of turns ++ over)) files
+  pub any_moment : (files : Files) → ever' files → ever files ⊎ WithFile kept next.number
+      (HasFront next.before (first_bodies next) (bodies_of turns ++ over)) files
   pub at_the_end : (files : Files) → kept' files
-      → (kept files × (text ≡ []) × (turns ≡ [])) ⊎ WithFile kept next.number (HasFront next.before (first_bodies next ++ bodies_of turns) over) files
+      → (kept files × (text ≡ []) × (turns ≡ [])) ⊎ WithFile kept next.number
+      (HasFront next.before (first_bodies next ++ bodies_of turns) over) files
   pub says : IsSaid next.said.items turns text
   pub passed : (left : Left) → result ≡ Ok left → IsDue left.ending
       → IsPassed kept kept' next turns over text at house' lines lines' run left

@@ -47,7 +47,8 @@ fn body_in(record: &[u8]) -> &[u8]
 // Does again what the records of these octets say.
 #[tactic(auto, using(crate::proofs::ReadLemmas::redoing_first, crate::proofs::ReadLemmas::redoing_on, crate::proofs::ReadLemmas::redoing_ends))]
 fn redo_all(alloc: Global, house: &mut House, octets: &[u8]) -> Result<(), Status>
-    ensures ok { OnOk result (RedoneBy house.old (map beginnings.body_in (images octets.now)) house.new) }
+    ensures ok { OnOk result
+        (RedoneBy house.old (map beginnings.body_in (images octets.now)) house.new) }
     ensures not_ok { IfErr result (λ s. s ≢ statuses.Ok) }
 {
     let mut rest = octets;
