@@ -1,3 +1,7 @@
+use Rattle.house_program.proofs.ReadLemmas.{opens}
+use Rattle.house_program.proofs.FolderLemmas.{goes_from, house_on}
+use Rattle.house_program.proofs.LifeLemmas.{named, spoke, refused}
+use Rattle.house_program.proofs.ProcessLemmas.{living_on, lived_house, lived_later}
 use Rattle.std.proofs.Common.{List, [], ◌∷◌, refl}
 use Rattle.house_runs.specs.Runs.{AreFolders}
 use Rattle.house_program.specs.Files.{Files}
