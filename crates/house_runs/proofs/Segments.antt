@@ -1,5 +1,5 @@
--- What the records of a folder tell, segment by segment: a segment is told by whoever went on from
--- it, the process that wrote it, or one that did its lines again.
+-- What the records of a folder tell, segment by segment: the entries of a segment are those of
+-- whoever went on from it, the process that wrote it, or one that did its lines again.
 use Rattle.std.proofs.Common.{◌≡◌, ℕ, ◌+◌, ◌⊎◌, inl, inr, List, [], ◌∷◌, ◌++◌, refl, sym, ap, subst, ◌∙◌}
 use Rattle.std.specs.Prelude.{Option, Some, None, Result, Ok, codes, decimal, false}
 use Rattle.cds_records.specs.RecordOctets.{image_octets}

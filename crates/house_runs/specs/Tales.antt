@@ -37,21 +37,7 @@ pub record IsTurnBody (body : List ℕ) (e : TurnEntry) : Type 0 where
   pub answer_ends_nowhere : HasNoEnd e.answer
   pub is : IsBody body number e.clock (turn_text line e.posts e.answer) None
 
--- the line of a message in a record
-abbrev pub post_kept : Post → List ℕ
-post_kept p = post_line (codes "post ") p.to p.octets
-
--- two turns have one clock and one answer, their messages are kept in the same lines, and one line
--- says the orders of both
-pub record AreAlike (e f : TurnEntry) : Type 0 where
-  pub clock : e.clock ≡ f.clock
-  pub line : List ℕ
-  pub says : SaysOrder line e.order
-  pub says_too : SaysOrder line f.order
-  pub posts : map post_kept e.posts ≡ map post_kept f.posts
-  pub answer : e.answer ≡ f.answer
-
--- the body of the record of a start: a line says so, and the text of the last turn follows
+-- that of a start: a line says so, and the text of the last turn follows
 pub record IsStartBody (body image : List ℕ) : Type 0 where
   pub number : ℕ
   pub clock : ℕ
@@ -82,6 +68,7 @@ pub record IsMakingBody (body : List ℕ) (made : MadeHouse) : Type 0 where
   pub number : ℕ
   pub clock : ℕ
   pub line : List ℕ
+  pub line_ends_nowhere : HasNoEnd line
   pub house : HouseNo
   pub says : LineSays line (asks.House house made.node)
   pub numbered : made.house ≡ house.0
@@ -114,3 +101,31 @@ pub record TellHonestHouse (bodies : List (List ℕ)) : Type 0 where
   pub entries : List Entry
   pub tell : TellHouse bodies made entries
   pub honest : IsHonest made.house (new_house made.node) entries
+
+-- ---- what two readings have in common
+
+-- the line of a message in a record
+abbrev pub post_kept : Post → List ℕ
+post_kept p = post_line (codes "post ") p.to p.octets
+
+-- two turns have one clock and one answer, their messages are kept in the same lines, and one line
+-- says the orders of both
+pub record AreAlikeTurns (e f : TurnEntry) : Type 0 where
+  pub clock : e.clock ≡ f.clock
+  pub line : List ℕ
+  pub says : SaysOrder line e.order
+  pub says_too : SaysOrder line f.order
+  pub posts : map post_kept e.posts ≡ map post_kept f.posts
+  pub answer : e.answer ≡ f.answer
+
+-- two entries are starts with one image, or turns that are alike
+abbrev pub AreAlike : Entry → Entry → Type 0
+AreAlike (Started image) (Started other) = image ≡ other
+AreAlike (Turned e) (Turned f) = AreAlikeTurns e f
+AreAlike _ _ = ⊥
+
+-- so it is of the entries of two lists, one by one
+abbrev pub AllAlike : List Entry → List Entry → Type 0
+AllAlike [] [] = Unit {0}
+AllAlike (e ∷ es) (f ∷ fs) = AreAlike e f × AllAlike es fs
+AllAlike _ _ = ⊥

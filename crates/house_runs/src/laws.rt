@@ -1,5 +1,5 @@
 // What holds of the folders of houses that run: the contracts of functions that do nothing.
-ghost use Rattle.std.specs.Prelude.{◌+◌, ◌⊎◌, ℕ, List, None};
+ghost use Rattle.std.specs.Prelude.{◌≡◌, ◌+◌, ◌⊎◌, ℕ, List, None};
 ghost use Rattle.cds_base.specs.Lines.{lines_so_far};
 ghost use Rattle.cds_base.specs.declared.lines.Lines.{Lines};
 ghost use Rattle.house_journal.specs.Journals.{LeavesOnly};
@@ -12,8 +12,9 @@ ghost use Rattle.house_turns.specs.Openings.{HasTurn, after_start};
 ghost use Rattle.house_turns.specs.declared.house.House.{House};
 ghost use Rattle.house_runs.specs.Folders.{FolderSegment, HasLines, IsFolder, OpensFrom, folder_bodies, last_bodies};
 ghost use Rattle.house_runs.specs.Runs.{AreFolders, AreOfCell};
-ghost use Rattle.cell_runs.specs.Entries.{TurnEntry};
-ghost use Rattle.house_runs.specs.Tales.{AreAlike, IsTurnBody, TellHonestHouse, TellNoHouse};
+ghost use Rattle.cell_runs.specs.Entries.{Entry};
+ghost use Rattle.cell_runs.specs.Orders.{MadeHouse};
+ghost use Rattle.house_runs.specs.Tales.{AllAlike, TellHonestHouse, TellHouse, TellNoHouse};
 
 use cell_runs::runs_are_cells;
 use house_journal::Disk;
@@ -42,16 +43,19 @@ pub fn running_houses_are_honest()
         → TellNoHouse (folder_bodies segments) ⊎ TellHonestHouse (folder_bodies segments) }
 {}
 
-/// A record tells one turn: of two that it tells the clock, the messages and the answer are the same,
-/// and one line says what both were told to do.
-pub fn a_record_tells_one_turn()
-    ensures { (body : List ℕ) (e f : TurnEntry)
-        → IsTurnBody body e → IsTurnBody body f → AreAlike e f }
+/// Records tell one tale. Take two readings of the records of a folder: they have the same house,
+/// and as many entries. Of two turns the clock, the messages and the answer are the same, and one
+/// line says the orders of both. Two starts have the same image.
+pub fn records_tell_one_tale()
+    ensures { (bodies : List (List ℕ)) (made other : MadeHouse) (es fs : List Entry)
+        → TellHouse bodies made es → TellHouse bodies other fs
+        → (made ≡ other) × AllAlike es fs }
 {}
 
 /// A house that starts can say its last turn again. Take a folder as the processes of a house leave
-/// it, with any crashes between, and a process that goes on from the records of its last segment: if
-/// a house was made, it has a last turn then, and the line and the answer of that are one line each.
+/// it, with any crashes between, and a process that goes on from the records of its last segment.
+/// If a house was made, it has a last turn then, and the line and the answer of that are one line
+/// each.
 pub fn each_start_has_a_turn()
     ensures { (segments : List FolderSegment) (opened : House)
         → IsFolder segments → OpensFrom (last_bodies None segments) opened

@@ -5,6 +5,6 @@
 mod laws;
 
 pub use laws::{
-    a_record_tells_one_turn, crashes_leave_lines, each_start_has_a_turn, running_houses_are_cells,
+    crashes_leave_lines, each_start_has_a_turn, records_tell_one_tale, running_houses_are_cells,
     running_houses_are_honest,
 };

@@ -1,7 +1,7 @@
 mod Pieces
 mod Cuts
 pub mod SaidAgain
-mod PlainTexts
+pub mod PlainTexts
 mod PlainWords
 pub mod PlainLines
 pub mod LastTurns

@@ -1,7 +1,7 @@
 -- A record that is done again, and a house that ends.
 use Rattle.std.proofs.Common.{◌≡◌, ◌≢◌, ℕ, Bool, true, false, List, [], refl, sym, ap, subst, ◌∙◌}
-use Rattle.std.specs.Prelude.{◌==◌, Option, Some, None, Ok, OnTrue}
-use Rattle.std.specs.Bool.{OnFalse}
+use Rattle.std.specs.Prelude.{◌==◌, Option, Some, None, Ok}
+use Rattle.std.specs.Bool.{OnFalse, OnTrue}
 use Rattle.std.specs.List.{before_first}
 use Rattle.std.specs.Str.{bytes_eq}
 use Rattle.std.proofs.lemmas.Slice.Eq.{bytes_eq-Decides}

@@ -1,19 +1,18 @@
 -- Lines of skulks that run: they are read back as they were written.
-use Rattle.std.proofs.Common.{◌≡◌, ◌≢◌, ℕ, zero, suc, ◌<◌, ◌^◌, ◌/◌, ◌%◌, ◌&&◌, Bool, true, false, eqb, List, [], ◌∷◌, ◌++◌, length, drop, get_or, slice_index, refl, sym, ap, subst, ◌∙◌, append_assoc, arith}
-use Rattle.std.specs.Prelude.{◌==◌, not, codes, decimal, Ok, Result}
-use Rattle.std.specs.Int.{bytes_high_first, from_be_bytes, to_be_bytes, w64}
-use Rattle.std.specs.List.{All, AllByRecursion, after_first, before_first, flat_map, list_all}
-use Rattle.std.specs.Str.{all_ascii_digits}
+use Rattle.std.proofs.Common.{◌≡◌, ◌≢◌, ℕ, zero, suc, ◌<◌, ◌^◌, ◌/◌, ◌%◌, Bool, true, false, eqb, List, [], ◌∷◌, ◌++◌, length, take, drop, get_or, refl, sym, ap, subst, ◌∙◌, append_assoc, arith}
+use Rattle.std.specs.Prelude.{◌==◌, nat_eq, not, codes, decimal, Ok, Result}
+use Rattle.std.specs.Int.{from_be_bytes, to_be_bytes, w64}
+use Rattle.std.specs.List.{All, after_first, before_first, list_all, starts_with}
+use Rattle.std.specs.Str.{all_ascii_digits, bytes_eq}
+use Rattle.std.proofs.lemmas.Slice.Eq.{bytes_eq-Decides}
 use Rattle.std.specs.Char.{is_ascii_digit}
 use Rattle.std.proofs.lemmas.Bool.{and_parts}
 use Rattle.std.proofs.lemmas.Fmt.{decimal_injective, digits_decimal}
 use Rattle.std.proofs.lemmas.Grind.{flat_map-append}
-use Rattle.std.proofs.lemmas.List.{append-nil}
 use Rattle.std.proofs.lemmas.List.Concat.{flat_map-cons}
 use Rattle.std.proofs.lemmas.List.Elements.{All-append, All-cons, All-head, All-nil, All-tail, All-weaker}
 use Rattle.std.proofs.lemmas.Nat.{from_be_bytes-to_be_bytes_8}
 use Rattle.std.proofs.lemmas.Str.Parse.{numerals_by_value, tells_all_ascii_digits}
-use Rattle.std.proofs.Math.Nat.{mod-lt}
 use Rattle.hex.specs.Hex.{IsBytes, decode_of, encode_lower}
 use Rattle.hex.proofs.HexLemmas.{decode_of-encode_lower}
 use Rattle.cds_stamps.specs.declared.stamp.Stamp.{Stamp}
@@ -78,28 +77,32 @@ hex_no_space octets = All-weaker IsDigit (λ (b : ℕ). b ≢ 32) no_space (enco
 
 -- ---- nodes
 
-byte_low : (k n i : ℕ) → slice_index (bytes_high_first k n) i < 256
-byte_low zero n i = omega arith
-byte_low (suc k) n zero = mod-lt _ (omega arith)
-byte_low (suc k) n (suc i) = byte_low k n i
+low : (n : ℕ) → n % 256 < 256
+low n = omega arith
 
 pub node_bytes : (n : ℕ) → IsBytes (node_octets n)
-node_bytes n = byte_low 6 n
+node_bytes n zero = low (n / 1099511627776)
+node_bytes n (suc zero) = low (n / 4294967296)
+node_bytes n (suc (suc zero)) = low (n / 16777216)
+node_bytes n (suc (suc (suc zero))) = low (n / 65536)
+node_bytes n (suc (suc (suc (suc zero)))) = low (n / 256)
+node_bytes n (suc (suc (suc (suc (suc zero))))) = low n
+node_bytes n (suc (suc (suc (suc (suc (suc i)))))) = low 0
 
 -- a node of 48 bits, out of its octets
 pub node_is : (n : ℕ) → n < 2 ^ 48 → from_be_bytes w64 (0 ∷ 0 ∷ node_octets n) ≡ n
-node_is n low =
-    let first : 0 ≡ n / 72057594037927936 % 256 = omega (arith, low) in
-    let second : 0 ≡ n / 281474976710656 % 256 = omega (arith, low) in
+node_is n small =
+    let first : 0 ≡ n / 72057594037927936 % 256 = omega (arith, small) in
+    let second : 0 ≡ n / 281474976710656 % 256 = omega (arith, small) in
     let whole : 0 ∷ 0 ∷ node_octets n ≡ to_be_bytes w64 n = λ i. first i ∷ second i ∷ node_octets n in
-    ap (from_be_bytes w64) whole ∙ from_be_bytes-to_be_bytes_8 n (omega (arith, low))
+    ap (from_be_bytes w64) whole ∙ from_be_bytes-to_be_bytes_8 n (omega (arith, small))
 
 node_again : (n m : ℕ) → n < 2 ^ 48 → m < 2 ^ 48 → encode_lower (node_octets n) ≡ encode_lower (node_octets m) → n ≡ m
-node_again n m low low' same =
+node_again n m small small' same =
     let both : ◌≡◌ {A = Result (List ℕ) _} (Ok (node_octets n)) (Ok (node_octets m)) =
     sym (decode_of-encode_lower (node_octets n) (node_bytes n)) ∙ ap decode_of same ∙ decode_of-encode_lower (node_octets m) (node_bytes m) in
     let octets : node_octets n ≡ node_octets m = cc both in
-    sym (node_is n low) ∙ ap (λ (o : List ℕ). from_be_bytes w64 (0 ∷ 0 ∷ o)) octets ∙ node_is m low'
+    sym (node_is n small) ∙ ap (λ (o : List ℕ). from_be_bytes w64 (0 ∷ 0 ∷ o)) octets ∙ node_is m small'
 
 -- ---- a line
 
@@ -193,6 +196,21 @@ skulks_again (r ∷ rs) (r' ∷ rs') last last' fit fit' ends ends' same =
     let more = skulks_again rs rs' last last' fit.1 fit'.1 ends ends' cut.1 in
     let one = line_again r r' fit.0 fit'.0 cut.0 in
     ((λ i. one i ∷ more.0 i), more.1)
+
+-- octets that begin so, as they are compared
+same_bytes : (a b : List ℕ) (p q : Bool) → bytes_eq a b ≡ p → bytes_eq b a ≡ q → p ≡ q
+same_bytes a b true true is so = refl
+same_bytes a b false false is so = refl
+same_bytes a b true false is so =
+    let on : bytes_eq b a ≡ true = (bytes_eq-Decides b a).1 (sym ((bytes_eq-Decides a b).0 is)) in
+    absurd (cc (on, so))
+same_bytes a b false true is so =
+    let on : bytes_eq a b ≡ true = (bytes_eq-Decides a b).1 (sym ((bytes_eq-Decides b a).0 so)) in
+    absurd (cc (on, is))
+
+pub begins_skulk : (xs : List ℕ) (b : Bool) → b ≡ starts_with nat_eq xs (codes "running ") → is_skulk xs ≡ b
+begins_skulk xs b is =
+    same_bytes (take (length (codes "running ")) xs) (codes "running ") (is_skulk xs) (starts_with nat_eq xs (codes "running ")) refl refl ∙ sym is
 
 -- ---- what is read
 

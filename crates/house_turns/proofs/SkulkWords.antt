@@ -1,10 +1,12 @@
 -- The words of a skulk that runs, cut and read; and skulks that are written or run on, one by one.
 use Rattle.std.proofs.Common.{◌≡◌, ◌≢◌, ℕ, ◌+◌, ◌<◌, ◌^◌, eqb, List, [], ◌∷◌, ◌++◌, length, take, drop, get_or, refl, sym, ap, subst, ◌∙◌, append_assoc, append-nil, arith}
-use Rattle.std.specs.Prelude.{codes, decimal, Option, Some, None}
+use Rattle.std.specs.Prelude.{codes, decimal, Option, Some, None, Result, Ok, Err, MatchResult, SomeIff}
 use Rattle.std.specs.List.{after_first, before_first, flat_map}
 use Rattle.std.proofs.lemmas.Grind.{flat_map-append}
 use Rattle.std.proofs.lemmas.List.{drop_more, take_more}
-use Rattle.hex.specs.Hex.{encode_lower}
+use Rattle.hex.specs.Hex.{decode_sized, encode_lower}
+use Rattle.hex.specs.declared.error.FromHexError.{FromHexError}
+use Rattle.hex.proofs.HexLemmas.{decode_sized-encode_lower}
 use Rattle.cds_stamps.specs.declared.stamp.Stamp.{Stamp}
 use Rattle.script_answers.specs.Texts.{node_octets, stamp_text}
 use Rattle.clearinghouse.specs.HouseImages.{with_skulks}
@@ -12,7 +14,7 @@ use Rattle.clearinghouse.specs.declared.house.Clearinghouse.{Clearinghouse}
 use Rattle.clearinghouse.specs.declared.running.RunningSkulk.{RunningSkulk}
 use Rattle.house_turns.specs.RunningSkulks.{AllFit, FitsRunning, round_word, running_line, running_lines}
 use Rattle.house_turns.proofs.Cuts.{cut_after, cut_before}
-use Rattle.house_turns.proofs.RunningLines.{decimal_no_sign, decimal_no_space, fit_more, line_words, no_spaces, round_no_space, round_words, stamp_no_space, stamp_words}
+use Rattle.house_turns.proofs.RunningLines.{decimal_no_sign, decimal_no_space, fit_more, line_words, no_spaces, node_bytes, round_no_space, round_words, stamp_no_space, stamp_words}
 
 -- ---- cuts
 
@@ -45,6 +47,20 @@ time_cut s word time low is cut = cut_before 64 word (decimal s.time) (encode_lo
 pub node_cut : (s : Stamp) (word node : List ℕ) → s.time < 2 ^ 64 → word ≡ stamp_text s → node ≡ after_first (λ b. eqb b 64) word
     → node ≡ encode_lower (node_octets s.node)
 node_cut s word node low is cut = cut_after 64 word (decimal s.time) (encode_lower (node_octets s.node)) node is (decimal_no_sign s.time low) cut
+
+-- ---- nodes
+
+-- the digits of a node are read
+pub node_read : (n : ℕ) (word : List ℕ) (r : Result (Unit {0}) FromHexError) (out : List ℕ) → word ≡ encode_lower (node_octets n)
+    → MatchResult (decode_sized word 6) (λ octets. (r ≡ Ok tt) × (out ≡ octets)) (λ e. r ≡ Err e) → (r ≡ Ok tt) × (out ≡ node_octets n)
+node_read n word r out is reads =
+    subst (λ (d : Result (List ℕ) FromHexError). MatchResult d (λ octets. (r ≡ Ok tt) × (out ≡ octets)) (λ e. r ≡ Err e))
+    (ap (λ (w : List ℕ). decode_sized w 6) is ∙ decode_sized-encode_lower (node_octets n) 6 refl (node_bytes n)) reads
+
+-- and its number is that of a node
+pub node_made : (o : Option ℕ) (m n : ℕ) → SomeIff o (m < 2 ^ 48) m → m ≡ n → n < 2 ^ 48 → o ≡ Some n
+node_made None m n made is small = absurd (made (subst (λ (k : ℕ). k < 2 ^ 48) (sym is) small))
+node_made (Some x) m n made is small = ap (λ (k : ℕ). Some k) (made.1 ∙ is)
 
 -- ---- one by one
 

@@ -1,6 +1,6 @@
 // How a house goes on from the records of a segment: it does again what they say.
-ghost use Rattle.std.specs.Prelude.{◌≡◌, ◌≢◌, [], ◌∷◌, ◌++◌, List, ℕ, codes, true, is_some, IfNone, IfOk, IfSome, MatchOption, OnSome, OnTrue};
-ghost use Rattle.std.specs.Bool.{OnFalse};
+ghost use Rattle.std.specs.Prelude.{◌≡◌, ◌≢◌, [], ◌∷◌, ◌++◌, List, ℕ, codes, true, is_some, IfNone, IfOk, IfSome, MatchOption, OnSome};
+ghost use Rattle.std.specs.Bool.{OnFalse, OnTrue};
 ghost use Rattle.clearinghouse.specs.HouseImages.{with_skulks};
 ghost use Rattle.house_turns.specs.Openings as openings;
 ghost use Rattle.house_turns.specs.Openings.{Differs, EndsLife, MayEnd, Redoes, Resumes, house_with, new_house};

@@ -11,6 +11,6 @@ returns-in-Ok c = λ n small is.
     c.ok.ensures.value
     ∙ ap result_ok (parse-decimal 64 n c.in-Ok.digits.now c.parse.result small small (c.in-Ok.ensures.cases.0 ∙ is) c.parse.ensures.value.0)
 
-pub returns : goal.returns
-returns c = λ n small is.
+pub returns-in-Err : goal.returns-in-Err
+returns-in-Err c = λ n small is.
     absurd (c.in-Err.ensures.cases.0 (subst IsUtf8 (sym is) (IsUtf8-from_ascii (decimal n) (IsAscii-decimal n small))))
