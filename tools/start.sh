@@ -109,7 +109,7 @@ run_program() {
 }
 
 # Finds the program to run: the proved one if it is that of the sources. Else `tools/build` finds one: the proved program after all, or one
-# that is not proved, or it proves and builds.
+# that is not proved. It proves nothing.
 find_program() {
     if [ ! -e "/proc/$$/fd/0" ] || [ ! -e "/proc/$$/fd/1" ]; then
         say "standard input or standard output is closed"

@@ -1,5 +1,7 @@
 """What the machine has: processors, memory, and how many checks it can run side by side."""
 
+from __future__ import annotations
+
 import os
 import re
 
@@ -10,7 +12,7 @@ GROUP = "/sys/fs/cgroup"
 LIMITS = (("memory.max", "memory.current"), ("memory/memory.limit_in_bytes", "memory/memory.usage_in_bytes"))
 
 
-def number_in(file):
+def number_in(file: str) -> int | None:
     """The number that a file has, or None."""
     try:
         with open(file, encoding="utf-8") as it:
@@ -19,7 +21,7 @@ def number_in(file):
         return None
 
 
-def processors():
+def processors() -> int:
     """How many processors there are to use: those that this process may run on, or fewer where its control group has a quota."""
     found = len(os.sched_getaffinity(0))
     try:
@@ -31,18 +33,18 @@ def processors():
         return found
 
 
-def free_memory():
+def free_memory() -> int:
     """The memory that is free, in octets: that of the machine, or less where the control group has a limit."""
     with open("/proc/meminfo", encoding="utf-8") as it:
-        found = int(re.search(r"MemAvailable:\s*(\d+) kB", it.read())[1]) * 1024
-    for limit, used in LIMITS:
-        limit, used = number_in(f"{GROUP}/{limit}"), number_in(f"{GROUP}/{used}")
+        found = int(re.findall(r"MemAvailable:\s*(\d+) kB", it.read())[0]) * 1024
+    for names in LIMITS:
+        limit, used = (number_in(f"{GROUP}/{name}") for name in names)
         if limit is not None and used is not None:
             found = min(found, limit - used)
     return found
 
 
-def lanes():
+def lanes() -> int:
     """How many checks run side by side: one a processor, if there is memory for each.
 
     By itself `rt ci` takes checks to need two to five times the memory that they do, and starts none beyond that."""

@@ -226,6 +226,39 @@ def handed_over(room, _):
     return None if ran.stdout.endswith("; proved\n") and not ran.returncode else f"its version is {ran.stdout!r}"
 
 
+def is_run(words, how):
+    """Whether a command can be run."""
+    try:
+        return subprocess.run(words, check=False, **how).returncode == 0
+    except OSError:
+        return False
+
+
+def of_another_user(room, _):
+    """A program that was noted in the clone of another user answers there, also if a source was written again, as it is."""
+    clone = f"{room}/clone"
+    os.mkdir(clone)
+    copy_repository(clone)
+    write(f"{clone}/crates/cdsreplay/out/cdsreplay", STUB, 0o755)
+    noting = "import sys; sys.path.insert(0, sys.argv[1]); from building import sources; sources.note('cdsreplay', sources.ROOT)"
+    subprocess.run([sys.executable, "-c", noting, f"{clone}/tools"], check=True, env=without_rt(), timeout=SECONDS)
+    for at, _, _ in os.walk(clone):
+        os.chmod(at, 0o555)
+    nobody = {"user": 65534, "group": 65534, "extra_groups": []} if os.geteuid() == 0 else {}
+    for at in (os.path.dirname(room), room):
+        os.chmod(at, 0o755)
+    found, how = [], {"capture_output": True, "text": True, "env": without_rt(), "timeout": SECONDS, **nobody}
+    # (where Python is in a folder of root's, nobody else can run it)
+    has_python = is_run(["python3", "-c", ""], how)
+    for _ in range(1 + has_python):
+        ran = subprocess.run(["./cdsreplay", "run"], cwd=clone, input="0 1 ok\n", **how)
+        found.append((ran.returncode, ran.stdout, ran.stderr))
+        os.utime(f"{clone}/crates/cds_base/src/lib.rt")
+    for at, _, _ in os.walk(clone):
+        os.chmod(at, 0o755)
+    return None if found == [(0, "1 ok\n", "")] * len(found) else f"it is {found}"
+
+
 def waiting(room, _):
     """Whoever waits for another build says which one it is."""
     copy_repository(room)
@@ -246,6 +279,6 @@ def cases(runs, folder):
     found = [Wrapped(f"{folder}/words/{name}", list(words), is_form) for name, words, is_form in sorted(runs)]
     for number, (name, *row) in enumerate(TABLE):
         found.append(Tried(name, f"{folder}/{number}", of_table(*row)))
-    more = {"quick": quick, "handed over": handed_over, "waiting": waiting}
+    more = {"quick": quick, "handed over": handed_over, "another user": of_another_user, "waiting": waiting}
     more |= {it.name: signalled(it) for it in (signal.SIGTERM, signal.SIGINT, signal.SIGHUP)}
     return [*found, *(Tried(name, f"{folder}/{name}", call) for name, call in more.items())]

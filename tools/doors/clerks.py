@@ -6,7 +6,7 @@ import subprocess
 import time
 from collections.abc import Callable, Mapping
 
-from doors.houses import Answer, House, ends_of
+from doors.houses import Answer, House, ends_of, status_of
 from doors.loops import Loop
 from doors.streams import Lines
 from housing.processes import ENDS
@@ -63,7 +63,7 @@ class Clerk:
 
     def ended(self) -> None:
         """All commands under way are refused. Whether a plan was done nobody knows."""
-        status = self.child.wait() if self.child else 0
+        status = status_of(self.child) if self.child else 0
         self.stream, self.child = None, None
         self.note(f"the clerk ended with status {status}")
         jobs, self.jobs = self.jobs, {}
@@ -111,13 +111,13 @@ class Clerk:
         self.stream.send(f"do {self.number} {line}\n")
 
     def line(self, text: str | None) -> None:
-        word, _, rest = (text or "").partition(" ")
-        number, _, said = rest.partition(" ")
-        if word == "say":
-            self.say(int(number), said)
-        elif word == "ask":
-            job, house, question = said.split(" ", 2)
-            self.ask(number, self.jobs.get(int(job)), int(house), question)
+        match (text or "").split(" ", 2):
+            case ["say", number, said] if number.isdigit():
+                self.say(int(number), said)
+            case ["ask", number, said]:
+                job, house, question = (*said.split(" ", 2), "", "")[:3]
+                if job.isdigit() and house.isdigit():
+                    self.ask(number, self.jobs.get(int(job)), int(house), question)
 
     def say(self, number: int, text: str) -> None:
         job = self.jobs.get(number)

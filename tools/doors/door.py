@@ -25,6 +25,8 @@ from doors.ledger import Ledger
 
 # How often patience and waiting messages are looked at, in seconds.
 TICK = 0.2
+# Who may open a socket.
+FOR_ALL, FOR_GROUP, FOR_OWNER = 0o666, 0o660, 0o600
 # So long houses may take to end, in seconds.
 LONGEST_END = 10.0
 
@@ -53,10 +55,12 @@ class Door:
         for number, command in self.cell.there.items():
             self.add(There(self.loop, number, command, self.note))
         self.clerk.begin()
-        self.listen(self.cell.socket, lambda connection: self.cell.allow.of_user(uid_of(connection)))
+        allow = self.cell.allow
+        mode = FOR_GROUP if allow.users is None else FOR_ALL
+        self.listen(self.cell.socket, mode, lambda it: allow.of_user(uid_of(it)))
         for peer in self.cell.peers:
             who = Who(f"the door of house {min(peer.houses)}", peer.classes, peer.houses, is_door=True)
-            self.listen(peer.socket, self.always(who))
+            self.listen(peer.socket, FOR_OWNER, self.always(who))
         self.loop.after(TICK, self.tick)
         if self.cell.skulk_every:
             self.loop.after(self.cell.skulk_every, self.skulk)
@@ -132,12 +136,12 @@ class Door:
 
     # ---- sockets
 
-    def listen(self, path: str, who_of: Callable[[socket.socket], Who]) -> None:
+    def listen(self, path: str, mode: int, who_of: Callable[[socket.socket], Who]) -> None:
         if os.path.exists(path):
             self.take_over(path)
         listener = socket.socket(socket.AF_UNIX, socket.SOCK_STREAM)
         listener.bind(path)
-        os.chmod(path, 0o660)
+        os.chmod(path, mode)
         listener.listen(64)
         listener.setblocking(False)
         self.listeners[path] = listener
@@ -180,7 +184,7 @@ class Door:
         elif words == ["skulk"]:
             self.skulks.begin_all()
             say(["ok"])
-        elif words[0] in (*NUMBERED, "house"):
+        elif words[0] in (*NUMBERED, "house", "recount"):
             self.number(words, say)
         else:
             self.clerk.command(line, say, who.may)
@@ -203,6 +207,8 @@ class Door:
             target = house
 
             def hear(told: Answer) -> None:
+                if told and words[0] == "take":
+                    self.skulks.mark(words[1])
                 if told and self.trace and who.is_door and target.is_here:
                     segment, turns = place(target)
                     told = [*told[:-1], f"at {segment} {turns}", told[-1]]
@@ -213,7 +219,9 @@ class Door:
     def number(self, words: list[str], say: Say) -> None:
         """A command of the console, which may be behind another door."""
         console = self.houses.get(self.cell.console)
-        if self.numbers:
+        if self.numbers and words[0] == "recount":
+            self.numbers.recount(words, say)
+        elif self.numbers:
             self.numbers.command(words, say)
         elif isinstance(console, There) and console.is_reached:
             console.send_as_is(" ".join(words), " ".join(words), lambda told: say(told or ["refused Down doubt"]))

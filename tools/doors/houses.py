@@ -59,6 +59,15 @@ def ends_of(child: subprocess.Popen[bytes]) -> tuple[int, int]:
     return ends
 
 
+def status_of(child: subprocess.Popen[bytes]) -> int:
+    """The status of a child that has closed its output. One that goes on is killed."""
+    try:
+        return child.wait(0.5)
+    except subprocess.TimeoutExpired:
+        child.kill()
+        return child.wait()
+
+
 class House:
     """What both kinds have: the child, the lines under way, and what becomes of them. `note` gets a line for the
     log."""
@@ -100,7 +109,7 @@ class House:
 
     def ended(self) -> None:
         """The stream is at its end: all that was under way is lost."""
-        status = self.child.wait() if self.child else 0
+        status = status_of(self.child) if self.child else 0
         self.stream = self.child = None
         self.fell(meaning(status) if self.is_here else f"the stream ended (status {status})")
 
@@ -242,7 +251,8 @@ class Here(House):
             self.pieces.append(octets)
             if word == "post":
                 octets, self.pieces = "".join(self.pieces), []
-                self.post(int(to), octets)
+                if to.isdigit():
+                    self.post(int(to), octets)
             return
         waiting = self.tell(said)
         if waiting:
@@ -279,8 +289,8 @@ class There(House):
         self.heard, self.is_silent, self.wait, self.why = time.monotonic(), False, FIRST_WAIT, ""
         said = text or ""
         if said.startswith("at "):
-            _, segment, turns = said.split(" ")
-            self.at = (int(segment), int(turns))
+            numbers = [int(word) for word in said.split(" ")[1:] if word.isdigit()]
+            self.at = (numbers[0], numbers[1]) if len(numbers) == 2 else (0, 0)
             return
         waiting = self.tell(said)
         if waiting:

@@ -48,12 +48,16 @@ def is_turn(line: str, answer: list[str]) -> bool:
     return line.split(" ")[0] in TURNS and words[0] == "ok" and words[1:2] not in [[word] for word in NOT_TAKEN]
 
 
+def number_of(digits: str, length: int) -> int:
+    """The number that so many hexadecimal digits are, or 0."""
+    return int(digits, 16) if len(digits) == length and set(digits.lower()) <= set("0123456789abcdef") else 0
+
+
 def sender_of(octets: str) -> int:
     """The house that a message says it is from: its octet 7. 0 where it has none."""
-    digits = octets[12:14]
-    return int(digits, 16) if len(digits) == 2 and set(digits.lower()) <= set("0123456789abcdef") else 0
+    return number_of(octets[12:14], 2)
 
 
 def directory_of(octets: str) -> int:
-    """The directory that a message is about: octets 3 to 6."""
-    return int(octets[4:12], 16)
+    """The directory that a message is about: octets 3 to 6. 0 where it has none."""
+    return number_of(octets[4:12], 8)

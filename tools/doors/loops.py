@@ -3,7 +3,7 @@ from __future__ import annotations
 
 import heapq
 import itertools
-import selectors
+import select
 import time
 from collections.abc import Callable
 
@@ -19,12 +19,12 @@ class Watch:
 
     @property
     def events(self) -> int:
-        return (selectors.EVENT_READ if self.reads else 0) | (selectors.EVENT_WRITE if self.writes else 0)
+        return (select.EPOLLIN if self.reads else 0) | (select.EPOLLOUT if self.writes else 0)
 
 
 class Loop:
     def __init__(self) -> None:
-        self.selector = selectors.DefaultSelector()
+        self.epoll = select.epoll()
         self.watches: dict[int, Watch] = {}
         self.timers: list[tuple[float, int, Call]] = []
         self.counter = itertools.count()
@@ -48,11 +48,11 @@ class Loop:
         if not watch.events:
             del self.watches[fd]
             if before:
-                self.selector.unregister(fd)
+                self.epoll.unregister(fd)
         elif not before:
-            self.selector.register(fd, watch.events, watch)
+            self.epoll.register(fd, watch.events)
         elif before != watch.events:
-            self.selector.modify(fd, watch.events, watch)
+            self.epoll.modify(fd, watch.events)
 
     def after(self, seconds: float, call: Call) -> None:
         """Calls this once, after so many seconds."""
@@ -68,11 +68,12 @@ class Loop:
         """Waits for something, at most so many seconds, and does it."""
         self.finish()
         left = min(longest, self.timers[0][0] - time.monotonic()) if self.timers else longest
-        for key, events in self.selector.select(max(0.0, left)):
-            watch: Watch = key.data
-            if events & selectors.EVENT_READ and watch.reads:
+        for fd, events in self.epoll.poll(max(0.0, left)):
+            watch = self.watches.get(fd)
+            # (an end, or an error, is seen by who reads or writes)
+            if watch and watch.reads and events & ~select.EPOLLOUT:
                 watch.reads()
-            if events & selectors.EVENT_WRITE and watch.writes:
+            if watch and watch.writes and events & ~select.EPOLLIN:
                 watch.writes()
         now = time.monotonic()
         while self.timers and self.timers[0][0] <= now:

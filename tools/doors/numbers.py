@@ -9,6 +9,7 @@ from collections.abc import Callable, Mapping
 from doors.houses import Answer, House
 from doors.states import State, ask_state
 from doors.ledger import Ledger
+from doors.recounts import Recount
 
 Say = Callable[[list[str]], None]
 # What a house was given before its stream ended may still be under way. After so long, in seconds, it is not.
@@ -42,6 +43,9 @@ def order(ledger: Ledger, words: list[str]) -> tuple[int, str]:
                 raise Refused("refused DirectoryExists")
             return house_of(master), " ".join(["root", *others])
         case ["mkdir", house, directory, name, master, *others]:
+            if not console.directories:
+                # (the first number is the root's; a ledger that is lost has to be counted again)
+                raise Refused("refused NoDirectory")
             if master != house:
                 raise Refused("fault BadWord 5", "the master of a new directory is the house that makes it")
             return house_of(house), console.mkdir_line(directory, name, others)
@@ -63,6 +67,13 @@ def epoch_line(ledger: Ledger, word: str, master: int, others: list[str]) -> str
         raise Refused("fault BadWord 4", "a further house is a number, or s and a number") from None
 
 
+def is_done(words: list[str], state: State) -> bool:
+    """Whether a house did a line of the console, by what it holds of the line's directory."""
+    if words[0] == "house":
+        return state.line != "refused NoHouse"
+    return state.epoch >= (int(words[2]) if words[0] == "epoch" else 1)
+
+
 class Numbers:
     """The commands of the console, one after the other. `moved` hears of each epoch that was begun: the house and the
     directory."""
@@ -77,6 +88,15 @@ class Numbers:
     def command(self, words: list[str], say: Say) -> None:
         self.queue.append((words, say))
         self.next()
+
+    def recount(self, words: list[str], say: Say) -> None:
+        """`recount [- H..]`: fills a ledger that is lost. After the `-` are the houses that are gone for good."""
+        if words[1:2] not in ([], ["-"]) or not all(word.isdigit() for word in words[2:]):
+            say(["fault BadWord 2"])
+        elif self.is_busy:
+            say(["refused Unsettled 0"])
+        else:
+            Recount(self.ledger, self.houses, {int(word) for word in words[2:]}, say)
 
     def next(self) -> None:
         if self.queue and not self.is_busy:
@@ -107,7 +127,7 @@ class Numbers:
         def heard(state: State | None) -> None:
             if not self.ledger.pending:
                 self.do()
-            elif state and (state.epoch >= int(words[2]) if words[0] == "epoch" else state.epoch > 0):
+            elif state and is_done(words, state):
                 self.ledger.settle(True)
                 self.do()
             elif state and (asked.starts == self.starts or time.monotonic() - self.since > UNDER_WAY):
@@ -145,10 +165,10 @@ class Numbers:
             if not told:
                 self.done(["refused Down doubt"])
                 return
-            is_done = told[-1].startswith("ok")
+            is_ok = told[-1].startswith("ok")
             if self.ledger.pending == (number, line):
-                self.ledger.settle(is_done)
-            if is_done and words[0] == "epoch":
+                self.ledger.settle(is_ok)
+            if is_ok and words[0] == "epoch":
                 self.moved(asked, int(words[1]))
             self.done(told)
 

@@ -87,7 +87,9 @@ class Cell:
         self.post = HeldPost(self.door.post, net)
         self.door.post = self.post
         self.is_held = self.sets_clock = False
+        # The lines that were typed and not done yet, and what is called when one is done.
         self.lines: collections.deque[str | None] = collections.deque()
+        self.on_done: Callable[[], None] = lambda: None
 
     @property
     def ledger(self) -> Any:
@@ -300,3 +302,4 @@ class Cell:
                 return
             if words and not words[0].startswith("#"):
                 self.answer(words)
+            self.on_done()

@@ -32,7 +32,7 @@ class Skulks:
 
         def heard(told: Answer) -> None:
             for words in (line.split(" ") for line in told or []):
-                if words[0] == "directory" and words[2] == "held":
+                if len(words) == 4 and words[0] == "directory" and words[2] == "held" and words[1].isdigit():
                     self.changed.add(int(words[1]))
 
         house.ask("directories", heard)

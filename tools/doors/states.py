@@ -10,11 +10,11 @@ UNKNOWN = "fault UnknownCommand"
 
 
 class State:
-    """What a house holds of a directory, if it holds any: `epoch` is 0 if not. `runs` says whether it runs a skulk,
-    if that is known."""
+    """What a house holds of a directory, if it holds any: `epoch` is 0 if not. `runs` says whether it runs a skulk, if
+    that is known. `line` is what says so."""
 
     def __init__(self, line: str) -> None:
-        words = line.split(" ")
+        self.line, words = line, line.split(" ")
         at = words.index("members") if "members" in words else len(words)
         self.epoch = int(words[words.index("epoch") + 1]) if "epoch" in words else 0
         self.runs = "skulk" in words[:at] and words[words.index("skulk") + 1] != "none"
@@ -25,16 +25,25 @@ class State:
         return next((int(house) for house, _, kind in self.members if kind == "m"), 0)
 
 
+def state_of(line: str) -> State | None:
+    """The state that a line of a house says, if it says one."""
+    try:
+        state = State(line)
+        return state if state.master or not state.epoch else None
+    except (ValueError, IndexError):
+        return None
+
+
 def ask_state(house: House, directory: int, hear: Callable[[State | None], None]) -> None:
     """Asks for a state. None is heard where the house is not reached."""
 
     def dumped(told: Answer) -> None:
-        hear(told and State(told[0]) or None)
+        hear(state_of(told[0]) if told else None)
 
     def heard(told: Answer) -> None:
         if told and told[-1].startswith(UNKNOWN):
             house.ask(f"dump {directory}", dumped)
         else:
-            hear(State(told[-1]) if told else None)
+            hear(state_of(told[-1]) if told else None)
 
     house.ask(f"status {directory}", heard)

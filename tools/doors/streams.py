@@ -26,7 +26,7 @@ class Lines:
         self.loop, self.source, self.sink, self.longest = loop, source, sink, longest
         self.on_line, self.on_end = on_line, on_end
         self.taken, self.given = bytearray(), bytearray()
-        self.is_open, self.is_dropping, self.is_due = True, False, False
+        self.is_open, self.is_dropping, self.is_due, self.is_waiting = True, False, False, False
         # Whether nobody reads what is written; whether it is closed when all is written; and whether the end of what
         # comes leaves it open.
         self.is_broken = self.is_ending = self.outlives = False
@@ -89,7 +89,8 @@ class Lines:
 
     def writable(self) -> None:
         try:
-            del self.given[: os.write(self.sink, self.given[:MOST])]
+            written = os.write(self.sink, self.given if len(self.given) <= MOST else self.given[:MOST])
+            del self.given[:written]
         except BlockingIOError:
             pass
         except OSError:
@@ -97,7 +98,8 @@ class Lines:
             self.given.clear()
         if self.is_ending and not self.given:
             self.close()
-        else:
+        elif self.is_waiting or self.given:
+            self.is_waiting = bool(self.given)
             self.loop.writes(self.sink, self.writable if self.given else None)
 
     def finish(self) -> None:

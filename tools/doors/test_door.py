@@ -21,12 +21,16 @@ from housing import building
 ROOT = building.ROOT
 INTERFACE = "a0000000-0000-0000-0000-000000000001:1.0"
 BINDING = "ncacn_ip_tcp:10.0.0.1[1025]"
-# A house that answers nothing after its start, and one that cannot start.
+# A house that hangs with a question.
 HANGS = """echo 0 new
 while read -r line; do
     case "$line" in dump*) exec sleep 20;; *) echo 1 refused NoHouse;; esac
 done"""
-BROKEN = "exit 9"
+# A house that answers one question late.
+IS_LATE = """echo 0 new
+while read -r line; do
+    case "$line" in "dump 7") sleep 1; echo 1 dump late; echo 1 end;; *) echo 2 refused NoHouse;; esac
+done"""
 
 
 class Room(unittest.TestCase):
@@ -67,7 +71,9 @@ class Room(unittest.TestCase):
         return self.begin(name)
 
     def begin(self, name: str = "cell") -> Client:
-        self.doors.append(subprocess.Popen([sys.executable, f"{ROOT}/tools/door", f"{self.room}/{name}.toml"]))
+        with open(f"{self.room}/{name}.errors", "ab") as errors:
+            words = [sys.executable, f"{ROOT}/tools/door", f"{self.room}/{name}.toml"]
+            self.doors.append(subprocess.Popen(words, stderr=errors))
         client = Client(f"{self.room}/{name}.door")
         self.until(lambda: client.ask("status") != ["gone"])
         return client
@@ -163,6 +169,16 @@ class DoorTest(Room):
         self.assertIn("because it is silent", client.ask("status")[2])
         self.assertIn("house 1 is silent: dump 1", self.log())
 
+    def test_a_late_answer_is_nobodys(self) -> None:
+        self.house = self.played(IS_LATE)
+        client = self.open(head="patience = 0.3")
+        self.until(lambda: self.up(client, 1))
+        self.assertEqual(client.ask("@1 dump 7"), ["refused Down"])
+        while (said := client.ask("@1 dump 2")) == ["refused Down"]:
+            time.sleep(0.02)
+        self.assertEqual(said, ["refused NoHouse"])
+        self.assertIn(" late 1 ", client.ask("status")[2])
+
     def test_a_house_that_is_killed_is_started_again_and_says_its_last_turn(self) -> None:
         client = self.open(houses=(1, 2))
         self.make(client, (1, 2))
@@ -223,6 +239,74 @@ class DoorTest(Room):
             ran = subprocess.run([f"{ROOT}/tools/door", path], capture_output=True, text=True, check=False)
             found = (ran.returncode, said in ran.stderr, "Traceback" in ran.stderr)
             self.assertEqual(found, (1, True, False), ran.stderr)
+
+
+class DoorsTest(Room):
+    """Doors of several machines. (They are all here, and `door-peer` is the whole line between.)"""
+
+    def reach(self, name: str, house: int, by: int) -> str:
+        """The table of a house behind the door of this name, which knows the one that asks by this house."""
+        return f'[house.{house}]\nvia = "{sys.executable} {ROOT}/tools/door-peer {self.room}/{name}.p{by}"'
+
+    def peer(self, name: str, house: int, *classes: str) -> str:
+        words = ", ".join(f'"{word}"' for word in ("questions", "updates", "messages", *classes))
+        return f'[peer.{house}]\nsocket = "{name}.p{house}"\nallow = [{words}]'
+
+    def two(self, *classes: str) -> tuple[Client, Client]:
+        """Machines a and b, with houses 1 and 2. The console is a's; b may send it lines of these classes, too."""
+        head = "console = 1\nskulk_every = 1"
+        tail = "\n".join([self.reach("b", 2, 1), self.peer("a", 2, *classes)])
+        one = self.open("a", (1,), f'{head}\nledger = "a.console"', tail)
+        two = self.open("b", (2,), head, "\n".join([self.reach("a", 1, 2), self.peer("b", 1, "operation")]))
+        for client in (one, two):
+            self.until(lambda client=client: self.up(client, 1) and self.up(client, 2))
+            for house in (1, 2):
+                self.until(lambda client=client, house=house: client.ask(f"@{house} dump 1") == ["refused NoHouse"])
+        return one, two
+
+    def test_two_machines(self) -> None:
+        one, two = self.two("operation")
+        for line in ("house 1 00000000000a", "house 2 00000000000b", "root 1 2"):
+            self.assertEqual(one.ask(line), ["ok"], line)
+        self.until(lambda: two.ask("@2 dump 1")[-1] == "end")
+        # (b sends its command to the console, and that sends the line to b)
+        self.assertEqual(two.ask("mkdir 2 1 sub 2"), ["refused NotMaster"])
+        self.assertEqual(one.ask("epoch 1 1 s2"), ["ok 2"])
+        self.until(lambda: "2:1:s" in two.ask("@2 dump 1")[0])
+        self.assertEqual(two.ask("mkdir 2 1 sub 2")[0][:5], "ok 2 ")
+        self.assertEqual(two.ask(f"export /.:/sub/lpr {INTERFACE} {BINDING} -"), ["ok 2"])
+        line = f"import low /.:/sub/lpr {INTERFACE} - ncacn_ip_tcp"
+        self.until(lambda: one.ask(line) == [f"binding {BINDING}", "end 1"])
+        self.assertEqual(one.ask("mkdir 1 1 other 1")[0][:5], "ok 3 ")
+        self.until(lambda: one.ask("@1 dump 1") == two.ask("@2 dump 1"))
+        # b is gone: the import of a group says what it did not reach
+        self.assertEqual(one.ask("groupadd /.:/all /.:/sub/lpr"), ["ok 2"])
+        self.doors[1].kill()
+        self.doors[1].wait()
+        self.until(lambda: not self.up(one, 2))
+        self.assertEqual(one.ask(f"import low /.:/all {INTERFACE} - ncacn_ip_tcp"), ["unreached 2", "end 0"])
+        self.assertEqual(one.ask("create /.:/sub/a"), ["refused Unreachable 2"])
+
+    def test_another_machine_forges_nothing(self) -> None:
+        one, two = self.two()
+        for line in ("house 1 00000000000a", "house 2 00000000000b", "root 1 2"):
+            self.assertEqual(one.ask(line), ["ok"], line)
+        for line in ("epoch 1 1", "mkdir 1 1 sub 1"):
+            self.assertEqual(two.ask(line), ["refused Forbidden"])
+        stream = Client(f"{self.room}/a.p2")
+        self.assertEqual(stream.ask(f"@1 take {MESSAGE}"), ["refused Forbidden"])
+        # (its own messages it may bring, and the house says what they are)
+        self.assertEqual(stream.ask(f"@1 take {MESSAGE[:12]}02{MESSAGE[14:]}")[0].split(" ")[0], "ok")
+        self.assertIn("the door of house 2 may not send epoch 1 1", self.log("a"))
+
+    def test_a_line_that_hangs(self) -> None:
+        client = self.open(head="console = 1\npatience = 0.3", tail='[house.2]\nvia = "sleep 20"')
+        self.make(client)
+        self.assertEqual(client.ask("@2 dump 1"), ["refused Down"])
+        began = time.monotonic()
+        self.assertEqual(client.ask("@2 dump 1"), ["refused Down"])
+        self.assertEqual(client.ask("read high /.:/a A"), ["refused NoSuchName 0"])
+        self.assertLess(time.monotonic() - began, 0.25)
 
 
 class ClientsTest(Room):

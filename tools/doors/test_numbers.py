@@ -63,7 +63,7 @@ class NumbersTest(unittest.TestCase):
         self.done("root 1 2", 1, "ok")
         self.give("mkdir 1 1 a 1")
         self.give("mkdir 2 1 b 2")
-        self.assertEqual(len(self.house(2).asked), 0)
+        self.assertEqual((len(self.house(1).asked), len(self.house(2).asked)), (1, 0))
         self.assertEqual(self.house(1).answer("ok 2 1@00000000000a"), "mkdir 1 a 2")
         self.assertEqual(self.house(2).answer("ok 3 1@00000000000b"), "mkdir 1 b 3")
         self.assertEqual(self.said[1:], [["ok 2 1@00000000000a"], ["ok 3 1@00000000000b"]])
@@ -120,6 +120,17 @@ class NumbersTest(unittest.TestCase):
         self.house(1).answer("ok epoch 1 allupto none skulk none entries 0 members 1:1:m")
         self.assertEqual(self.house(1).answer("ok 2"), "epoch 1 2 1:1:m")
 
+    def test_a_house_that_may_be_made(self) -> None:
+        for answer, said in (("refused NoHouse", "ok"), ("refused NoReplica", "refused HouseExists")):
+            self.give("house 1 00000000000a")
+            self.house(1).answer()
+            self.give("house 1 00000000000a")
+            self.assertEqual(self.house(1).answer(answer), "status 1")
+            if said == "ok":
+                self.house(1).answer("refused HouseExists")
+            else:
+                self.assertEqual(self.said[-1], [said])
+
     def test_a_house_is_made_once(self) -> None:
         self.assertEqual(self.done("house 1 00000000000A", 1, "ok"), "house 1 00000000000A")
         self.renew()
@@ -127,6 +138,36 @@ class NumbersTest(unittest.TestCase):
             self.give(line)
             self.assertEqual(self.said[-1], ["refused HouseExists"], line)
         self.done("house 2 00000000000b", 2, "ok")
+
+    def test_a_lost_ledger_is_counted_again(self) -> None:
+        self.give("mkdir 1 1 a 1")
+        self.assertEqual(self.said[-1], ["refused NoDirectory"])
+        self.numbers.recount(["recount"], self.said.append)
+        self.house(1).answer("directory 1 held 2", "directory 2 gone 4", "end 2")
+        self.house(2).answer("directory 1 held 1", "directory 2 held 3", "directory 7 held 1", "end 3")
+        rest = "allupto none skulk none entries 0 members"
+        self.house(1).answer(f"ok epoch 2 {rest} 1:1:r 2:1:m")
+        for state in (f"ok epoch 1 {rest} 1:1:m 2:1:r", f"ok epoch 3 {rest} 1:1:m 2:3:s", f"ok epoch 1 {rest} 2:1:m"):
+            self.house(2).answer(state)
+        self.assertEqual(self.said[-1], ["ok 3"])
+        found = Ledger(self.path).console.directories
+        self.assertEqual(found, {1: (2, {1: (1, "r"), 2: (1, "m")}), 2: (4, {}), 7: (1, {2: (1, "m")})})
+        self.assertEqual(self.done("mkdir 1 1 b 1", 1, "ok 8 9@00000000000a"), "mkdir 1 b 8")
+        self.numbers.recount(["recount"], self.said.append)
+        self.assertEqual(self.said[-1], ["refused DirectoryExists"])
+
+    def test_a_house_that_is_down_is_not_left_out_without_a_word(self) -> None:
+        self.numbers.recount(["recount"], self.said.append)
+        self.house(1).answer("directory 1 held 1", "end 1")
+        self.house(2).answer()
+        self.house(1).answer("ok epoch 1 allupto none skulk none entries 0 members 1:1:m")
+        self.assertEqual((self.said[-1], Ledger(self.path).console.directories), (["refused Down 2"], {}))
+        self.numbers.recount(["recount", "-", "2"], self.said.append)
+        self.house(1).answer("end 0")
+        self.assertEqual((self.said[-1], self.house(2).asked), (["ok 0"], []))
+        for words in (["recount", "2"], ["recount", "-", "x"]):
+            self.numbers.recount(words, self.said.append)
+            self.assertEqual(self.said[-1], ["fault BadWord 2"])
 
     def test_refusals_without_a_house(self) -> None:
         self.give("epoch 1 1")

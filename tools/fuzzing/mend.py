@@ -1,9 +1,10 @@
 #!/usr/bin/env python3
 """Mends a directory of random cells in trouble, for as long as it is asked to.
 
-    tools/fuzzing/mend.py SECONDS [--inputs N] [--seed N] [--program PATH] [--mender PATH]
+    tools/fuzzing/mend.py SECONDS [--inputs N] [--seed N] [--program PATH] [--mender PATH] [--proved]
 
-Without --program and --mender `tools/build` builds the proved programs first, where that has to be; PATH may have words behind it, as that
+Without --program and --mender these are the proved ones of these sources, or else ones that are not proved, and standard error says so;
+with --proved `tools/build` proves and builds them first, if that has to be. PATH may have words behind it, as that
 of the plain program, whose form `mend` does the same. With --inputs it ends after so many scripts. Each script makes a few houses and
 directories, loses messages, delivers some late or twice, crashes houses, and changes epochs; then `cdsmend` mends one of its directories,
 now and then without some of the houses. What it has to write is computed here from the answers of `cdsreplay`: who is listed, who is up,
@@ -27,8 +28,9 @@ import time
 from collections import Counter
 
 ROOT = os.path.dirname(os.path.dirname(os.path.dirname(os.path.realpath(__file__))))
-PROGRAM = f"{ROOT}/crates/cdsreplay/out/cdsreplay"
-MENDER = f"{ROOT}/crates/cdsmend/out/cdsmend"
+sys.dont_write_bytecode = True
+sys.path.insert(0, f"{ROOT}/tools")
+from building.choosing import NoProgram, chosen  # noqa: E402
 FOUND = f"{ROOT}/out/fuzz-input"
 SECONDS = 60
 LAST_TIME = 2**64 - 1
@@ -282,12 +284,14 @@ def main():
     parser.add_argument("--seed", type=int, default=1)
     parser.add_argument("--program")
     parser.add_argument("--mender")
+    parser.add_argument("--proved", action="store_true")
     words = parser.parse_args()
-    for name, path in (("program", PROGRAM), ("mender", MENDER)):
+    for name, program in (("program", "cdsreplay"), ("mender", "cdsmend")):
         if not getattr(words, name):
-            if subprocess.run([f"{ROOT}/tools/build", os.path.basename(path)], stdin=subprocess.DEVNULL).returncode:
+            try:
+                setattr(words, name, chosen(program, None, words.proved))
+            except NoProgram:
                 return 1
-            setattr(words, name, path)
     count, troubles, fault = mend_all(words)
     print(", ".join(f"{number} {trouble}" for trouble, number in troubles.most_common()))
     if fault:

@@ -6,10 +6,10 @@ import resource
 import subprocess
 
 ROOT = os.path.dirname(os.path.dirname(os.path.dirname(os.path.realpath(__file__))))
-PROGRAM = f"{ROOT}/crates/cdsreplay/out/cdsreplay"
-MENDER = f"{ROOT}/crates/cdsmend/out/cdsmend"
 SECONDS = 60
 NO_MEMORY = 6
+# Octets of an input, and rounds of `load`, beyond which a run is one of a large input.
+LARGE, LARGE_LOAD = 1_000_000, 5000
 # Answers of a line that changes nothing: no line that `cdsmend` writes may get one.
 IN_VAIN = re.compile(rb"\d+ (refused|ok (late|early|stale|noreplica))\b")
 
@@ -84,11 +84,19 @@ class Run:
         return "; ".join(found) or None
 
 
+def is_large(run):
+    """Whether a run has a large input, or makes one."""
+    if not isinstance(run, Run):
+        return False
+    return len(run.octets) > LARGE or run.words[:1] == ["load"] and run.status == 0 and int(run.words[1]) > LARGE_LOAD
+
+
 class Mending(Run):
     """A run of `cdsmend`. The script followed by the commands that it writes has to end with a skulk that is complete, and none of
     these commands may be refused or in vain."""
 
-    mender = MENDER
+    # (the path of the program, which tools/cases sets)
+    mender = ""
 
     def fault(self, program):
         """Returns what differs, or None."""

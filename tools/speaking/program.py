@@ -1,13 +1,11 @@
 """The program that answers scripts: which one, and how it is run."""
-import os
 import re
 import subprocess
 
+from building import choosing
+from building.sources import ROOT  # noqa: F401
 from speaking import language
 
-ROOT = os.path.dirname(os.path.dirname(os.path.dirname(os.path.realpath(__file__))))
-BUILT = f"{ROOT}/crates/cdsreplay/out/cdsreplay"
-WRAPPER = f"{ROOT}/cdsreplay"
 STATUSES = {1: "could not be built", 4: "could not read", 5: "could not write", 6: "ran out of memory", 7: "has a full journal"}
 
 
@@ -15,11 +13,12 @@ class Failed(Exception):
     """The program gave no answers that can be used."""
 
 
-def path(given):
-    """The path of the program: the one that is given, the built one, or the wrapper."""
-    if given:
-        return os.path.abspath(given)
-    return BUILT if os.access(BUILT, os.X_OK) else WRAPPER
+def path(given, is_to_be_proved=False):
+    """The path of the program: the one that is given, the proved one of these sources, or one that is not proved."""
+    try:
+        return choosing.chosen("cdsreplay", given, is_to_be_proved)
+    except choosing.NoProgram as error:
+        raise Failed("there is no program to ask") from error
 
 
 class Program:
@@ -30,10 +29,8 @@ class Program:
 
     def run(self, script, form=None):
         """The answers to the octets of a script, without the last line end, line by line. A fault is one of them."""
-        # The wrapper may have to build the program, and says so; the programs themselves are silent.
-        errors = None if self.path == WRAPPER else subprocess.PIPE
         try:
-            ran = subprocess.run([self.path, *(form or self.form)], input=script, stdout=subprocess.PIPE, stderr=errors, check=False)
+            ran = subprocess.run([self.path, *(form or self.form)], input=script, capture_output=True, check=False)
         except OSError as error:
             raise Failed(f"{self.path}: {error.strerror}") from error
         if ran.returncode not in (0, 3):

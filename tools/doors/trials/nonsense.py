@@ -130,6 +130,7 @@ def tried(clerk: str, seconds: float, seed: int) -> collections.Counter[str]:
             child.stdin.write("".join(f"hear {number} {text}\n" for text in said) if said else f"down {number}\n")
         counts["questions"] += asked
     child.stdin.close()
+    child.stdout.close()
     child.wait()
     return counts
 

@@ -1,0 +1,2 @@
+pub mod Fairness
+pub mod Converging

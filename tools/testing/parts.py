@@ -1,0 +1,93 @@
+"""The parts of the tests: what each tries, over which programs, and what it takes.
+
+`./test` runs them over programs that are not proved, `./prove` over the proved ones.
+"""
+
+from __future__ import annotations
+
+import dataclasses
+import os
+import re
+
+from building.sources import PROGRAMS, ROOT, lines_of_crates
+
+# Which programs a part is for.
+UNPROVED, PROVED = "unproved", "proved"
+BOTH = (UNPROVED, PROVED)
+TEST = re.compile(r"#\s*\[[^]]*\btest\b")
+# Minutes of a processor that it takes to make an unproved program, and to try the tests of a crate.
+MAKING, TRYING = 1.1, 0.6
+
+
+@dataclasses.dataclass(frozen=True)
+class Part:
+    """A part: its command, whose words may have `{PROGRAM}` for the path of one; the programs that it runs; minutes of a processor of
+    2.5 GHz; the command without which it is passed over; the folder that it runs in."""
+
+    name: str
+    what: str
+    words: tuple[str, ...]
+    programs: tuple[str, ...] = ()
+    minutes: float = 0.1
+    needs: str = ""
+    folder: str = "."
+    kinds: tuple[str, ...] = BOTH
+
+
+REPLAYER, MENDER, HOUSE, EXPLAINER = "cdsreplay", "cdsmend", "cdshouse", "cdsexplain"
+REPLAYERS = ("{cdsreplay}", "--mender", "{cdsmend}")
+# What is left out.
+SMALL = "runs with little memory (the cases `starved`), in which an unproved program cannot begin"
+LARGE = "runs with large inputs (the cases `large`, `load 20000`, more than a million octets), for which it is too slow"
+LEFT_OUT: dict[str, tuple[str, ...]] = {UNPROVED: (SMALL, LARGE, "`./prove` or `./test --proved` tests these, too"), PROVED: ()}
+OVER_PROGRAMS = (
+    Part("cases", "the cases, the examples of the pages, the wrappers", ("tools/cases", *REPLAYERS), (REPLAYER, MENDER), 0.7),
+    Part("tools", "tools/why, tools/write and tools/console, as a user runs them", ("tools/try-tools", "--program", "{cdsreplay}"), (REPLAYER,), 0.6),
+    Part("pages", "the pages of tools/picture in a browser", ("tools/try-page", "{cdsreplay}"), (REPLAYER,), 1.0),
+    Part("random", "random scripts, octets and mended cells against the plain program, for 20 seconds",
+         ("tools/fuzz", "20", "--seed", "1", "--program", *REPLAYERS), (REPLAYER, MENDER), 1.0, "rustc"),
+    Part("plain-house", "the tools of houses, and the plain house of bench/", ("tools/house-tests",), (), 1.0, "rustc"),
+    Part("house", "the house, as a process", ("tools/house-tests", "--program", "{cdshouse}"), (HOUSE,), 1.0, "rustc"),
+    Part("explanation", "the explanation of journals, also of altered ones",
+         ("tools/house-tests", "--explainer", "{cdsexplain}"), (EXPLAINER,), 1.0, "rustc"),
+    Part("plain-houses", "plain houses through kills and losses of power, for 20 seconds", ("tools/houses", "20", "--seed", "1"), (), 1.0, "rustc"),
+    Part("houses", "houses through kills and losses of power, and their explanation, for 20 seconds",
+         ("tools/houses", "20", "--seed", "1", "--program", "{cdshouse}", "--explainer", "{cdsexplain}"), (HOUSE, EXPLAINER), 1.0, "rustc"),
+    Part("scripts", "scripts on live plain houses, and a clerk, against the replay: all cases, and random ones for 10 seconds",
+         ("tools/houses", "10", "--scripts", "--seed", "1"), (), 1.0, "rustc"),
+    Part("doors", "doors of three machines that are harmed, for 20 seconds",
+         ("tools/door-trial", "20", "--round", "20", "--local", "--house", "{cdshouse}"), (HOUSE,), 0.5, "rustc"),
+)
+OF_SOURCES = (
+    Part("rules", "whether docs/RULES.md is true and whole", ("tools/check-rules",)),
+    Part("map", "whether the pages that are made of the sources are theirs", ("tools/map", "--check")),
+    Part("style", "wide lines, words to avoid, copies", ("tools/check-style",)),
+    Part("python", "the unit tests of the tools", ("tools/testing/units",)),
+    Part("linters", "shellcheck, ruff and mypy, those that are there", ("tools/testing/linters",)),
+)
+
+
+def has_tests(crate: str) -> bool:
+    """Whether a crate has test functions."""
+    for at, _, files in os.walk(f"{ROOT}/crates/{crate}/src"):
+        for file in files:
+            with open(f"{at}/{file}", encoding="utf-8") as it:
+                if TEST.search(it.read()):
+                    return True
+    return False
+
+
+def all_crates() -> list[str]:
+    """The crates of the repository."""
+    with open(f"{ROOT}/crates.txt", encoding="utf-8") as file:
+        names = [line.partition("#")[0].partition(":")[0].split() for line in file.read().splitlines()]
+    return [*lines_of_crates(ROOT, [words[0] for words in names if words])]
+
+
+def parts(kind: str) -> list[Part]:
+    """The parts for programs of this kind: what makes or looks for the programs comes first."""
+    found = [Part(name, f"finds the {kind} program", ("tools/build", name, f"--{kind}"), (), MAKING if kind == UNPROVED else 0.1) for name in PROGRAMS]
+    if kind == UNPROVED:
+        crates = [it for it in all_crates() if has_tests(it)]
+        found += [Part(it, "the tests of a crate, without proof", ("rt", "try", "--test"), (), TRYING, "rt", f"crates/{it}") for it in crates]
+    return [it for it in (*found, *OVER_PROGRAMS, *OF_SOURCES) if kind in it.kinds]
