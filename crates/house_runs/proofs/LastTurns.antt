@@ -1,11 +1,11 @@
 -- A house that starts has the last turn of its folder to say again.
-use Rattle.std.proofs.Common.{◌≡◌, ℕ, ◌+◌, List, [], ◌∷◌, ◌++◌, refl, sym, ap, subst, ◌∙◌}
+use Rattle.std.proofs.Common.{◌≡◌, ℕ, ◌+◌, List, [], ◌∷◌, refl, sym, ap, subst, ◌∙◌}
 use Rattle.std.specs.Prelude.{Option, Some, None}
 use Rattle.clearinghouse.specs.declared.house.Clearinghouse.{Clearinghouse}
 use Rattle.house_serving.specs.Turns.{Dialogue, Turn, bodies_of}
 use Rattle.house_turns.specs.declared.house.House.{House}
 use Rattle.house_turns.specs.HouseReplies.{Responds}
-use Rattle.house_turns.specs.Openings.{EndsLife, HasTurn, IsSegmentRecord, IsTurnText, NoneMade, OpensBy, RedoneBy, Restarts, Resumes, after_start, new_house, start_text}
+use Rattle.house_turns.specs.Openings.{EndsLife, HasTurn, IsTurnText, NoneMade, RedoneBy, Restarts, Resumes, after_start, new_house, start_text}
 use Rattle.house_turns.specs.Records.{IsRecord}
 use Rattle.house_turns.proofs.LastTurns.{has_turn, turn_after}
 use Rattle.house_turns.proofs.Resumptions.{last_of_segment, last_of_start}

@@ -115,15 +115,17 @@ first_of _ _ (TellEntry body bodies e es is rest) = inr (e, es, refl, is, rest)
 one_tale : (bodies : List (List ℕ)) (es fs : List Entry) → TellEntries bodies es → TellEntries bodies fs → AllAlike es fs
 one_tale [] es fs tell too =
     subst (λ l. AllAlike l fs) (sym (first_of [] es tell)) (subst (λ l. AllAlike [] l) (sym (first_of [] fs too)) tt)
-one_tale (body ∷ bodies) es fs tell too = by (first_of (body ∷ bodies) es tell) (first_of (body ∷ bodies) fs too)
+one_tale (body ∷ bodies) es fs tell too =
+    by (first_of (body ∷ bodies) es tell) (first_of (body ∷ bodies) fs too) (λ es' fs' tell' too'. one_tale bodies es' fs' tell' too')
   where
-    by : FirstOf (body ∷ bodies) es → FirstOf (body ∷ bodies) fs → AllAlike es fs
-    by (inl a) (inl b) = one_tale bodies es fs a.1 b.1
-    by (inl a) (inr b) = absurd (segment_or_entry body b.0 a.0 b.3)
-    by (inr a) (inl b) = absurd (segment_or_entry body a.0 b.0 a.3)
-    by (inr a) (inr b) =
+    by : FirstOf (body ∷ bodies) es → FirstOf (body ∷ bodies) fs
+        → ((es' fs' : List Entry) → TellEntries bodies es' → TellEntries bodies fs' → AllAlike es' fs') → AllAlike es fs
+    by (inl a) (inl b) later = later es fs a.1 b.1
+    by (inl a) (inr b) later = absurd (segment_or_entry body b.0 a.0 b.3)
+    by (inr a) (inl b) later = absurd (segment_or_entry body a.0 b.0 a.3)
+    by (inr a) (inr b) later =
         subst (λ l. AllAlike l fs) (sym a.2)
-        (subst (λ l. AllAlike (a.0 ∷ a.1) l) (sym b.2) (one_entry body a.0 b.0 a.3 b.3, one_tale bodies a.1 b.1 a.4 b.4))
+        (subst (λ l. AllAlike (a.0 ∷ a.1) l) (sym b.2) (one_entry body a.0 b.0 a.3 b.3, later a.1 b.1 a.4 b.4))
 
 -- ---- the house that was made
 
@@ -161,10 +163,12 @@ first_made _ _ _ (TellNew body bodies made es is rest) = inr (is, rest)
 pub one_house : (bodies : List (List ℕ)) (made other : MadeHouse) (es fs : List Entry) → TellHouse bodies made es → TellHouse bodies other fs
     → (made ≡ other) × AllAlike es fs
 one_house [] made other es fs tell too = absurd (first_made [] made es tell)
-one_house (body ∷ bodies) made other es fs tell too = by (first_made (body ∷ bodies) made es tell) (first_made (body ∷ bodies) other fs too)
+one_house (body ∷ bodies) made other es fs tell too =
+    by (first_made (body ∷ bodies) made es tell) (first_made (body ∷ bodies) other fs too) (λ tell' too'. one_house bodies made other es fs tell' too')
   where
-    by : FirstMade (body ∷ bodies) made es → FirstMade (body ∷ bodies) other fs → (made ≡ other) × AllAlike es fs
-    by (inl a) (inl b) = (one_making body made other a.0 b.0, one_tale bodies es fs a.1 b.1)
-    by (inl a) (inr b) = absurd (making_or_new body made a.0 b.0)
-    by (inr a) (inl b) = absurd (making_or_new body other b.0 a.0)
-    by (inr a) (inr b) = one_house bodies made other es fs a.1 b.1
+    by : FirstMade (body ∷ bodies) made es → FirstMade (body ∷ bodies) other fs
+        → (TellHouse bodies made es → TellHouse bodies other fs → (made ≡ other) × AllAlike es fs) → (made ≡ other) × AllAlike es fs
+    by (inl a) (inl b) later = (one_making body made other a.0 b.0, one_tale bodies es fs a.1 b.1)
+    by (inl a) (inr b) later = absurd (making_or_new body made a.0 b.0)
+    by (inr a) (inl b) later = absurd (making_or_new body other b.0 a.0)
+    by (inr a) (inr b) later = later a.1 b.1

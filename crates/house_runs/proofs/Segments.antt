@@ -28,8 +28,8 @@ use Rattle.house_turns.specs.Openings.{EndsLife, HasTurn, IsSegmentRecord, IsTur
 use Rattle.house_turns.specs.Records.{HomeFits, IsRecord, image_in}
 use Rattle.house_turns.specs.RunningSkulks.{running_lines}
 use Rattle.house_turns.proofs.LastTurns.{has_turn, turn_after}
-use Rattle.house_turns.proofs.Resumptions.{Resumed, segment_resumes, start_resumes, turn_is_no_skulk}
-use Rattle.house_runs.specs.Folders.{AreSegments, Beginning, BeginsWith, FolderSegment, IsFolder, OpensFrom, ProcessBegins, ProcessGoesOn, folder_bodies, segment_bodies}
+use Rattle.house_turns.proofs.Resumptions.{segment_resumes, start_resumes, turn_is_no_skulk}
+use Rattle.house_runs.specs.Folders.{AreSegments, Beginning, BeginsWith, FolderSegment, IsFolder, ProcessBegins, ProcessGoesOn, folder_bodies, segment_bodies}
 use Rattle.house_runs.specs.Tales.{IsNewBody, IsSegmentBody, IsStartBody, TellEntries, TellEntry, TellHonestHouse, TellMade, TellNew, TellNoHouse, TellNone, TellSegment}
 use Rattle.house_runs.proofs.Lines.{DoesTurn, LineDone, NoTurn, OneTurn, Runs, line_done, runs_on}
 use Rattle.house_runs.proofs.Turns.{image_stands}

@@ -1,13 +1,11 @@
 -- What one line comes to where no house was made yet.
-use Rattle.std.proofs.Common.{◌≡◌, ℕ, Bool, true, false, List, [], ◌++◌, length, refl, sym, ap, subst, ◌∙◌}
+use Rattle.std.proofs.Common.{◌≡◌, ℕ, Bool, true, false, List, ◌++◌, length, refl, sym, ap, subst, ◌∙◌}
 use Rattle.std.specs.Prelude.{Option, Some, None, Result, Ok, Err, nat_lt}
 use Rattle.std.specs.FinMap.{get-empty}
 use Rattle.cds_stamps.specs.declared.numbers.HouseNo.{HouseNo}
 use Rattle.cell_model.specs.Cells as model
 use Rattle.cell_script.specs.Words.{words_of}
 use Rattle.cell_script.specs.declared.fault.ParseFault.{ParseFault}
-use Rattle.script_answers.specs.Texts.{answer_line}
-use Rattle.script_answers.specs.declared.answer.Answer.TheVariants as answer
 use Rattle.house_directory.specs.ModelReplicas.{StandsSlot}
 use Rattle.house_directory.specs.declared.states.DirState.TheVariants as state
 use Rattle.house_directory.specs.declared.states.Held.{Held}
@@ -21,7 +19,7 @@ use Rattle.house_serving.specs.Turns.{Said}
 use Rattle.cell_runs.specs.Orders.{new_house}
 use Rattle.house_turns.specs.declared.house.House.{House}
 use Rattle.house_turns.specs.declared.house.TheConstants.{MOST_MESSAGE}
-use Rattle.house_turns.specs.HouseReplies.{RepliesAnew, RepliesBy, RepliesIf, RepliesMoreIf, RepliesTake, RepliesTo, Responds, TellsLines, with_spaces, new_clearinghouse, turn_text}
+use Rattle.house_turns.specs.HouseReplies.{RepliesAnew, RepliesBy, RepliesIf, RepliesMoreIf, RepliesTake, RepliesTo, Responds, TellsLines, with_spaces, new_clearinghouse}
 use Rattle.house_turns.proofs.PlainLines.{line_begins}
 use Rattle.house_runs.specs.Tales.{IsMakingBody, LineSays}
 use Rattle.house_runs.proofs.JoinedWords.{words_again}
