@@ -14,6 +14,8 @@ mod house;
 mod house_lines;
 #[path = "plain/house_segments.rs"]
 mod house_segments;
+#[path = "plain/house_turns.rs"]
+mod house_turns;
 #[path = "plain/inquiries.rs"]
 mod inquiries;
 #[path = "plain/logs.rs"]

@@ -210,10 +210,10 @@ def large_script_with_too_many_lines(room, kit):
 
 
 def altered(body):
-    """A record with one octet changed: its clock, its image, and of a turn the last one of each line."""
+    """A record with one octet changed: its clock, its image if it has one, and of a turn the last one of each line."""
     size = int.from_bytes(body[17 : journals.FIELDS], "big")
     text = body[journals.FIELDS : journals.FIELDS + size]
-    places = [15, len(body) - 1]
+    places = [15, len(body) - 1] if body[16] else [15]
     if not text.startswith((b"start", b"segment", b"new")):
         ends = [at for at, octet in enumerate(text) if octet == 10]
         places += [journals.FIELDS + end - 1 for end in ends]

@@ -34,8 +34,9 @@ class Plan:
         self.fail = chance.choice([0, 0, 150])
         # Some houses have a full disk: so many octets at first.
         self.room = chance.choice([0, 0, 0, 60_000])
-        # After so many octets a segment is changed, where the program takes that.
-        self.segment = chance.choice([0, 5_000, 20_000]) if args.small else 0
+        # After so many octets, and so many times those that it begins with, a segment is changed, where the program takes that.
+        self.segment = chance.choice([None, 1, 5_000, 20_000]) if args.small else None
+        self.times = chance.choice([1, 2, 3])
         if args.steady:
             self.kill = self.power = self.fail = self.room = 0
 
@@ -77,7 +78,7 @@ class Trial:
         words = {"HOUSE_DISK": f"{folder} {self.folder}/disk{number} {seed} {power} {fail} {room}"}
         if self.programs.disk:
             words["LD_PRELOAD"] = self.programs.disk
-        return words | ({"HOUSE_SEGMENT": str(plan.segment)} if plan.segment else {})
+        return words | ({"HOUSE_SEGMENT": str(plan.segment), "HOUSE_TIMES": str(plan.times)} if plan.segment else {})
 
     def hurry(self, house):
         """Kills a house that starts, now and then."""
@@ -238,6 +239,7 @@ class Trial:
             self.compare_scripts(entries)
         self.count["messages"] += explainer.messages
         self.count["messages taken"] += explainer.taken
+        self.count["images compared"] += explainer.images
         self.count["questions and refusals"] += sum(map(len, self.asked.values()))
         if self.random.random() < 0.25:
             explainer = explaining.Explainer(entries, self.asked)

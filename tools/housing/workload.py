@@ -78,7 +78,7 @@ class Workload:
             f"clear {directory} {name} {attribute}": 4,
             f"link {directory} {name}l /.:/lpr": 2,
             f"clock {self.random.randrange(2000)}": 4,
-            f"skulk {directory}": 12,
+            f"skulk {directory}": 24,
             f"repoint {directory} dir2 1 {self.numbers[-1]}": 2,
             f"dump {directory}": 3,
             f"look {directory} {name} {attribute}": 2,
