@@ -2,14 +2,14 @@
 
 use std::io::Write;
 
-use crate::answers::{push_hex, write_dump};
+use crate::answers::{push_hex, stamp_or, write_dump, write_listed};
 use crate::house::Refusal::{self, At, Because};
 use crate::house::{Clearinghouse, Held, Letters, Said, Skulk, Slot, Term, Update};
 use crate::house_lines::{Line, Others, line_of};
 use crate::house_segments::Record;
 use crate::records::{Member, Role, read_image, read_message};
 use crate::script::{directory, node, number};
-use crate::tables::{Kind, Pointer, Stamp};
+use crate::tables::{Entry, Kind, Pointer, Stamp};
 
 const MOST_MEMBERS: usize = 64;
 const LONGEST_MESSAGE: usize = 16_777_216;
@@ -260,6 +260,9 @@ impl Home {
             Line::Take(octets) => self.take(pieces, &octets),
             Line::Dump(dir) => self.dump(dir),
             Line::Look(dir, name, attribute) => self.look(dir, name, attribute),
+            Line::Show(high, dir, name) => self.show(high, dir, name),
+            Line::Status(dir) => self.status(dir),
+            Line::Directories => self.directories(),
             Line::Image => Ok(Lines(octets_told(&self.home()?.image()))),
         }
     }
@@ -372,6 +375,73 @@ impl Home {
             count += 1;
         }
         let _ = writeln!(text, "end {count}");
+        Ok(Lines(text))
+    }
+}
+
+/// The line that says what an entry is, and where it leads, if it leads anywhere.
+fn lead_line(entry: &Entry) -> Vec<u8> {
+    let (word, lead) = match (entry.kind, entry.lead()) {
+        (Kind::Object, _) => ("object", vec![]),
+        (Kind::Link, target) => ("link", target.map_or(vec![], |target| [b" ", target].concat())),
+        (Kind::Child, lead) => ("child", lead.and_then(Pointer::read).map_or(vec![], |pointer| pointer_words(&pointer))),
+    };
+    [word.as_bytes(), &lead, b"\n"].concat()
+}
+
+/// The directory and the houses of a pointer, each after a space.
+fn pointer_words(pointer: &Pointer) -> Vec<u8> {
+    let houses: String = pointer.houses.iter().map(|house| format!(" {house}")).collect();
+    format!(" {}{houses}", pointer.dir).into_bytes()
+}
+
+// Questions of clerks and of operators.
+impl Home {
+    /// What shows of a name: what it is and where it leads, and the values of its attributes. At high confidence only the master answers,
+    /// by its own list.
+    fn show(&mut self, high: bool, dir: u32, name: &[u8]) -> Result<Outcome, Refusal> {
+        let home = self.home()?;
+        let held = home.held(dir).ok_or(Because("NoReplica"))?;
+        if high && held.term.master() != Some(home.number) {
+            return Err(Because("NotMaster"));
+        }
+        let (_, entry) = held.replica.live(name).ok_or(Because("NoSuchEntry"))?;
+        let mut text = lead_line(entry);
+        for attribute in entry.attributes.keys() {
+            let mut values = entry.values(attribute).peekable();
+            if values.peek().is_some() {
+                text.extend([b"attr ", &attribute[..], b"\n"].concat());
+            }
+            values.for_each(|value| hex_line(&mut text, b"value ", value));
+        }
+        text.extend_from_slice(b"end\n");
+        Ok(Lines(text))
+    }
+
+    /// How a directory is, without its entries.
+    fn status(&mut self, dir: u32) -> Result<Outcome, Refusal> {
+        let held = self.home()?.held(dir).ok_or(Because("NoReplica"))?;
+        let up_to = stamp_or(held.replica.all_up_to, "none");
+        let skulk = stamp_or(held.skulk.as_ref().map(|skulk| skulk.stamp), "none");
+        let count = held.replica.entries().values().filter(|entry| entry.is_live()).count();
+        let mut text = format!("ok epoch {} allupto {up_to} skulk {skulk} entries {count} members", held.term.epoch).into_bytes();
+        let _ = write_listed(&mut text, &held.term.members);
+        text.push(b'\n');
+        Ok(Lines(text))
+    }
+
+    /// The directories that it holds, and those that it held.
+    fn directories(&mut self) -> Result<Outcome, Refusal> {
+        let dirs = &self.home()?.dirs;
+        let mut text = Vec::new();
+        for (dir, slot) in dirs {
+            let (word, epoch) = match slot {
+                Slot::Held(held) => ("held", held.term.epoch),
+                Slot::Gone(epoch) => ("gone", *epoch),
+            };
+            let _ = writeln!(text, "directory {dir} {word} {epoch}");
+        }
+        let _ = writeln!(text, "end {}", dirs.len());
         Ok(Lines(text))
     }
 }

@@ -129,7 +129,8 @@ impl Reader {
             (None, Line::House(house, node)) if record.clock == 0 && posts.is_empty() && answer == b"ok" => {
                 self.log = Some(Log { house, node, image, entries: vec![] });
             }
-            (None, _) | (_, Line::House(..) | Line::Clock(_) | Line::More(_) | Line::Dump(_) | Line::Look(..) | Line::Image) => return None,
+            (None, _) | (_, Line::House(..)) => return None,
+            (_, line) if line.is_no_turn() => return None,
             (Some(log), _) => {
                 let (line, answer) = (line.to_vec(), answer.to_vec());
                 log.entries.push(Entry { clock: record.clock, line, posts, answer, image });

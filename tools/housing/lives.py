@@ -9,7 +9,7 @@ from workload import Job
 NO_POWER, DISK_FAULT, KILLED = -6, 8, -9
 # The answers to `take` of a message that is not taken.
 NOT_TAKEN = ("ok late", "ok early", "ok stale", "ok noreplica", "ok foreign")
-NO_TURNS = ("clock", "more", "dump", "look", "image")
+NO_TURNS = ("clock", "more", "dump", "look", "image", "show", "status", "directories")
 MOST_STARTS = 400
 
 

@@ -158,16 +158,14 @@ class Trial:
             self.asked[house.number, house.entry].append(explaining.Asked(job.line, answer))
 
     def compare_look(self, house, job, answer):
-        """A look that comes just after a dump shows its present values."""
+        """A look, or a show, that comes just after a dump shows its present values."""
         words = job.line.split(" ")
         if words[0] == "dump" and answer[-1] == "end":
             self.dumped[house.number] = (words[1], values_of(answer))
             return
         directory, values = self.dumped.pop(house.number, (None, {}))
-        if words[0] == "look" and words[1] == directory:
-            name, attribute = words[2:]
-            due = values.get(name, {}).get(attribute, [])
-            shown = [*(f"value {value}" for value in due), f"end {len(due)}"] if name in values else ["refused NoSuchEntry"]
+        if words[0] in ("look", "show") and directory in words[1:3]:
+            shown = shown_by(words, values)
             if answer != shown:
                 raise Difference(f"house {house.number}: {job.line} is {answer}, the dump before has {shown}")
             self.count["looks compared"] += 1
@@ -273,6 +271,18 @@ class Trial:
         if found:
             line, answer, due = found[0]
             raise Difference(f"{len(found)} lines differ: {line[:200]}: replay {answer}: journal {due}")
+
+
+def shown_by(words, values):
+    """What a house answers to these words by the values of a dump."""
+    name = words[2] if words[0] == "look" else words[3]
+    if name not in values:
+        return ["refused NoSuchEntry"]
+    if words[0] == "look":
+        due = values[name].get(words[3], [])
+        return [*(f"value {value}" for value in due), f"end {len(due)}"]
+    lines = [[f"attr {attribute}", *(f"value {value}" for value in due)] for attribute, due in values[name].items() if due]
+    return ["object", *(line for own in lines for line in own), "end"]
 
 
 def values_of(dump):
