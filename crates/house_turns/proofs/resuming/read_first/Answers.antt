@@ -12,6 +12,6 @@ returns-in-Some-behind c =
     segment_reads c.args.entry c.args.text.now c.in-Some-behind.rest.now c.read_skulks.result c.in_default.ensures
     (rw (c.deref.ensures.value, c.in_ok-line.ensures) at c.in-Some-behind.ensures) c.read_skulks.ensures
 
-pub returns-in-None : goal.returns-in-None
-returns-in-None c =
+pub returns : goal.returns
+returns c =
     not_first c.args.entry c.args.text.now c.in_default.ensures (rw (c.deref.ensures.value, c.in_ok-line.ensures) at c.in-None.ensures)
