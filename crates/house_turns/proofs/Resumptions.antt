@@ -252,3 +252,9 @@ resumes_as n clock text image skulks home after last kept h says starts runs sam
   starts = starts;
   is = is ∙ ap (λ (c : Clearinghouse). house_with c n clock kept) runs ∙ ap (house_with (with_skulks skulks home) n clock) same;
 }
+
+-- the same of a call that may run out of memory
+pub segment_reads : (entry : ℕ) (text rest : List ℕ) (r : Result (Option RunningLines) AllocError) → ((last : List ℕ) → text ≢ codes "start" ++ (10 ∷ last))
+    → text ≡ segment_line entry ++ rest → IfOk r (ReadsSkulks rest) → IfOk r (ReadsFirst entry text)
+segment_reads entry text rest (Err e) start is reads = tt
+segment_reads entry text rest (Ok o) start is reads = segment_read entry text rest o start is reads
