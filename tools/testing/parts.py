@@ -53,9 +53,10 @@ OVER_PROGRAMS = (
     Part("explanation", "the explanation of journals, also of altered ones",
          ("tools/house-tests", "--explainer", "{cdsexplain}", "--without", CUT), (EXPLAINER,), 3.5, "rustc"),
     Part("cuts", "the explanation of journals that end at any octet", ("tools/house-tests", "--explainer", "{cdsexplain}", CUT), (EXPLAINER,), 2.5, "rustc"),
+    # (the two run side by side: each keeps its folders by their seeds)
     Part("plain-houses", "plain houses through kills and losses of power, for 20 seconds", ("tools/houses", "20", "--seed", "1"), (), 0.1, "rustc"),
     Part("houses", "houses through kills and losses of power, and their explanation, for 20 seconds",
-         ("tools/houses", "20", "--seed", "1", "--program", "{cdshouse}", "--explainer", "{cdsexplain}"), (HOUSE, EXPLAINER), 0.2, "rustc"),
+         ("tools/houses", "20", "--seed", "1001", "--program", "{cdshouse}", "--explainer", "{cdsexplain}"), (HOUSE, EXPLAINER), 0.2, "rustc"),
     Part("scripts", "scripts on live plain houses, and a clerk, against the replay: all cases, and random ones for 10 seconds",
          ("tools/houses", "10", "--scripts", "--seed", "1"), (), 1.0, "rustc"),
     Part("doors", "doors of three machines that are harmed, for 20 seconds",
