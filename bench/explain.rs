@@ -14,6 +14,8 @@ mod house;
 mod house_lines;
 #[path = "plain/house_segments.rs"]
 mod house_segments;
+#[path = "plain/house_turns.rs"]
+mod house_turns;
 #[path = "plain/inquiries.rs"]
 mod inquiries;
 #[path = "plain/logs.rs"]
@@ -38,7 +40,7 @@ use std::path::Path;
 use std::process::ExitCode;
 
 use explaining::{Explainer, Stuck};
-use logs::{Log, NoLog};
+use logs::Found;
 use script::{Fault, Words};
 
 /// Why a line of a script is not answered.
@@ -74,25 +76,28 @@ const TOO_LONG: u8 = 7;
 
 /// What is written, and the status.
 fn explained(folders: &[std::ffi::OsString]) -> (Vec<u8>, u8) {
-    let mut all = Vec::new();
+    let (mut all, mut faults) = (Vec::new(), String::new());
     for (at, folder) in folders.iter().enumerate() {
-        match Log::read(Path::new(folder)) {
-            Ok(log) => all.extend(log),
-            Err(NoLog::Unreadable) => return (vec![], READ_FAULT),
-            Err(NoLog::Unlike(fault)) => return (format!("# unexplained: folder {}: {fault}\n", at + 1).into_bytes(), UNEXPLAINED),
-        }
+        let Ok(Found { log, fault }) = Found::read(Path::new(folder)) else {
+            return (vec![], READ_FAULT);
+        };
+        all.extend(log);
+        faults.extend(fault.map(|fault| format!("# unexplained: folder {}: {fault}\n", at + 1)));
     }
     let mut explainer = Explainer::new(all);
     let ended = explainer.run();
     let mut script = explainer.script;
+    let mut status = if faults.is_empty() { WHOLE } else { UNEXPLAINED };
     match ended {
-        Ok(()) => (script, WHOLE),
-        Err(Stuck::TooLong) => (script, TOO_LONG),
+        Ok(()) => {}
+        Err(Stuck::TooLong) => status = TOO_LONG,
         Err(Stuck::At { house, entry, cause }) => {
             script.extend(format!("# unexplained: house {house} entry {entry}: {cause}\n").into_bytes());
-            (script, UNEXPLAINED)
+            status = UNEXPLAINED;
         }
     }
+    script.extend(faults.into_bytes());
+    (script, status)
 }
 
 fn main() -> ExitCode {

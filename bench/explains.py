@@ -1,5 +1,5 @@
 #!/usr/bin/env python3
-"""Measures programs that explain journals, run as `PROGRAM FOLDER..` (docs/HOUSE.md, "Explained"):
+"""Measures programs that explain journals, run as `PROGRAM FOLDER..` (docs/EXPLAINED.md):
 
     explains.py [--runs K] [--entries N] [--instructions E] [--house PATH] NAME=PROGRAM [NAME=PROGRAM ..]
 

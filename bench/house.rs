@@ -1,5 +1,6 @@
 //! A clearinghouse as a process, in plain Rust: what the proved `cdshouse` is to be compared with. It aborts where there is no memory.
-//! The environment variable HOUSE_SEGMENT, if it is there, says after how many octets a segment is changed for the next one.
+//! The environment variables HOUSE_SEGMENT and HOUSE_TIMES, if they are there, say after how many octets, and how many times those that it
+//! begins with, a segment is changed for the next one.
 #![allow(dead_code)]
 
 #[path = "plain/answers.rs"]
@@ -35,13 +36,13 @@ use std::io::{self, BufRead, BufReader, Read, Write};
 use std::path::Path;
 use std::process::ExitCode;
 
-use house_segments::{Folder, NotOpened, NotPut, Record, Segment};
-use house_turns::{Home, Outcome, tell, text_of};
+use house_segments::{Folder, NotOpened, NotPut, Segment};
+use house_turns::{Home, line_in, tell};
 use script::{Fault, MOST_LINES, Words};
 
-/// After how many octets, and how many images at least, a segment is changed for the next one.
-const LARGE: u64 = 16_777_216;
-const MANY: u64 = 8;
+/// After how many octets, and how many times those that it begins with, a segment is changed for the next one.
+const LARGE: u64 = 4_194_304;
+const TIMES: u64 = 3;
 
 /// Why a line of a script is not answered.
 pub enum Stop {
@@ -78,6 +79,8 @@ enum Ending {
     DiskFault = 8,
     NoFolder = 9,
     Held = 10,
+    OtherVersion = 11,
+    DoesOtherwise = 12,
 }
 
 impl From<NotPut> for Ending {
@@ -93,6 +96,7 @@ impl From<NotOpened> for Ending {
     fn from(fault: NotOpened) -> Ending {
         match fault {
             NotOpened::Unreadable => Ending::NoFolder,
+            NotOpened::OtherVersion => Ending::OtherVersion,
             NotOpened::Held => Ending::Held,
             NotOpened::Failed => Ending::DiskFault,
         }
@@ -105,20 +109,17 @@ struct Serving<W> {
     folder: Folder,
     segment: Segment,
     large: u64,
+    times: u64,
     sink: W,
 }
 
-/// What a house is by its last record.
-fn home_of(record: Record) -> Result<Home, Ending> {
-    let Some(image) = record.image else {
-        let is_new = record.text == b"new\n" && record.entry == 0;
-        return if is_new { Ok(Home::default()) } else { Err(Ending::NoFolder) };
+/// The house after the records of a segment with these bodies, each of which it does again, and after the death of its process.
+fn home_after(bodies: &[Vec<u8>]) -> Result<Home, Ending> {
+    let Some((first, others)) = bodies.split_first() else {
+        return Ok(Home::default());
     };
-    let house = records::read_image(&image).map_err(|_| Ending::NoFolder)?;
-    let end = record.text.iter().position(|b| *b == b'\n').ok_or(Ending::NoFolder)? + 1;
-    let first = &record.text[..end];
-    let last = if first == b"start\n" || first.starts_with(b"segment ") { &record.text[end..] } else { &record.text };
-    Ok(Home { house: Some(house), clock: record.clock, entry: record.entry, last: last.to_vec(), ..Home::default() })
+    let mut home = Home::resume(first).ok_or(Ending::NoFolder)?;
+    if others.iter().all(|body| home.redo(body)) { Ok(home.end()) } else { Err(Ending::DoesOtherwise) }
 }
 
 /// What a start says: the house, and its last turn once more.
@@ -128,89 +129,55 @@ fn start_told(home: &Home) -> Vec<u8> {
         return b"0 new\n".to_vec();
     };
     let _ = writeln!(out, "0 house {} {:012x}", house.number, house.node);
-    let end = home.last.iter().position(|b| *b == b'\n').unwrap_or(0);
-    let line = &home.last[..end];
+    let (line, rest) = line_in(&home.last).unwrap_or_default();
     out.extend_from_slice(b"0 last ");
     out.extend_from_slice(if line.starts_with(b"take ") { b"take" } else { line });
     out.push(b'\n');
-    tell(&mut out, 0, &home.last[end + 1..]);
+    tell(&mut out, 0, rest);
     out
 }
 
-/// The record with which a segment begins.
-fn first_record(home: &Home, entry: u64, word: &str) -> Record {
-    match &home.house {
-        None => Record { entry: 0, clock: 0, text: b"new\n".to_vec(), image: None },
-        Some(house) => {
-            let text = [word.as_bytes(), b"\n", &home.last].concat();
-            Record { entry, clock: home.clock, text, image: Some(house.image()) }
-        }
-    }
+/// A number of the environment, or else this one.
+fn set(name: &str, otherwise: u64) -> u64 {
+    std::env::var(name).ok().and_then(|text| text.parse().ok()).unwrap_or(otherwise)
 }
 
 impl<W: Write> Serving<W> {
     /// Goes on where the folder ended.
-    fn start(folder: &Path, mut sink: W) -> Result<Serving<W>, Ending> {
-        let large = std::env::var("HOUSE_SEGMENT").ok().and_then(|text| text.parse().ok()).unwrap_or(LARGE);
-        let (mut folder, last) = Folder::open(folder)?;
-        let mut home = last.map_or(Ok(Home::default()), home_of)?;
-        home.clock = 0;
+    fn start(folder: &Path, sink: W) -> Result<Serving<W>, Ending> {
+        let (mut folder, bodies) = Folder::open(folder)?;
+        let mut home = home_after(&bodies)?;
+        drop(bodies);
         home.entry += u64::from(home.house.is_some());
-        let segment = folder.next(None, &first_record(&home, home.entry, "start"))?;
+        let segment = folder.next(None, &home.first_record(true))?;
         let told = start_told(&home);
-        sink.write_all(&told).and_then(|()| sink.flush()).map_err(|_| Ending::WriteFault)?;
-        Ok(Serving { home, folder, segment, large, sink })
+        let mut serving = Serving { home, folder, segment, large: set("HOUSE_SEGMENT", LARGE), times: set("HOUSE_TIMES", TIMES), sink };
+        serving.say(&told)?;
+        Ok(serving)
     }
 
     fn say(&mut self, text: &[u8]) -> Result<(), Ending> {
         self.sink.write_all(text).and_then(|()| self.sink.flush()).map_err(|_| Ending::WriteFault)
     }
 
-    /// Makes a turn durable.
-    fn put(&mut self, text: &[u8]) -> Result<(), Ending> {
-        self.home.entry += 1;
-        let image = self.home.house.as_ref().map(|house| house.image());
-        let record = Record { entry: self.home.entry, clock: self.home.clock, text: text.to_vec(), image };
-        Ok(self.segment.put(&record)?)
-    }
-
     /// Changes a large segment for the next one.
     fn change(&mut self) -> Result<(), Ending> {
-        // (its first record is no image)
-        if self.segment.size > self.large && self.segment.records > MANY {
-            let entry = self.home.entry;
-            let record = first_record(&self.home, entry, &format!("segment {entry}"));
-            self.segment = self.folder.next(Some(&self.segment), &record)?;
+        if self.segment.held >= self.large.max(self.times * self.segment.begun) {
+            self.segment = self.folder.next(Some(&self.segment), &self.home.first_record(false))?;
         }
         Ok(())
     }
 
-    /// Answers the words of a line.
+    /// Answers the words of a line. A turn is put before.
     fn answer(&mut self, number: u32, words: &[&[u8]]) -> Result<(), Ending> {
-        let mut out = Vec::new();
-        let line = match house_lines::line_of(words) {
-            Ok(line) => line,
-            Err(fault) => {
-                self.home.forget();
-                return self.say(format!("{number} fault {} {}\n", fault.0, fault.1).as_bytes());
-            }
-        };
-        let taken = if let house_lines::Line::Take(octets) = &line { Some(self.home.with_pieces(octets)) } else { None };
-        match self.home.outcome(line) {
-            Err(refusal) => out = format!("{number} {refusal}\n").into_bytes(),
-            Ok(Outcome::Stays(said)) => out = format!("{number} {said}\n").into_bytes(),
-            Ok(Outcome::Lines(text)) => tell(&mut out, number, &text),
-            Ok(Outcome::Turn(said, letters)) => {
-                let line = taken.unwrap_or_else(|| words.join(&b' '));
-                let text = text_of(&line, &letters, &said);
-                self.put(&text)?;
-                let end = line.len() + 1;
-                tell(&mut out, number, &text[end..]);
-                self.home.last = text;
-            }
+        let reply = self.home.respond(words);
+        if let Some(record) = &reply.record {
+            self.segment.put(record)?;
         }
+        let mut out = Vec::new();
+        tell(&mut out, number, &reply.text);
         self.say(&out)?;
-        self.change()
+        if reply.record.is_some() { self.change() } else { Ok(()) }
     }
 
     /// Answers each line up to the end of the input.
@@ -245,7 +212,7 @@ impl<W: Write> Serving<W> {
 fn main() -> ExitCode {
     let words: Vec<_> = std::env::args_os().skip(1).collect();
     let ended = match &words[..] {
-        [folder] => Serving::start(Path::new(folder), io::stdout().lock()).and_then(|mut serving| serving.serve(io::stdin().lock())),
+        [folder] if !folder.is_empty() => Serving::start(Path::new(folder), io::stdout().lock()).and_then(|mut serving| serving.serve(io::stdin().lock())),
         _ => Err(Ending::WrongArguments),
     };
     ExitCode::from(ended.err().unwrap_or(Ending::InputEnds) as u8)

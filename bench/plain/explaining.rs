@@ -158,9 +158,11 @@ impl Explainer {
         Ok(())
     }
 
-    fn compare_image(&self, house: u8, image: &[u8]) -> Result<(), Fault> {
-        match self.cell.image(house) {
-            Ok(own) if *own == *image => Ok(()),
+    /// That the replay has this image of a house, if it is known.
+    fn compare_image(&self, house: u8, image: Option<&[u8]>) -> Result<(), Fault> {
+        match (image, self.cell.image(house)) {
+            (None, _) => Ok(()),
+            (Some(image), Ok(own)) if *own == *image => Ok(()),
             _ => Err(Fault::Other("an image that the replay has not".to_string())),
         }
     }
@@ -183,7 +185,7 @@ impl Explainer {
                 Some(cause) => Err(never(cause)),
                 None => self.quietly(&format!("house {house} {node:012x}")),
             };
-            made.and_then(|()| self.compare_image(house, &self.logs[at].image)).map_err(|fault| stuck(house, 1, fault))?;
+            made.and_then(|()| self.compare_image(house, self.logs[at].image.as_deref())).map_err(|fault| stuck(house, 1, fault))?;
         }
         Ok(())
     }
@@ -252,7 +254,7 @@ impl Explainer {
         self.set_clock(at, 0)?;
         let line = format!("start {house}");
         self.done(&line)?;
-        self.compare_image(house, &entry.image)?;
+        self.compare_image(house, entry.image.as_deref())?;
         self.say(&line);
         Ok(())
     }
@@ -296,7 +298,7 @@ impl Explainer {
         }
         self.compare_list(&line, &before)?;
         self.compare_posts(first, &entry.posts)?;
-        self.compare_image(house, &entry.image)?;
+        self.compare_image(house, entry.image.as_deref())?;
         self.directories += usize::from(matches!(line, Line::Root(_) | Line::Mkdir(..)));
         for ((to, octets), serial) in entry.posts.iter().zip(first + 1..) {
             self.posted.entry((*to, octets.clone())).or_insert(serial);

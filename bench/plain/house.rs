@@ -87,16 +87,16 @@ impl Term {
 }
 
 /// A skulk that runs, with a bit for each member that has answered in its round.
-struct Skulk {
-    stamp: Stamp,
-    spreads: bool,
-    answered: u64,
+pub struct Skulk {
+    pub stamp: Stamp,
+    pub spreads: bool,
+    pub answered: u64,
 }
 
 pub struct Held {
     pub term: Term,
     pub replica: Replica,
-    skulk: Option<Skulk>,
+    pub skulk: Option<Skulk>,
 }
 
 pub enum Slot {

@@ -1,8 +1,8 @@
 //! The journal of a house: numbered files of records that no process but their own writes, each record with a sum of all before it.
 
-use std::fs::{self, File};
+use std::fs::{self, File, OpenOptions};
 use std::io::{self, Read as _};
-use std::os::unix::fs::FileExt;
+use std::os::unix::fs::{FileExt, OpenOptionsExt};
 use std::path::{Path, PathBuf};
 
 use crate::sha256::sha256;
@@ -33,17 +33,17 @@ impl From<io::Error> for NotPut {
     }
 }
 
-/// What a turn, or a start, leaves in the journal.
+/// What a turn, a start, or the change of a segment leaves in the journal.
 pub struct Record {
     pub entry: u64,
     pub clock: u64,
     pub text: Vec<u8>,
-    /// Nothing where there is no house yet.
+    /// Of the first record of a segment, if there is a house.
     pub image: Option<Vec<u8>>,
 }
 
 impl Record {
-    fn octets(&self) -> Vec<u8> {
+    pub fn octets(&self) -> Vec<u8> {
         let mut octets = self.entry.to_be_bytes().to_vec();
         octets.extend(self.clock.to_be_bytes());
         octets.push(u8::from(self.image.is_some()));
@@ -53,7 +53,7 @@ impl Record {
         octets
     }
 
-    fn read(octets: &[u8]) -> Option<Record> {
+    pub fn read(octets: &[u8]) -> Option<Record> {
         let (fields, rest) = octets.split_at_checked(FIELDS)?;
         let size = u32::from_be_bytes(fields[17..].try_into().ok()?);
         let (text, image) = rest.split_at_checked(size as usize)?;
@@ -67,26 +67,35 @@ impl Record {
     }
 }
 
+/// How a file is opened that its owner alone may read and write.
+fn owned() -> OpenOptions {
+    let mut options = File::options();
+    options.write(true).create(true).truncate(false).mode(0o600);
+    options
+}
+
 /// A file that this process made, and writes.
 pub struct Segment {
     file: File,
     /// Where the closed gate is.
     gate: u64,
     sum: Sum,
-    /// How many octets it has before it is changed for the next one, and how many records.
-    pub size: u64,
-    pub records: u64,
+    /// How many octets it has.
+    size: u64,
+    /// How many its records have, and how many they had when it got its name.
+    pub held: u64,
+    pub begun: u64,
 }
 
 impl Segment {
     /// A segment without a record, as the file `new` of a folder.
     fn begin(folder: &Path, before: Sum) -> io::Result<Segment> {
-        let file = File::options().write(true).create(true).truncate(false).open(folder.join("new"))?;
+        let file = owned().open(folder.join("new"))?;
         file.set_len(0)?;
         file.sync_all()?;
         file.write_all_at(&[0], 0)?;
         file.sync_all()?;
-        Ok(Segment { file, gate: 0, sum: before, size: 1, records: 0 })
+        Ok(Segment { file, gate: 0, sum: before, size: 1, held: 0, begun: 0 })
     }
 
     /// Writes a record with the next gate and syncs, then opens the gate before it and syncs.
@@ -107,8 +116,7 @@ impl Segment {
         self.file.write_all_at(&[1], self.gate)?;
         self.file.sync_all()?;
         self.gate = size - 1;
-        (self.size, self.sum) = (size, sum);
-        self.records += 1;
+        (self.size, self.held, self.sum) = (size, self.held + length as u64, sum);
         Ok(())
     }
 
@@ -152,22 +160,46 @@ fn was_open(octets: &[u8], gate: usize, before: &Sum) -> bool {
     next.is_some_and(|record| record_at(&opened, 1 + LENGTH + record.len()).is_some())
 }
 
-/// Takes the records in the octets of segment `number` after its first one; nothing where they are no such segment, or damaged.
-pub fn read(octets: &[u8], number: u64, mut take: impl FnMut(Record)) -> Option<Sums> {
-    let head = record_at(octets, 0)?;
-    let (mut sum, size) = body_of(head, None)?;
-    if head[..size - SUM] != *format!("cdshouse journal 1 {number}\n").as_bytes() {
+/// How the first record of a segment begins, and goes on in this version of the folder.
+const TITLE: &[u8] = b"cdshouse journal ";
+const VERSION: &[u8] = b"2 ";
+
+/// The first record of a segment without the sums.
+fn title(number: u64) -> Vec<u8> {
+    [TITLE, VERSION, format!("{number}\n").as_bytes()].concat()
+}
+
+/// Whether octets begin as a segment of another version.
+pub fn is_other_version(octets: &[u8]) -> bool {
+    let rest = record_at(octets, 0).and_then(|first| first.strip_prefix(TITLE));
+    rest.is_some_and(|rest| !rest.starts_with(VERSION))
+}
+
+/// The sum that the head of segment `number` names; nothing where the first record is no such head.
+pub fn sum_before(octets: &[u8], number: u64) -> Option<Sum> {
+    let first = record_at(octets, 0)?;
+    let (_, size) = body_of(first, None)?;
+    let (text, before) = first[..size].split_last_chunk()?;
+    if text == title(number) { Some(*before) } else { None }
+}
+
+/// Takes the bodies of the records in the octets of segment `number` after its first one; nothing where they are no such segment, or damaged.
+pub fn read(octets: &[u8], number: u64, mut take: impl FnMut(&[u8])) -> Option<Sums> {
+    let first = record_at(octets, 0)?;
+    let (mut sum, size) = body_of(first, None)?;
+    let (text, before) = first[..size].split_last_chunk()?;
+    if text != title(number) {
         return None;
     }
-    let (before, begin) = (head[size - SUM..size].try_into().ok()?, 1 + LENGTH + head.len());
+    let begin = 1 + LENGTH + first.len();
     let mut gate = begin;
     while let Some(record) = record_at(octets, gate) {
         let (next, size) = body_of(record, Some(&sum))?;
-        take(Record::read(&record[..size])?);
+        take(&record[..size]);
         sum = next;
         gate += 1 + LENGTH + record.len();
     }
-    if was_open(octets, gate, &sum) { None } else { Some(Sums { before, last: sum, is_begun: gate > begin }) }
+    if was_open(octets, gate, &sum) { None } else { Some(Sums { before: *before, last: sum, is_begun: gate > begin }) }
 }
 
 /// The folder of a house, which no other process has.
@@ -182,51 +214,73 @@ pub struct Folder {
 /// Why a folder is not opened.
 pub enum NotOpened {
     Unreadable,
+    OtherVersion,
     Held,
     Failed,
 }
 
-/// The greatest number of a segment in a folder, 0 where there is none.
+/// The greatest number of a segment in a folder, 0 where there is none. That number has to be the name of a file.
 pub fn greatest(path: &Path) -> io::Result<u64> {
     let number = |name: &str| name.parse().ok().filter(|number: &u64| *number > 0 && number.to_string() == name);
     let mut most = 0;
     for entry in fs::read_dir(path)? {
-        most = entry?.file_name().to_str().and_then(number).map_or(most, |number| most.max(number));
+        let entry = entry?;
+        if let Some(number) = entry.file_name().to_str().and_then(number) {
+            if !entry.file_type()?.is_file() {
+                return Err(io::ErrorKind::InvalidInput.into());
+            }
+            most = most.max(number);
+        }
     }
     Ok(most)
 }
 
+/// Syncs the names of a folder.
+fn sync_folder(path: &Path) -> io::Result<()> {
+    File::open(path)?.sync_all()
+}
+
 impl Folder {
-    /// Opens a folder, and reads its last segment if there is one. What an earlier process wrote there and did not sync is synced first.
-    pub fn open(path: &Path) -> Result<(Folder, Option<Record>), NotOpened> {
+    /// Opens a folder, and reads the bodies of the records of its last segment, none if there is no segment. What an earlier process wrote
+    /// there and did not sync is synced first.
+    pub fn open(path: &Path) -> Result<(Folder, Vec<Vec<u8>>), NotOpened> {
         let number = greatest(path).map_err(|_| NotOpened::Unreadable)?;
-        let lock = File::options().write(true).create(true).truncate(false).open(path.join("lock"));
-        let lock = lock.map_err(|_| NotOpened::Unreadable)?;
+        let lock = owned().open(path.join("lock")).map_err(|_| NotOpened::Unreadable)?;
         lock.try_lock().map_err(|_| NotOpened::Held)?;
+        sync_folder(path).map_err(|_| NotOpened::Failed)?;
         let number = number.max(greatest(path).map_err(|_| NotOpened::Unreadable)?);
         let mut folder = Folder { path: path.to_path_buf(), number, sum: NO_SUM, _lock: lock };
         if number == 0 {
-            return Ok((folder, None));
+            return Ok((folder, Vec::new()));
         }
         let mut file = File::open(path.join(number.to_string())).map_err(|_| NotOpened::Unreadable)?;
         file.sync_all().map_err(|_| NotOpened::Failed)?;
         let mut octets = Vec::new();
         file.read_to_end(&mut octets).map_err(|_| NotOpened::Unreadable)?;
-        let mut last = None;
-        folder.sum = read(&octets, number, |record| last = Some(record)).filter(|sums| sums.is_begun).ok_or(NotOpened::Unreadable)?.last;
-        Ok((folder, last))
+        let mut bodies = Vec::new();
+        let sums = read(&octets, number, |body| bodies.push(body.to_vec())).filter(|sums| sums.is_begun);
+        folder.sum = match sums {
+            Some(sums) => sums.last,
+            None if is_other_version(&octets) => return Err(NotOpened::OtherVersion),
+            None => return Err(NotOpened::Unreadable),
+        };
+        Ok((folder, bodies))
     }
 
     /// The next segment, which begins with this record, is there after any crash.
     pub fn next(&mut self, before: Option<&Segment>, record: &Record) -> Result<Segment, NotPut> {
         let before = before.map_or(self.sum, |segment| segment.sum);
-        let number = self.number + 1;
+        let number = self.number.checked_add(1).ok_or(NotPut::Full)?;
         let mut segment = Segment::begin(&self.path, before)?;
-        let head = [format!("cdshouse journal 1 {number}\n").as_bytes(), &before].concat();
-        segment.put_octets(&head)?;
+        segment.put_octets(&[&title(number)[..], &before].concat())?;
         segment.put(record)?;
-        fs::rename(self.path.join("new"), self.path.join(number.to_string()))?;
-        File::open(&self.path)?.sync_all()?;
+        segment.begun = segment.held;
+        let name = self.path.join(number.to_string());
+        if name.try_exists()? {
+            return Err(NotPut::Failed);
+        }
+        fs::rename(self.path.join("new"), name)?;
+        sync_folder(&self.path)?;
         self.number = number;
         Ok(segment)
     }

@@ -2,12 +2,14 @@
 
 use std::io::Write;
 
-use crate::answers::{push_hex, write_dump};
+use crate::answers::{push_hex, stamp_or, write_dump, write_listed};
 use crate::house::Refusal::{self, At, Because};
-use crate::house::{Clearinghouse, Letters, Said, Term, Update};
-use crate::house_lines::{Line, Others};
-use crate::records::{Member, Role, read_message};
-use crate::tables::{Kind, Pointer};
+use crate::house::{Clearinghouse, Held, Letters, Said, Skulk, Slot, Term, Update};
+use crate::house_lines::{Line, Others, line_of};
+use crate::house_segments::Record;
+use crate::records::{Member, Role, read_image, read_message};
+use crate::script::{directory, node, number};
+use crate::tables::{Entry, Kind, Pointer, Stamp};
 
 const MOST_MEMBERS: usize = 64;
 const LONGEST_MESSAGE: usize = 16_777_216;
@@ -28,7 +30,7 @@ pub struct Home {
 }
 
 /// What a house does at a line that it does not refuse: a turn, or an answer that changes nothing, of one line or of several.
-pub enum Outcome {
+enum Outcome {
     Turn(Said, Vec<Letters>),
     Stays(Said),
     Lines(Vec<u8>),
@@ -78,14 +80,165 @@ fn pointer(dir: u32, houses: &[u8]) -> Vec<u8> {
     Pointer { dir, houses: ordered.into() }.octets()
 }
 
+/// What a house says to a line: an answer without numbers, and the record of a turn.
+pub struct Reply {
+    pub text: Vec<u8>,
+    pub record: Option<Record>,
+}
+
+impl Reply {
+    /// Of a line that is no turn.
+    fn says(text: impl Into<Vec<u8>>) -> Reply {
+        Reply { text: text.into(), record: None }
+    }
+}
+
+/// The first line of a text, and what follows its end.
+pub fn line_in(text: &[u8]) -> Option<(&[u8], &[u8])> {
+    let end = text.iter().position(|b| *b == b'\n')?;
+    Some((&text[..end], &text[end + 1..]))
+}
+
+/// A stamp in words.
+fn stamp(word: &[u8]) -> Option<Stamp> {
+    let at = word.iter().position(|b| *b == b'@')?;
+    Some(Stamp { time: number(&word[..at])?, node: node(&word[at + 1..])? })
+}
+
+/// The directory of a skulk that runs, and the skulk, as a line of a record says them.
+fn running(line: &[u8]) -> Option<(u32, Skulk)> {
+    let words: Vec<&[u8]> = line.split(|b| *b == b' ').collect();
+    let [b"running", dir, issued, round, answered] = words[..] else {
+        return None;
+    };
+    let spreads = match round {
+        b"gather" => false,
+        b"spread" => true,
+        _ => return None,
+    };
+    Some((directory(dir)?, Skulk { stamp: stamp(issued)?, spreads, answered: number(answered)? }))
+}
+
+// The skulks that run, which an image leaves out.
+impl Clearinghouse {
+    /// Ends the skulks that run, as the death of the process does.
+    pub fn crash(&mut self) {
+        for slot in self.dirs.values_mut() {
+            if let Slot::Held(held) = slot {
+                held.skulk = None;
+            }
+        }
+    }
+
+    /// The skulks that run, a line each: the directory, the stamp, the round, and a bit for each member that answered in it.
+    pub fn running(&self) -> Vec<u8> {
+        let mut text = Vec::new();
+        for (dir, slot) in &self.dirs {
+            if let Slot::Held(Held { skulk: Some(skulk), .. }) = slot {
+                let round = if skulk.spreads { "spread" } else { "gather" };
+                let _ = writeln!(text, "running {dir} {} {round} {}", skulk.stamp, skulk.answered);
+            }
+        }
+        text
+    }
+
+    /// Lets a skulk run on, if the house holds its directory.
+    pub fn run_on(&mut self, dir: u32, skulk: Skulk) {
+        if let Some(Slot::Held(held)) = self.dirs.get_mut(&dir) {
+            held.skulk = Some(skulk);
+        }
+    }
+}
+
+// From records.
+impl Home {
+    /// What a house was at the first record of a segment, by its body; none, where no house writes that.
+    pub fn resume(body: &[u8]) -> Option<Home> {
+        let record = Record::read(body)?;
+        let Some(image) = &record.image else {
+            let is_new = record.text == b"new\n" && record.entry == 0;
+            return if is_new { Some(Home::default()) } else { None };
+        };
+        let mut house = read_image(image).ok()?;
+        let (first, mut last) = line_in(&record.text)?;
+        if first == format!("segment {}", record.entry).as_bytes() {
+            while last.starts_with(b"running ") {
+                let (line, rest) = line_in(last)?;
+                let (dir, skulk) = running(line)?;
+                house.run_on(dir, skulk);
+                last = rest;
+            }
+        } else if first != b"start" {
+            return None;
+        }
+        Some(Home { house: Some(house), clock: record.clock, entry: record.entry, last: last.to_vec(), pieces: vec![] })
+    }
+
+    /// Does again what the body of a record says. Whether that gives the same body.
+    pub fn redo(&mut self, body: &[u8]) -> bool {
+        let Some(record) = Record::read(body) else {
+            return false;
+        };
+        self.clock = record.clock;
+        self.forget();
+        let line = line_in(&record.text).map_or(&[][..], |(line, _)| line);
+        let words: Vec<&[u8]> = line.split(|b| *b == b' ').filter(|word| !word.is_empty()).collect();
+        !words.is_empty() && self.respond(&words).record.is_some_and(|own| own.octets() == body)
+    }
+
+    /// The house after the death of its process: its skulks are over, and its clock is 0.
+    pub fn end(mut self) -> Home {
+        if let Some(house) = &mut self.house {
+            house.crash();
+        }
+        Home { clock: 0, pieces: vec![], ..self }
+    }
+
+    /// The record with which a segment begins: that of a start, or of a house that goes on.
+    pub fn first_record(&self, is_start: bool) -> Record {
+        let Some(house) = &self.house else {
+            return Record { entry: 0, clock: 0, text: b"new\n".to_vec(), image: None };
+        };
+        let first = if is_start { "start\n".to_string() } else { format!("segment {}\n", self.entry) };
+        let text = [first.as_bytes(), &house.running(), &self.last].concat();
+        Record { entry: self.entry, clock: self.clock, text, image: Some(house.image()) }
+    }
+}
+
 // What lines do.
 impl Home {
+    /// Responds to the words of a line.
+    pub fn respond(&mut self, words: &[&[u8]]) -> Reply {
+        let line = match line_of(words) {
+            Ok(line) => line,
+            Err(fault) => {
+                self.forget();
+                return Reply::says(format!("fault {} {}\n", fault.0, fault.1));
+            }
+        };
+        let taken = if let Line::Take(octets) = &line { Some(self.with_pieces(octets)) } else { None };
+        match self.outcome(line) {
+            Err(refusal) => Reply::says(format!("{refusal}\n")),
+            Ok(Stays(said)) => Reply::says(format!("{said}\n")),
+            Ok(Lines(text)) => Reply::says(text),
+            Ok(Turn(said, letters)) => self.turn(&taken.unwrap_or_else(|| words.join(&b' ')), &letters, &said),
+        }
+    }
+
+    /// Notes a turn as its last one.
+    fn turn(&mut self, line: &[u8], letters: &[Letters], said: &Said) -> Reply {
+        self.last = text_of(line, letters, said);
+        self.entry += 1;
+        let record = Record { entry: self.entry, clock: self.clock, text: self.last.clone(), image: None };
+        Reply { text: self.last[line.len() + 1..].to_vec(), record: Some(record) }
+    }
+
     fn home(&mut self) -> Result<&mut Clearinghouse, Refusal> {
         self.house.as_mut().ok_or(Because("NoHouse"))
     }
 
     /// Does what a line says.
-    pub fn outcome(&mut self, line: Line) -> Result<Outcome, Refusal> {
+    fn outcome(&mut self, line: Line) -> Result<Outcome, Refusal> {
         let pieces = std::mem::take(&mut self.pieces);
         match line {
             Line::House(number, node) => self.make(number, node),
@@ -107,12 +260,15 @@ impl Home {
             Line::Take(octets) => self.take(pieces, &octets),
             Line::Dump(dir) => self.dump(dir),
             Line::Look(dir, name, attribute) => self.look(dir, name, attribute),
+            Line::Show(high, dir, name) => self.show(high, dir, name),
+            Line::Status(dir) => self.status(dir),
+            Line::Directories => self.directories(),
             Line::Image => Ok(Lines(octets_told(&self.home()?.image()))),
         }
     }
 
     /// The text of a line that takes a message of the octets so far and these.
-    pub fn with_pieces(&self, octets: &[u8]) -> Vec<u8> {
+    fn with_pieces(&self, octets: &[u8]) -> Vec<u8> {
         let mut text = b"take ".to_vec();
         push_hex(&mut text, &self.pieces);
         push_hex(&mut text, octets);
@@ -120,7 +276,7 @@ impl Home {
     }
 
     /// Forgets the octets in front of the next message.
-    pub fn forget(&mut self) {
+    fn forget(&mut self) {
         self.pieces.clear();
     }
 
@@ -223,6 +379,73 @@ impl Home {
     }
 }
 
+/// The line that says what an entry is, and where it leads, if it leads anywhere.
+fn lead_line(entry: &Entry) -> Vec<u8> {
+    let (word, lead) = match (entry.kind, entry.lead()) {
+        (Kind::Object, _) => ("object", vec![]),
+        (Kind::Link, target) => ("link", target.map_or(vec![], |target| [b" ", target].concat())),
+        (Kind::Child, lead) => ("child", lead.and_then(Pointer::read).map_or(vec![], |pointer| pointer_words(&pointer))),
+    };
+    [word.as_bytes(), &lead, b"\n"].concat()
+}
+
+/// The directory and the houses of a pointer, each after a space.
+fn pointer_words(pointer: &Pointer) -> Vec<u8> {
+    let houses: String = pointer.houses.iter().map(|house| format!(" {house}")).collect();
+    format!(" {}{houses}", pointer.dir).into_bytes()
+}
+
+// Questions of clerks and of operators.
+impl Home {
+    /// What shows of a name: what it is and where it leads, and the values of its attributes. At high confidence only the master answers,
+    /// by its own list.
+    fn show(&mut self, high: bool, dir: u32, name: &[u8]) -> Result<Outcome, Refusal> {
+        let home = self.home()?;
+        let held = home.held(dir).ok_or(Because("NoReplica"))?;
+        if high && held.term.master() != Some(home.number) {
+            return Err(Because("NotMaster"));
+        }
+        let (_, entry) = held.replica.live(name).ok_or(Because("NoSuchEntry"))?;
+        let mut text = lead_line(entry);
+        for attribute in entry.attributes.keys() {
+            let mut values = entry.values(attribute).peekable();
+            if values.peek().is_some() {
+                text.extend([b"attr ", &attribute[..], b"\n"].concat());
+            }
+            values.for_each(|value| hex_line(&mut text, b"value ", value));
+        }
+        text.extend_from_slice(b"end\n");
+        Ok(Lines(text))
+    }
+
+    /// How a directory is, without its entries.
+    fn status(&mut self, dir: u32) -> Result<Outcome, Refusal> {
+        let held = self.home()?.held(dir).ok_or(Because("NoReplica"))?;
+        let up_to = stamp_or(held.replica.all_up_to, "none");
+        let skulk = stamp_or(held.skulk.as_ref().map(|skulk| skulk.stamp), "none");
+        let count = held.replica.entries().values().filter(|entry| entry.is_live()).count();
+        let mut text = format!("ok epoch {} allupto {up_to} skulk {skulk} entries {count} members", held.term.epoch).into_bytes();
+        let _ = write_listed(&mut text, &held.term.members);
+        text.push(b'\n');
+        Ok(Lines(text))
+    }
+
+    /// The directories that it holds, and those that it held.
+    fn directories(&mut self) -> Result<Outcome, Refusal> {
+        let dirs = &self.home()?.dirs;
+        let mut text = Vec::new();
+        for (dir, slot) in dirs {
+            let (word, epoch) = match slot {
+                Slot::Held(held) => ("held", held.term.epoch),
+                Slot::Gone(epoch) => ("gone", *epoch),
+            };
+            let _ = writeln!(text, "directory {dir} {word} {epoch}");
+        }
+        let _ = writeln!(text, "end {}", dirs.len());
+        Ok(Lines(text))
+    }
+}
+
 /// The octets of a message so far and more of them.
 fn joined(mut pieces: Vec<u8>, octets: &[u8]) -> Result<Vec<u8>, Refusal> {
     if pieces.len() + octets.len() > LONGEST_MESSAGE {
@@ -246,7 +469,7 @@ fn octets_told(octets: &[u8]) -> Vec<u8> {
 }
 
 /// The text of a turn, as its record has it: the line, the messages, and the answer.
-pub fn text_of(line: &[u8], letters: &[Letters], said: &Said) -> Vec<u8> {
+fn text_of(line: &[u8], letters: &[Letters], said: &Said) -> Vec<u8> {
     let mut text = line.to_vec();
     text.push(b'\n');
     for letter in letters {

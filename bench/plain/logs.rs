@@ -1,12 +1,13 @@
 //! The journals of houses, read from their folders.
 
 use std::fs;
-use std::io::ErrorKind;
+use std::io::{self, ErrorKind};
 use std::path::Path;
 
 use crate::answers::push_hex;
 use crate::house_lines::{Line, line_of};
-use crate::house_segments::{self, NO_SUM, Record, Sum, greatest};
+use crate::house_segments::{self, NO_SUM, Record, Sum, greatest, is_other_version, sum_before};
+use crate::house_turns::line_in;
 use crate::script::{house, octets};
 
 /// A start, or a turn.
@@ -16,7 +17,8 @@ pub struct Entry {
     pub line: Vec<u8>,
     pub posts: Vec<(u8, Vec<u8>)>,
     pub answer: Vec<u8>,
-    pub image: Vec<u8>,
+    /// If a record has it: that of a start, or of the segment that begins after the entry.
+    pub image: Option<Vec<u8>>,
 }
 
 impl Entry {
@@ -29,14 +31,15 @@ impl Entry {
 pub struct Log {
     pub house: u8,
     pub node: u64,
-    pub image: Vec<u8>,
+    /// After it was made, if a record has it.
+    pub image: Option<Vec<u8>>,
     pub entries: Vec<Entry>,
 }
 
-/// Why a folder has no journal.
-pub enum NoLog {
-    Unreadable,
-    Unlike(String),
+/// What is read of a folder: the journal of its house, if one was made, and why it is not read to its end, if it is not.
+pub struct Found {
+    pub log: Option<Log>,
+    pub fault: Option<String>,
 }
 
 /// The parts of a turn's text: its line, its messages, and its answer.
@@ -70,81 +73,118 @@ struct Reader {
     log: Option<Log>,
     number: u64,
     clock: u64,
-    image: Vec<u8>,
     /// The text of the last turn.
     turn: Vec<u8>,
+}
+
+/// The text of a segment's first record without its first line, and without the lines of the skulks that run.
+fn without_running(mut text: &[u8]) -> Option<&[u8]> {
+    (_, text) = line_in(text)?;
+    while let Some((_, rest)) = line_in(text).filter(|(line, _)| line.starts_with(b"running ")) {
+        text = rest;
+    }
+    Some(text)
 }
 
 impl Reader {
     /// Takes a record whose number is due; nothing where no house writes it there.
     fn take(&mut self, record: &Record) -> Option<()> {
-        let Some(image) = &record.image else {
-            let is_new = self.log.is_none() && record.clock == 0 && record.text == b"new\n";
-            return if is_new { Some(()) } else { None };
-        };
-        if let Some(turn) = record.text.strip_prefix(b"start\n") {
-            let entry = Entry { clock: 0, line: vec![], posts: vec![], answer: vec![], image: image.clone() };
-            self.log.as_mut().filter(|_| record.clock == 0 && turn == self.turn)?.entries.push(entry);
-        } else if record.text.starts_with(b"segment ") {
-            let text = [format!("segment {}\n", self.number).as_bytes(), &self.turn].concat();
-            let goes_on = self.log.is_some() && record.clock == self.clock && *image == self.image && record.text == text;
-            return if goes_on { Some(()) } else { None };
-        } else {
-            self.take_turn(record, image)?;
-            self.turn = record.text.clone();
+        match (&record.image, line_in(&record.text)?.0) {
+            (None, b"new") => return if self.log.is_none() && record.clock == 0 && record.text == b"new\n" { Some(()) } else { None },
+            (Some(image), b"start") => self.take_start(record, image)?,
+            (Some(image), first) => return self.take_segment(record, first, image),
+            (None, _) => {
+                self.take_turn(record)?;
+                self.turn = record.text.clone();
+            }
         }
-        (self.number, self.clock, self.image) = (record.entry, record.clock, image.clone());
+        (self.number, self.clock) = (record.entry, record.clock);
         Some(())
     }
 
-    fn take_turn(&mut self, record: &Record, image: &[u8]) -> Option<()> {
+    fn take_start(&mut self, record: &Record, image: &[u8]) -> Option<()> {
+        let log = self.log.as_mut().filter(|_| record.clock == 0 && record.text.strip_prefix(b"start\n") == Some(&self.turn))?;
+        log.entries.push(Entry { clock: 0, line: vec![], posts: vec![], answer: vec![], image: Some(image.to_vec()) });
+        Some(())
+    }
+
+    /// The house went on: the image is that after its last entry.
+    fn take_segment(&mut self, record: &Record, first: &[u8], image: &[u8]) -> Option<()> {
+        let log = self.log.as_mut()?;
+        let own = log.entries.last_mut().map_or(&mut log.image, |entry| &mut entry.image);
+        let is_next = first == format!("segment {}", self.number).as_bytes() && record.clock == self.clock;
+        if !is_next || without_running(&record.text)? != self.turn || own.as_deref().is_some_and(|own| own != image) {
+            return None;
+        }
+        *own = Some(image.to_vec());
+        Some(())
+    }
+
+    fn take_turn(&mut self, record: &Record) -> Option<()> {
         let (line, posts, answer) = parts(&record.text)?;
         let words: Vec<&[u8]> = line.split(|b| *b == b' ').filter(|word| !word.is_empty()).collect();
         let said = if words.is_empty() { None } else { line_of(&words).ok() }?;
         match (&mut self.log, said) {
             (None, Line::House(house, node)) if record.clock == 0 && posts.is_empty() && answer == b"ok" => {
-                self.log = Some(Log { house, node, image: image.to_vec(), entries: vec![] });
+                self.log = Some(Log { house, node, image: None, entries: vec![] });
             }
-            (None, _) | (_, Line::House(..) | Line::Clock(_) | Line::More(_) | Line::Dump(_) | Line::Look(..) | Line::Image) => return None,
+            (None, _) | (_, Line::House(..)) => return None,
+            (_, line) if line.is_no_turn() => return None,
             (Some(log), _) => {
                 let (line, answer) = (line.to_vec(), answer.to_vec());
-                log.entries.push(Entry { clock: record.clock, line, posts, answer, image: image.to_vec() });
+                log.entries.push(Entry { clock: record.clock, line, posts, answer, image: None });
             }
         }
         Some(())
     }
 
-    /// Reads the octets of a segment after a sum. The sum after it.
+    /// Reads the octets of a segment after a sum, up to the first record that is none. The sum after it.
     fn read(&mut self, octets: &[u8], number: u64, before: &Sum) -> Result<Sum, String> {
-        let mut records = Vec::new();
-        let sums = house_segments::read(octets, number, |record| records.push(record)).ok_or(format!("segment {number} is damaged"))?;
-        if sums.before != *before {
+        if is_other_version(octets) {
+            return Err(format!("segment {number} is of another version"));
+        }
+        let own = sum_before(octets, number).ok_or(format!("segment {number} record 1 is damaged"))?;
+        if own != *before {
             return Err(format!("segment {number} does not follow the segment before"));
         }
+        let mut records = Vec::new();
+        let sums = house_segments::read(octets, number, |body| records.push(Record::read(body)));
         for (place, record) in (2..).zip(&records) {
+            let no_record = || format!("segment {number} record {place} does not follow the record before");
+            let record = record.as_ref().ok_or_else(no_record)?;
             let is_entry = record.text != b"new\n" && !record.text.starts_with(b"segment ");
             let due = self.number + u64::from(is_entry);
             if record.entry != due {
-                return Err(format!("segment {number} has entry {} where {due} is due", record.entry));
+                return Err(format!("segment {number} record {place} has entry {} where {due} is due", record.entry));
             }
-            self.take(record).ok_or(format!("segment {number} record {place} does not follow the record before"))?;
+            self.take(record).ok_or_else(no_record)?;
         }
-        Ok(sums.last)
+        sums.map(|sums| sums.last).ok_or(format!("segment {number} record {} is damaged", records.len() + 2))
+    }
+
+    /// Reads the segments of a folder, of which this is the greatest number, up to the first fault.
+    fn read_all(&mut self, folder: &Path, most: u64) -> io::Result<Option<String>> {
+        let mut sum = NO_SUM;
+        for number in 1..=most {
+            let octets = match fs::read(folder.join(number.to_string())) {
+                Ok(octets) => octets,
+                Err(error) if error.kind() == ErrorKind::NotFound => return Ok(Some(format!("segment {number} is missing"))),
+                Err(error) => return Err(error),
+            };
+            match self.read(&octets, number, &sum) {
+                Ok(last) => sum = last,
+                Err(fault) => return Ok(Some(fault)),
+            }
+        }
+        Ok(None)
     }
 }
 
-impl Log {
-    /// The journal of a folder; none, where no house was made there.
-    pub fn read(folder: &Path) -> Result<Option<Log>, NoLog> {
-        let (mut reader, mut sum) = (Reader::default(), NO_SUM);
-        for number in 1..=greatest(folder).map_err(|_| NoLog::Unreadable)? {
-            let octets = match fs::read(folder.join(number.to_string())) {
-                Ok(octets) => octets,
-                Err(error) if error.kind() == ErrorKind::NotFound => return Err(NoLog::Unlike(format!("segment {number} is missing"))),
-                Err(_) => return Err(NoLog::Unreadable),
-            };
-            sum = reader.read(&octets, number, &sum).map_err(NoLog::Unlike)?;
-        }
-        Ok(reader.log)
+impl Found {
+    /// What a folder has.
+    pub fn read(folder: &Path) -> io::Result<Found> {
+        let mut reader = Reader::default();
+        let fault = reader.read_all(folder, greatest(folder)?)?;
+        Ok(Found { log: reader.log, fault })
     }
 }

@@ -72,6 +72,7 @@ def symbols(file: str, *flags: str) -> set[str]:
 def prove(room: str) -> str:
     """Proves the copy of the sources, and returns the archive that was built of it."""
     copy_to(room, [CRATE])
+    os.makedirs(os.path.dirname(LOG), exist_ok=True)
     with open(LOG, "w", encoding="utf-8") as log:
         ran = subprocess.run(["rt", "lib"], cwd=f"{room}/crates/{CRATE}", stdin=subprocess.DEVNULL, stdout=log, stderr=log, check=False)
     archive = f"{room}/crates/{CRATE}/out/lib{CRATE}.a"

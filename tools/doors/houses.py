@@ -34,6 +34,8 @@ STATUSES = {
     8: "its disk failed, or is full",
     9: "its folder cannot be read, or its last segment is damaged",
     10: "another process has its folder",
+    11: "another version wrote its folder, which tools/houses --renew renews",
+    12: "its program answers otherwise than the one that wrote its folder",
 }
 
 

@@ -6,7 +6,7 @@ ASKS = ("read", "readlink", "import", "grouplist", "entrylist", "proflist", "loo
 PLANS = ("export", "unexport", "groupadd", "groupdel", "profadd", "profdel")
 # What one update of an entry is, at a house or by a full name.
 UPDATES = ("create", "link", "delete", "add", "remove", "put", "clear")
-# What a house is asked (docs/HOUSE.md).
+# What a house is asked (docs/LINES.md).
 QUESTIONS = ("show", "status", "directories", "look", "dump")
 # The console numbers these.
 NUMBERED = ("root", "mkdir", "epoch")

@@ -45,17 +45,22 @@ crash 3
 start 3
 """.split("\n")[1:-1]
 LOST, DELAYED = 10, 20
+# A segment is changed for the next one once it has so many octets, and so many times those that it begins with.
+SMALL_SEGMENTS = {"HOUSE_SEGMENT": "1000", "HOUSE_TIMES": "2"}
 # A cell whose folders are small.
 SMALL = ["house 1 00000000000a", "house 2 00000000000b", "root 1 2", "create 1 1 a"]
 
 
 def worked(folder, program, seed, session, lost=LOST, delayed=DELAYED):
-    """The folders of a cell that worked."""
+    """The folders of a cell that worked. (A program that heeds SMALL_SEGMENTS changes its segments often.)"""
     chance = random.Random(seed)
+    os.environ.update(SMALL_SEGMENTS)
     cell = Cell(folder, ([program], []), Net(chance, loss=lost), delayed, lambda text: None)
     for line in session:
         cell.answer(line.split())
     cell.close()
+    for name in SMALL_SEGMENTS:
+        del os.environ[name]
     return {house: cell.path(house) for house in cell.houses()}
 
 
@@ -66,6 +71,7 @@ class Item:
         self.kind = record.kind if record.kind in ("new", "segment", "start") else "turn"
         self.number, self.clock, self.image = record.number, record.clock, record.image
         self.lines = record.lines if self.kind == "turn" else []
+        self.running = record.running
 
     @property
     def is_entry(self):
@@ -78,11 +84,9 @@ class Item:
 
     def body(self, turn):
         """Its octets, after this turn."""
-        said = {"new": ["new"], "start": ["start", *turn], "segment": [f"segment {self.number}", *turn]}.get(self.kind, self.lines)
-        text = "".join(f"{line}\n" for line in said).encode("ascii")
-        fields = self.number.to_bytes(8, "big") + self.clock.to_bytes(8, "big")
-        fields += bytes([self.image is not None]) + len(text).to_bytes(4, "big")
-        return fields + text + (self.image or b"")
+        segment = [f"segment {self.number}", *self.running, *turn]
+        lines = {"new": ["new"], "start": ["start", *turn], "segment": segment}.get(self.kind, self.lines)
+        return journals.body(self.number, self.clock, lines, self.image)
 
 
 class Journal:
@@ -106,6 +110,10 @@ class Journal:
     def entries(self):
         """The numbers of its entries, each with its item."""
         return [(number, self.item(number)) for number in range(1, len(self.places()) + 1)]
+
+    def images(self):
+        """The first records of its segments that have an image, each with the number of the entry whose image that is."""
+        return [(item.number, item) for items in self.segments for item in items[:1] if item.image is not None]
 
     def turns(self):
         """Those that are turns and did not make the house."""
@@ -223,11 +231,32 @@ class Alterations:
 
         return self.each_item(Journal.turns, alter)
 
+    def each_image(self, alter):
+        """A case of each record with an image; `alter` changes it, and says whether it did."""
+        for house, journal in self.journals.items():
+            for place, (number, _) in enumerate(journal.images()):
+                altered = journal.copy()
+                if alter(altered.images()[place][1]) is not False:
+                    yield self.with_journal(house, number, altered)
+
     def image(self):
         def alter(item):
             item.image = other_octets(item.image, self.chance.randrange(len(item.image)))
 
-        return self.each_item(Journal.entries, alter)
+        return self.each_image(alter)
+
+    def no_image(self):
+        def alter(item):
+            item.image = None
+
+        return self.each_image(alter)
+
+    def running(self):
+        def alter(item):
+            item.running = [line.replace("gather", "spread") if "gather" in line else line.replace("spread", "gather") for line in item.running]
+            return bool(item.running)
+
+        return self.each_image(alter)
 
     def post(self):
         def alter(lines, place):
@@ -392,6 +421,8 @@ ROWS = {
     "the last octet of a line is another": Alterations.line,
     "the last octet of an answer is another": Alterations.answer,
     "an octet of an image is another": Alterations.image,
+    "a first record has no image": Alterations.no_image,
+    "the round of a skulk that runs is another": Alterations.running,
     "the last octet of a message that was posted is another": Alterations.post,
     "a message was posted to another house": Alterations.receiver,
     "a message was not posted": Alterations.no_post,

@@ -5,43 +5,41 @@ import building
 
 SEGMENTS, TURNS, MAIN = "bench/plain/house_segments.rs", "bench/plain/house_turns.rs", "bench/house.rs"
 
-PUT = """                self.put(&text)?;
-                let end = line.len() + 1;
-                tell(&mut out, number, &text[end..]);
+PUT = """        if let Some(record) = &reply.record {
+            self.segment.put(record)?;
+        }
 """
-SAY_FIRST = """                let end = line.len() + 1;
-                tell(&mut out, number, &text[end..]);
-                self.say(&out)?;
-                out.clear();
-                self.put(&text)?;
+SAY = """        let mut out = Vec::new();
+        tell(&mut out, number, &reply.text);
+        self.say(&out)?;
 """
-OUTCOME = "        match self.home.outcome(line) {\n"
-BEFORE = "        let before = self.home.house.as_ref().map(|house| house.image());\n" + OUTCOME
-PUT_CHANGED = """                if before != self.home.house.as_ref().map(|house| house.image()) {
-                    self.put(&text)?;
-                }
-                let end = line.len() + 1;
-                tell(&mut out, number, &text[end..]);
+RESPOND = "        let reply = self.home.respond(words);\n"
+BEFORE = "        let before = self.home.house.as_ref().map(|house| house.image());\n"
+PUT_CHANGED = """        let is_same = before == self.home.house.as_ref().map(|house| house.image());
+        if let Some(record) = reply.record.as_ref().filter(|_| !is_same) {
+            self.segment.put(record)?;
+        }
+        self.home.entry -= u64::from(is_same && reply.record.is_some());
 """
 WRITE, SYNC = "        self.file.write_all_at(&octets, self.gate + 1)?;\n", "        self.file.sync_all()?;\n"
 OPEN = "        self.file.write_all_at(&[1], self.gate)?;\n"
 BOTH = "        self.file.write_all_at(&[&[1], &octets[..]].concat(), self.gate)?;\n"
 PUT_OCTETS = WRITE + SYNC + OPEN + SYNC
-RECORDS = "        segment.put_octets(&head)?;\n        segment.put(record)?;\n"
-RENAME = '        fs::rename(self.path.join("new"), self.path.join(number.to_string()))?;\n'
-LAST = "(last, sum) = (Some(Record::read(&record[..size])?), next);"
-LAST_BUT_ONE = """let is_last = last.is_some() && record_at(octets, gate + 1 + LENGTH + record.len()).is_none();
-        (last, sum) = (if is_last { last } else { Some(Record::read(&record[..size])?) }, next);"""
-SAY_LAST = "    tell(&mut out, 0, &home.last[end + 1..]);\n"
-SAY_ANSWER = """    let text = &home.last[..home.last.len() - 1];
-    let at = text.iter().rposition(|b| *b == b'\\n').unwrap_or(0);
-    tell(&mut out, 0, &home.last[at + 1..]);
+RECORDS = "        segment.put_octets(&[&title(number)[..], &before].concat())?;\n        segment.put(record)?;\n"
+NAMED = '        fs::rename(self.path.join("new"), self.path.join(number.to_string()))?;\n'
+BEGUN = "        segment.begun = segment.size;\n"
+RENAME = '        fs::rename(self.path.join("new"), name)?;\n'
+OTHERS, FEWER = "others.iter().all(", "others[..others.len().max(1) - 1].iter().all("
+SAY_LAST = "    tell(&mut out, 0, rest);\n"
+SAY_ANSWER = """    let at = rest[..rest.len() - 1].iter().rposition(|b| *b == b'\\n').map_or(0, |at| at + 1);
+    tell(&mut out, 0, &rest[at..]);
 """
-REFUSED = r'''Err(refusal) => out = format!("{number} {refusal}\n").into_bytes(),'''
+REFUSED = r'''Err(refusal) => Reply::says(format!("{refusal}\n")),'''
 PUT_REFUSED = r'''Err(refusal) => {
-                out = format!("{number} {refusal}\n").into_bytes();
-                let text = format!("{}\n{refusal}\n", String::from_utf8_lossy(&words.join(&b' ')));
-                self.put(text.as_bytes())?;
+                let said = format!("{refusal}\n").into_bytes();
+                self.entry += 1;
+                let text = [&words.join(&b' '), &b"\n"[..], &said].concat();
+                Reply { text: said, record: Some(Record { entry: self.entry, clock: self.clock, text, image: None }) }
             }'''
 PIECES = "let pieces = std::mem::take(&mut self.pieces);"
 KEEP_PIECES = """let is_message = matches!(line, Line::Take(_) | Line::More(_));
@@ -51,24 +49,35 @@ ANY_BEHIND = "next.is_some_and(|record| opened.get(1 + LENGTH + record.len()) ==
 
 # What the bug is, the file, and its edits: the present text, and the text in its place.
 BUGS = [
-    ("a turn is answered before it is put", MAIN, (PUT, SAY_FIRST)),
-    ("a turn that leaves the image as it is is not put", MAIN, (PUT, PUT_CHANGED), (OUTCOME, BEFORE)),
-    ("a line that is refused leaves a record", MAIN, (REFUSED, PUT_REFUSED)),
+    ("a turn is answered before it is put", MAIN, (PUT + SAY, SAY + PUT)),
+    ("a turn that leaves the image as it is is not put", MAIN, (RESPOND + PUT, BEFORE + RESPOND + PUT_CHANGED)),
+    ("a line that is refused leaves a record", TURNS, (REFUSED, PUT_REFUSED)),
     ("the record is not synced before its gate", SEGMENTS, (PUT_OCTETS, WRITE + OPEN + SYNC)),
     ("a put ends without a sync", SEGMENTS, (PUT_OCTETS, WRITE + SYNC + OPEN)),
     ("the gate is written with the record", SEGMENTS, (PUT_OCTETS, BOTH + SYNC)),
     ("the gate is opened before the record is there", SEGMENTS, (PUT_OCTETS, OPEN + SYNC + WRITE + SYNC)),
     ("a start does not sync what it reads", SEGMENTS, ("file.sync_all().map_err(|_| NotOpened::Failed)?;", "")),
-    ("the folder is not synced", SEGMENTS, ("File::open(&self.path)?.sync_all()?;", "")),
-    ("a segment has its name before its records", SEGMENTS, (RECORDS + RENAME, RENAME + RECORDS)),
+    ("the folder is not synced", SEGMENTS, (RENAME + "        sync_folder(&self.path)?;\n", RENAME)),
+    ("a segment has its name before its records", SEGMENTS, (RECORDS + BEGUN, NAMED + RECORDS + BEGUN), (RENAME, "")),
     ("a new segment does not follow the one before", MAIN, ("self.folder.next(Some(&self.segment),", "self.folder.next(None,")),
-    ("a start keeps the clock", MAIN, ("        home.clock = 0;\n", "")),
+    ("a start keeps the clock", TURNS, ("Home { clock: 0, pieces: vec![], ..self }", "Home { pieces: vec![], ..self }")),
     ("a start says no message", MAIN, (SAY_LAST, SAY_ANSWER)),
     ("a start does not count as an entry", MAIN, ("home.entry += u64::from(home.house.is_some());", "")),
-    ("a start goes on from the turn before the last", SEGMENTS, (LAST, LAST_BUT_ONE)),
     ("pieces of a message are kept over another line", TURNS, (PIECES, KEEP_PIECES)),
     ("an octet 1 behind a record that was not put is damage", SEGMENTS, (BEHIND, ANY_BEHIND)),
+    ("the last record is not done again", MAIN, (OTHERS, FEWER)),
+    ("lines are done again at the clock of the first record", TURNS, ("        self.clock = record.clock;\n", "")),
+    ("a start keeps the skulks that run", TURNS, ("            house.crash();\n", "            let _ = house;\n")),
+    ("a next segment forgets the skulks that run", TURNS, ("&house.running(), ", "")),
+    ("a next segment knows of a skulk in its first round alone", TURNS, ('b"spread" => true', 'b"spread" => false')),
+    ("what is done again is not compared", TURNS, (".record.is_some_and(|own| own.octets() == body)", ".record.is_some()")),
 ]
+# The tests that find what trials seldom come across, or never.
+TESTS = {
+    "a next segment forgets the skulks that run": "test_skulks_that_run_where_a_segment_begins",
+    "a next segment knows of a skulk in its first round alone": "test_skulks_that_run_where_a_segment_begins",
+    "what is done again is not compared": "test_a_house_that_would_do_otherwise",
+}
 
 
 def planted(bug, room):

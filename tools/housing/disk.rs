@@ -3,9 +3,9 @@
 //! which octets and names a crash would keep. It remembers what was not synced over the death of the process, as the memory of a
 //! machine does that goes on.
 //!
-//! HOUSE_DISK is `FOLDER STATE SEED LOSS FAIL ROOM`: the folder of the house, a folder for what the disk is sure to keep, a seed, one in how
-//! many calls loses the power and one in how many fails (0: none), and how many octets the folder may have (0: any number). A loss of
-//! power leaves one of the contents that docs/JOURNAL.md allows, and aborts.
+//! HOUSE_DISK is `FOLDER STATE SEED LOSS FAIL ROOM AT`: the folder of the house, a folder for what the disk is sure to keep, a seed, one in how
+//! many calls loses the power and one in how many fails (0: none), how many octets the folder may have (0: any number), and, if it is there,
+//! the number of a call that loses the power. A loss of power leaves one of the contents that docs/FORMATS.md allows, and aborts.
 
 #[path = "disk_model.rs"]
 mod disk_model;

@@ -33,6 +33,9 @@ pub struct Disk {
     loss: u64,
     fail: u64,
     room: u64,
+    /// The call in which the power is lost, and how many were made.
+    lost_at: u64,
+    calls: u64,
     pub files: HashMap<u64, Unsynced>,
 }
 
@@ -70,12 +73,13 @@ impl Disk {
     pub fn of_environment() -> Option<Disk> {
         let words = std::env::var("HOUSE_DISK").ok()?;
         let words: Vec<&str> = words.split(' ').collect();
-        let [folder, state, seed, loss, fail, room] = words[..] else {
+        let [folder, state, ref numbers @ ..] = words[..] else {
             return None;
         };
-        let number = |word: &str| word.parse().unwrap_or(0);
-        let (folder, state, random) = (fs::canonicalize(folder).ok()?, state.into(), number(seed) | 1);
-        Some(Disk { folder, state, random, loss: number(loss), fail: number(fail), room: number(room), files: HashMap::new() })
+        let number = |at: usize| numbers.get(at).and_then(|word| word.parse().ok()).unwrap_or(0);
+        let (folder, state, random) = (fs::canonicalize(folder).ok()?, state.into(), number(0) | 1);
+        let (loss, fail, room, lost_at) = (number(1), number(2), number(3), number(4));
+        Some(Disk { folder, state, random, loss, fail, room, lost_at, calls: 0, files: HashMap::new() })
     }
 
     pub fn below(&mut self, most: usize) -> usize {
@@ -91,7 +95,8 @@ impl Disk {
 
     /// What comes of a call that writes; the power may be lost before it.
     pub fn fate(&mut self) -> Fate {
-        if self.once_in(self.loss) {
+        self.calls += 1;
+        if self.calls == self.lost_at || self.once_in(self.loss) {
             if self.below(2) == 0 {
                 self.lose_power();
             }

@@ -1,8 +1,7 @@
 """Tests of `cdsexplain`: its scripts, its statuses, and what it says of journals that no cell has. (With the plain house of bench/.)"""
-import importlib.machinery
-import importlib.util
 import itertools
 import os
+import re
 import shutil
 import subprocess
 
@@ -10,19 +9,13 @@ import building
 import explaining
 import journals
 from processes import Process, take_lines
+from program_tests import loaded
 from tool_tests import given, session, worked
 
 # The most lines of a script.
 MOST_LINES = 1 << 24
 EXAMPLE = f"{building.ROOT}/examples/killed"
-
-
-def loaded(tool):
-    """A tool of this repository, as a module."""
-    loader = importlib.machinery.SourceFileLoader(tool.replace("-", "_"), f"{building.ROOT}/tools/{tool}")
-    module = importlib.util.module_from_spec(importlib.util.spec_from_loader(loader.name, loader))
-    loader.exec_module(module)
-    return module
+UNEXPLAINED = "# unexplained: "
 
 
 def ran(kit, folders):
@@ -37,12 +30,20 @@ def script_of(folders):
     return explaining.script_of({int(own[0].line.split(" ")[1]): own for own in map(journals.entries, folders)})
 
 
+def parted(lines):
+    """The lines of a script, and what is said after them of entries and folders."""
+    script = [*itertools.takewhile(lambda line: not line.startswith("#"), lines)]
+    said = lines[len(script) :]
+    assert all(line.startswith(UNEXPLAINED) for line in said), said
+    return script, [line.removeprefix(UNEXPLAINED) for line in said]
+
+
 def why(kit, folders):
-    """Why `cdsexplain` does not explain folders."""
+    """Why `cdsexplain` does not explain folders: what it says last. (An entry comes before the folders.)"""
     status, lines = ran(kit, folders)
-    assert status == 3 and lines[-1].startswith("# unexplained: "), (status, lines[-1:])
-    assert not any(line.startswith("#") for line in lines[:-1]), lines
-    return lines[-1].removeprefix("# unexplained: ")
+    _, said = parted(lines)
+    assert status == 3 and said, (status, lines[-1:])
+    return said[-1]
 
 
 def sealed(number, bodies):
@@ -105,6 +106,19 @@ def test_statuses(room, kit):
         assert subprocess.run([kit.explainer, *folders], stdout=full, check=False).returncode == 5
 
 
+def test_what_else_is_in_a_folder(room, kit):
+    """Names that are no number are passed over. What has a number, and is no file, is not read: nobody knows whether that would end."""
+    folders = worked(room, kit)
+    for name in [b"0", b"01", b"18446744073709551616", b"lpr", b"\xff\xfe"]:
+        write(os.path.join(os.fsencode(folders[0]), name), b"")
+    assert ran(kit, folders) == (0, script_of(folders))
+    os.mkfifo(f"{folders[0]}/77")
+    assert ran(kit, folders) == (4, [])
+    os.remove(f"{folders[0]}/77")
+    os.makedirs(f"{folders[0]}/77")
+    assert ran(kit, folders) == (4, [])
+
+
 def test_one_house_twice(room, kit):
     folders = worked(room, kit)
     assert why(kit, [*folders, folders[0]]) == "house 1 entry 1: the house of another journal"
@@ -150,10 +164,49 @@ def test_folders_that_are_damaged(room, kit):
     os.rename(f"{folders[0]}/2", f"{room}/2")
     assert why(kit, folders) == "folder 1: segment 2 is missing"
     shutil.copy(f"{folders[0]}/1", f"{folders[0]}/2")
-    assert why(kit, folders) == "folder 1: segment 2 is damaged"
+    assert why(kit, folders) == "folder 1: segment 2 record 1 is damaged"
     os.rename(f"{room}/2", f"{folders[0]}/2")
     write(f"{folders[1]}/1", sealed(1, bodies_of(f"{folders[1]}/1")[:-1]))
     assert why(kit, folders) == "folder 2: segment 2 does not follow the segment before"
+
+
+def spoiled(path):
+    """Changes an octet of the last record of a segment. Its place there."""
+    with open(path, "r+b") as file:
+        records, _ = journals.listed(file.read())
+        file.seek(sum(len(record) + 9 for record in records[:-1]) + 9 + 20)
+        octet = file.read(1)
+        file.seek(-1, os.SEEK_CUR)
+        file.write(bytes([octet[0] ^ 1]))
+    return len(records)
+
+
+def test_what_is_explained_of_a_damaged_folder(room, kit):
+    """The records before a damaged one are explained, and the other folders."""
+    folders = worked(room, kit)
+    given(kit, folders[0], ["create 1 c"])
+    given(kit, folders[0], ["create 1 d"])
+    whole, number = script_of(folders), journals.numbers(folders[0])[-1]
+    place = spoiled(f"{folders[0]}/{number}")
+    status, lines = ran(kit, folders)
+    script, said = parted(lines)
+    assert (status, said) == (3, [f"folder 1: segment {number} record {place} is damaged"]), (status, said)
+    assert "create 1 1 c" in script and script == [line for line in whole if line != "create 1 1 d"], script[-3:]
+    spoiled(f"{folders[1]}/1")
+    said = [line.split(":")[0] for line in parted(ran(kit, folders)[1])[1]]
+    assert said[-2:] == ["folder 1", "folder 2"], said
+
+
+def test_a_turn_with_an_image(room, kit):
+    """No house writes one."""
+    folders = worked(room, kit)
+    bodies = bodies_of(f"{folders[1]}/1")
+    at = next(at for at, body in enumerate(bodies) if at > 1 and body[16] == 0)
+    bodies[at] = bodies[at][:16] + b"\1" + bodies[at][17:] + b"image"
+    write(f"{folders[1]}/1", sealed(1, bodies))
+    for number in journals.numbers(folders[1])[1:]:
+        os.remove(f"{folders[1]}/{number}")
+    assert why(kit, folders) == f"folder 2: segment 1 record {at + 2} does not follow the record before"
 
 
 def test_a_live_house(room, kit):
@@ -178,9 +231,10 @@ def test_a_house_that_writes(room, kit):
             looks.append(ran(kit, [folder]))
     looks.append(ran(kit, [folder]))
     assert house.returncode == 0 and looks[-1] == (0, script_of([folder])), (house.returncode, looks[-1][0])
-    for status, script in looks:
-        damaged = (3, ["# unexplained: folder 1: segment 1 is damaged"])
-        assert (status, script) == damaged or (status, script) == (0, looks[-1][1][: len(script)]), (status, script[-1:])
+    for status, lines in looks:
+        script, said = parted(lines)
+        assert status == (3 if said else 0) and script == looks[-1][1][: len(script)], (status, lines[-1:])
+        assert all(re.fullmatch("folder 1: segment 1 record [0-9]+ is damaged", line) for line in said), said
 
 
 def test_all_houses(room, kit):
@@ -210,10 +264,10 @@ def large_script_with_too_many_lines(room, kit):
 
 
 def altered(body):
-    """A record with one octet changed: its clock, its image, and of a turn the last one of each line."""
+    """A record with one octet changed: its clock, its image if it has one, and of a turn the last one of each line."""
     size = int.from_bytes(body[17 : journals.FIELDS], "big")
     text = body[journals.FIELDS : journals.FIELDS + size]
-    places = [15, len(body) - 1]
+    places = [15, len(body) - 1] if body[16] else [15]
     if not text.startswith((b"start", b"segment", b"new")):
         ends = [at for at, octet in enumerate(text) if octet == 10]
         places += [journals.FIELDS + end - 1 for end in ends]

@@ -1,4 +1,4 @@
-"""Writes a script of `cdsreplay run` that explains the journals of houses (docs/HOUSE.md), or says the first entry that no order explains.
+"""Writes a script of `cdsreplay run` that explains the journals of houses (docs/EXPLAINED.md), or says the first entry that no order explains.
 
 A script's line comes with the answer that the journals have for it, or None where they have none.
 """
@@ -53,7 +53,7 @@ class Explainer:
         self.messages = 0
         self.directories = {}
         self.script = []
-        self.taken = 0
+        self.taken = self.images = 0
 
     def say(self, line, answer=None):
         self.script.append((line, answer))
@@ -81,12 +81,14 @@ class Explainer:
             self.say(f"house {house} {fresh:012x}")
 
     def show(self, house, entry):
-        """The messages of an entry and the image after it have to be those of the replay."""
+        """The messages of an entry, and the image after it if a record has it, have to be those of the replay."""
         for to, octets in entry.posts if entry.kind != "start" else []:
             self.messages += 1
             self.posted[to, octets].append(self.messages)
             self.say(f"octets msg {self.messages}", [f"ok {len(octets) // 2} {octets}"])
-        self.say(f"octets house {house}", [f"ok {len(entry.image)} {entry.image.hex()}"])
+        if entry.image is not None:
+            self.images += 1
+            self.say(f"octets house {house}", [f"ok {len(entry.image)} {entry.image.hex()}"])
 
     # ---- an entry
 

@@ -1,11 +1,15 @@
-"""Reads the folder of a house (docs/HOUSE.md): its segments, their records, and whether each follows the one before."""
+"""Reads the folder of a house (docs/LINES.md): its segments, their records, and whether each follows the one before."""
 import hashlib
 import itertools
 import os
 
-HEAD = b"cdshouse journal 1 %d\n"
+HEAD = b"cdshouse journal %d %d\n"
+# The version of the folder, and the one before it, in which each record of a house has an image.
+VERSION, EARLIER = 2, 1
 SUM = 32
 NO_SUM = bytes(SUM)
+# The greatest number of a segment.
+GREATEST = (1 << 64) - 1
 # The octets of a record before its text: number, clock, mark, length of the text.
 FIELDS = 21
 
@@ -17,7 +21,7 @@ class Damaged(Exception):
 
 
 class Record:
-    """A record of a segment: its number, the clock, the lines of its text, and the image, or None."""
+    """A record of a segment: its number, the clock, the lines of its text, and the image, or None: only the first one has it."""
 
     def __init__(self, place, body):
         if len(body) < FIELDS:
@@ -40,9 +44,19 @@ class Record:
         return self.lines[0].split(" ")[0]
 
     @property
+    def is_first(self):
+        """Whether a segment of a house begins with it."""
+        return self.kind in ("start", "segment")
+
+    @property
+    def running(self):
+        """The lines of the skulks that run where a segment begins in the middle of a process."""
+        return [line for line in self.lines[1:] if self.kind == "segment" and line.startswith("running ")]
+
+    @property
     def turn(self):
         """The lines of the turn: its own, or those of the turn before that a start or a segment repeats."""
-        return self.lines[1:] if self.kind in ("start", "segment") else self.lines
+        return self.lines[1 + len(self.running) :] if self.is_first else self.lines
 
     @property
     def line(self):
@@ -57,6 +71,13 @@ class Record:
     @property
     def answer(self):
         return self.turn[-1]
+
+
+def body(number: int, clock: int, lines: list[str], image: bytes | None) -> bytes:
+    """The octets of a record before its sum."""
+    text = "".join(f"{line}\n" for line in lines).encode("ascii")
+    fields = number.to_bytes(8, "big") + clock.to_bytes(8, "big") + bytes([image is not None]) + len(text).to_bytes(4, "big")
+    return fields + text + (image or b"")
 
 
 def listed(octets):
@@ -74,13 +95,15 @@ def listed(octets):
 class Segment:
     """One file of a folder: its records, the sum of the last record before it, and that of its last one."""
 
-    def __init__(self, path, number, fewest=2):
+    def __init__(self, path, number, fewest=2, version=VERSION):
         with open(path, "rb") as file:
             octets = file.read()
         found, gate = listed(octets)
         if len(found) < fewest:
             raise Damaged(f"{path}: {len(found)} records")
-        head = HEAD % number
+        head = HEAD % (version, number)
+        if found[0].startswith(HEAD % (EARLIER, number)) and version != EARLIER:
+            raise Damaged(f"{path}: of version {EARLIER}, and tools/houses --renew makes one of version {VERSION}")
         if len(found[0]) != len(head) + 2 * SUM or not found[0].startswith(head):
             raise Damaged(f"{path}: no segment {number}")
         self.path, self.number = path, number
@@ -120,7 +143,7 @@ class Segment:
 
 def chained(number, before, bodies):
     """The octets of a segment with records of these bodies after a sum, record by record."""
-    for body in itertools.chain([HEAD % number + before], bodies):
+    for body in itertools.chain([HEAD % (VERSION, number) + before], bodies):
         before = hashlib.sha256(before + body).digest()
         yield b"\1" + (len(body) + SUM).to_bytes(8, "big") + body + before
     yield b"\0"
@@ -128,36 +151,80 @@ def chained(number, before, bodies):
 
 def numbers(folder):
     """The numbers of the segments of a folder."""
-    return sorted(int(name) for name in os.listdir(folder) if name.isdigit() and name[0] != "0")
+    found = (int(name) for name in os.listdir(folder) if name.isdigit() and name[0] != "0")
+    return sorted(number for number in found if number <= GREATEST)
 
 
-def segments(folder, fewest=2):
+def segments(folder, fewest=2, version=VERSION):
     """The segments of a folder, each of which follows the one before, and has so many records or more: two in the folder of a house."""
     last = None
     for number in numbers(folder):
-        segment = Segment(f"{folder}/{number}", number, fewest)
         if last and number != last.number + 1:
             raise Damaged(f"{folder}: segment {last.number + 1} is missing")
-        if last and segment.before != last.last or number == 1 and segment.before != NO_SUM:
-            raise Damaged(f"{segment.path}: does not follow the segment before")
+        try:
+            segment = Segment(f"{folder}/{number}", number, fewest, version)
+        except Damaged as fault:
+            check_follows(fault.begun, last)
+            raise
+        check_follows(segment, last)
         yield segment
         last = segment
 
 
+def check_follows(segment, last):
+    """A segment, if there is one, follows the one before, if that was read."""
+    if segment and (last and segment.before != last.last or segment.number == 1 and segment.before != NO_SUM):
+        raise Damaged(f"{segment.path}: does not follow the segment before")
+
+
+def records_of(folder, fewest=2, version=VERSION):
+    """The records of a folder, up to the first one that is not good."""
+    try:
+        for segment in segments(folder, fewest, version):
+            yield from segment.records
+    except Damaged as fault:
+        if fault.begun:
+            yield from fault.begun.records
+        raise
+
+
 def check_repeated(record, last, turn):
-    """A start or a segment repeats the last turn, after the record before."""
+    """A start or a segment repeats the last turn, after the record before, and has an image."""
     if record.turn != turn:
         raise Damaged(f"{record.place}: repeats another turn than the last one")
-    if record.kind == "segment" and (record.number, record.image, record.clock) != (last.number, last.image, last.clock):
-        raise Damaged(f"{record.place}: does not follow the record before")
+    if record.image is None:
+        raise Damaged(f"{record.place}: no image")
+    if record.kind == "start" and record.clock:
+        raise Damaged(f"{record.place}: a start at {record.clock}")
     if record.kind == "segment" and record.lines[0] != f"segment {last.number}":
         raise Damaged(f"{record.place}: segment {last.number} was due")
+    if record.kind == "segment" and (record.number, record.clock) != (last.number, last.clock):
+        raise Damaged(f"{record.place}: does not follow the record before")
+    if record.kind == "segment" and last.image not in (None, record.image):
+        raise Damaged(f"{record.place}: another image than the record before")
 
 
-def entries(folder, fewest=2):
-    """The entries of a house from the first on: its turns and its starts, by their numbers."""
-    found, turn = [], None
-    records = [record for segment in segments(folder, fewest) for record in segment.records]
+def front(folder, fewest=2, version=VERSION):
+    """The entries of a house from the first on, and what is wrong with the folder after them, or None."""
+    found = []
+    try:
+        add_entries(found, records_of(folder, fewest, version))
+    except Damaged as fault:
+        return found, fault
+    return found, None
+
+
+def entries(folder, fewest=2, version=VERSION):
+    """The entries of a house from the first on: its turns and its starts, by their numbers. One before a segment has the image of that."""
+    found, fault = front(folder, fewest, version)
+    if fault:
+        raise fault
+    return found
+
+
+def add_entries(found, records):
+    """Adds the entries that records are, up to the first record that does not follow the one before."""
+    turn = None
     for record in records:
         if record.kind == "new":
             if found or (record.number, record.clock, record.image, record.lines) != (0, 0, None, ["new"]):
@@ -165,19 +232,15 @@ def entries(folder, fewest=2):
             continue
         if not found and (record.kind != "house" or record.clock):
             raise Damaged(f"{record.place}: does not begin with a house")
-        if record.kind in ("start", "segment"):
+        if record.is_first:
             check_repeated(record, found[-1], turn)
         if record.kind == "segment":
+            found[-1].image = record.image
             continue
-        if record.kind == "start" and record.clock:
-            raise Damaged(f"{record.place}: a start at {record.clock}")
-        if record.image is None:
-            raise Damaged(f"{record.place}: no image")
         if record.number != len(found) + 1:
             raise Damaged(f"{record.place}: entry {record.number} where {len(found) + 1} is due")
         turn = record.turn
         found.append(record)
-    return found
 
 
 def lines_of(segment):

@@ -9,7 +9,7 @@ from workload import Job
 NO_POWER, DISK_FAULT, KILLED = -6, 8, -9
 # The answers to `take` of a message that is not taken.
 NOT_TAKEN = ("ok late", "ok early", "ok stale", "ok noreplica", "ok foreign")
-NO_TURNS = ("clock", "more", "dump", "look", "image")
+NO_TURNS = ("clock", "more", "dump", "look", "image", "show", "status", "directories")
 MOST_STARTS = 400
 
 
@@ -75,6 +75,8 @@ class House:
             self.hurry()
             said = self.process.answer()
             if said == ["new"]:
+                # (the line that makes the house may change the segment)
+                self.segment = journals.numbers(self.folder)[-1]
                 self.jobs = [Job([f"house {self.number} {self.node}"])]
                 self.process.send(self.jobs[0].lines)
                 said = self.process.answer()
@@ -91,7 +93,6 @@ class House:
         self.answered = [(self.jobs.pop().line, [], "ok", 0)]
         self.last = self.answered[0]
         self.entry = 1
-        self.segment = journals.numbers(self.folder)[-1]
         return self.process.fetched(), []
 
     def ended(self):

@@ -177,7 +177,7 @@ def test_explanation(room, kit):
         f"segment 1 after {'0' * 64}",
         "0 clock 0 no image",
         "  new",
-        "1 clock 0 image 25",
+        "1 clock 0 no image",
         "  house 2 00000000000b",
         "  ok",
     ], done
@@ -253,7 +253,7 @@ def test_explanation_of_altered_entries(room, kit):
             pass
         entry.lines[at] = line
     for own in houses.values():
-        for entry in own:
+        for entry in (entry for entry in own if entry.image is not None):
             image, entry.image = entry.image, entry.image[:-1] + bytes([entry.image[-1] ^ 1])
             explainer = explaining.Explainer(houses)
             explainer.run()

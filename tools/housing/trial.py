@@ -34,8 +34,9 @@ class Plan:
         self.fail = chance.choice([0, 0, 150])
         # Some houses have a full disk: so many octets at first.
         self.room = chance.choice([0, 0, 0, 60_000])
-        # After so many octets a segment is changed, where the program takes that.
-        self.segment = chance.choice([0, 5_000, 20_000]) if args.small else 0
+        # After so many octets, and so many times those that it begins with, a segment is changed, where the program takes that.
+        self.segment = chance.choice([None, 1, 5_000, 20_000]) if args.small else None
+        self.times = chance.choice([1, 2, 3])
         if args.steady:
             self.kill = self.power = self.fail = self.room = 0
 
@@ -77,7 +78,7 @@ class Trial:
         words = {"HOUSE_DISK": f"{folder} {self.folder}/disk{number} {seed} {power} {fail} {room}"}
         if self.programs.disk:
             words["LD_PRELOAD"] = self.programs.disk
-        return words | ({"HOUSE_SEGMENT": str(plan.segment)} if plan.segment else {})
+        return words | ({"HOUSE_SEGMENT": str(plan.segment), "HOUSE_TIMES": str(plan.times)} if plan.segment else {})
 
     def hurry(self, house):
         """Kills a house that starts, now and then."""
@@ -157,16 +158,14 @@ class Trial:
             self.asked[house.number, house.entry].append(explaining.Asked(job.line, answer))
 
     def compare_look(self, house, job, answer):
-        """A look that comes just after a dump shows its present values."""
+        """A look, or a show, that comes just after a dump shows its present values."""
         words = job.line.split(" ")
         if words[0] == "dump" and answer[-1] == "end":
-            self.dumped[house.number] = (words[1], values_of(answer))
+            self.dumped[house.number] = (words[1], values_of(answer), is_master(house.number, answer))
             return
-        directory, values = self.dumped.pop(house.number, (None, {}))
-        if words[0] == "look" and words[1] == directory:
-            name, attribute = words[2:]
-            due = values.get(name, {}).get(attribute, [])
-            shown = [*(f"value {value}" for value in due), f"end {len(due)}"] if name in values else ["refused NoSuchEntry"]
+        directory, values, is_here = self.dumped.pop(house.number, (None, {}, False))
+        if words[0] in ("look", "show") and directory in words[1:3]:
+            shown = shown_by(words, values) if is_here or words[:2] != ["show", "high"] else ["refused NotMaster"]
             if answer != shown:
                 raise Difference(f"house {house.number}: {job.line} is {answer}, the dump before has {shown}")
             self.count["looks compared"] += 1
@@ -238,6 +237,7 @@ class Trial:
             self.compare_scripts(entries)
         self.count["messages"] += explainer.messages
         self.count["messages taken"] += explainer.taken
+        self.count["images compared"] += explainer.images
         self.count["questions and refusals"] += sum(map(len, self.asked.values()))
         if self.random.random() < 0.25:
             explainer = explaining.Explainer(entries, self.asked)
@@ -271,6 +271,23 @@ class Trial:
         if found:
             line, answer, due = found[0]
             raise Difference(f"{len(found)} lines differ: {line[:200]}: replay {answer}: journal {due}")
+
+
+def shown_by(words, values):
+    """What a house answers to these words by the values of a dump."""
+    name = words[2] if words[0] == "look" else words[3]
+    if name not in values:
+        return ["refused NoSuchEntry"]
+    if words[0] == "look":
+        due = values[name].get(words[3], [])
+        return [*(f"value {value}" for value in due), f"end {len(due)}"]
+    lines = [[f"attr {attribute}", *(f"value {value}" for value in due)] for attribute, due in values[name].items() if due]
+    return ["object", *(line for own in lines for line in own), "end"]
+
+
+def is_master(house, dump):
+    """Whether a house is the master by its own list, as a dump has it."""
+    return any(word.startswith(f"{house}:") and word.endswith(":m") for word in dump[0].split(" "))
 
 
 def values_of(dump):

@@ -52,8 +52,9 @@ class Workload:
             return [take_job(octets)]
         if self.random.random() < 0.05:
             directory = self.directory(house)
-            look = f"look {directory} {self.random.choice(NAMES)} {self.random.choice(ATTRIBUTES)}"
-            return [Job([f"dump {directory}"]), Job([look])]
+            name = self.random.choice(NAMES)
+            asks = [f"look {directory} {name} {self.random.choice(ATTRIBUTES)}", f"show low {directory} {name}"]
+            return [Job([f"dump {directory}"]), Job([self.random.choice(asks)])]
         # (pieces of a message, which the line after them makes the house forget)
         line = self.line(house)
         pieces = ["more 0202"] * (self.random.random() < 0.04 and not line.startswith("take"))
@@ -78,10 +79,13 @@ class Workload:
             f"clear {directory} {name} {attribute}": 4,
             f"link {directory} {name}l /.:/lpr": 2,
             f"clock {self.random.randrange(2000)}": 4,
-            f"skulk {directory}": 12,
+            f"skulk {directory}": 24,
             f"repoint {directory} dir2 1 {self.numbers[-1]}": 2,
             f"dump {directory}": 3,
             f"look {directory} {name} {attribute}": 2,
+            f"show {self.random.choice(['low', 'high'])} {directory} {name}": 2,
+            f"status {directory}": 1,
+            "directories": 1,
             "image": 1,
             self.wrong(house): 5,
         }

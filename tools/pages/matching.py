@@ -8,6 +8,9 @@ ADDED = {
     "a command": (("Command", "Question", "Step"), (("Commands", "Command"),)),
     "a message": (("Body",), (("Cells", "Body"),)),
     "a form": (("Form", "LineForm"), ()),
+    "a line of a house": (("HouseLine",), ()),
+    "a question of a house": (("HouseQuestion",), ()),
+    "a reason": (("Cause",), ()),
 }
 # A file that names so many variants matches over them.
 SEVERAL = 3

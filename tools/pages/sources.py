@@ -7,7 +7,7 @@ import re
 ROOT = os.path.dirname(os.path.dirname(os.path.dirname(os.path.realpath(__file__))))
 CASES = ("crates/cdsreplay/cases", "crates/cdsmend/cases")
 # Crates whose code is no part of the program: its tests.
-TESTS = ("disk_tests", "service_tests", "house_tests", "line_tests", "run_tests")
+TESTS = ("disk_tests", "service_tests", "house_tests", "line_tests", "net_tests", "session_tests", "run_tests")
 # Programs that show how crates are used; no rule is theirs.
 EXAMPLES = ("two_houses",)
 
@@ -230,7 +230,7 @@ def reached():
     """
     calls, known = Calls(), set()
     theirs = [it for it in functions() if it.crate not in TESTS]
-    roots = (("cell_replay", "run"), ("cdsreplay", "main"), ("mend_program", "run"), ("cdsmend", "main"), ("cdshouse", "main"), ("cdsexplain", "main"), ("cds_c", "cds_run"), ("cds_c", "cds_abi"))
+    roots = (("cell_replay", "run"), ("cdsreplay", "main"), ("mend_program", "run"), ("cdsmend", "main"), ("house_program", "run"), ("cdshouse", "main"), ("cdsexplain", "main"), ("cds_c", "cds_run"), ("cds_c", "cds_abi"))
     begin = [it for it in theirs if (it.crate, it.name) in roots]
     begin += [it for it in theirs if it.trait and it.trait not in traits()]
     while begin:
@@ -260,6 +260,13 @@ def bugs():
 def cases():
     """The names of the cases."""
     return sorted(os.path.basename(it)[:-5] for folder in CASES for it in glob.glob(f"{ROOT}/{folder}/*.case"))
+
+
+@functools.cache
+def house_tests() -> set[str]:
+    """The names of the tests of houses, and of the file of their cases."""
+    texts = (text_of(os.path.relpath(it, ROOT)) for it in glob.glob(f"{ROOT}/tools/housing/*.py"))
+    return {"house.case", *(name for text in texts for name in re.findall(r"(?m)^def (test_\w+)", text))}
 
 
 @functools.cache

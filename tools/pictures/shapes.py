@@ -45,7 +45,7 @@ FIXED = """text{font-family:Helvetica,Arial,'Liberation Sans','DejaVu Sans',sans
 .hollow{stroke:currentColor;stroke-width:1.4px}
 .refused{stroke-dasharray:2.5 2}.cross{fill:none;stroke:currentColor;stroke-width:2.4px}.lane{fill:none;stroke-width:1.3px}
 .master{stroke-width:3.4px}.secondary{stroke-width:3.4px;stroke-dasharray:11 3}.without{stroke-dasharray:1.5 4}.guide{stroke-width:1px}
-.bar{fill:currentColor;fill-opacity:.16}.stub{font-size:10px;font-weight:bold;fill:currentColor}
+.bar{fill:currentColor;fill-opacity:.16}.stub{font-size:10px;font-weight:bold}svg text.stub{fill:currentColor}
 .upright{stroke-width:1.2px;stroke-dasharray:5 3}.leader{stroke-width:1px}
 .open{fill:none;stroke-width:1.2px;stroke-dasharray:6 4}.tag{stroke-width:1px}.bolt{stroke-width:.8px}.pale{opacity:.42}"""
 

@@ -271,7 +271,10 @@ class Desk:
         waiting = [it for it in self.under_way() if (to is None or it.receiver in to) and it.receiver not in but]
         if not waiting:
             return "No message is under way there."
-        return f"Nothing was delivered: {', '.join(sorted({self.names.called(it.receiver) for it in waiting}))} is down."
+        down = sorted({self.names.called(it.receiver) for it in waiting if self.happened().is_down(it.receiver)})
+        if down:
+            return f"Nothing was delivered: {', '.join(down)} {'is' if len(down) == 1 else 'are'} down."
+        return "What was delivered changed nothing: the answers above say why."
 
     def lose_some(self, done, line):
         """`lose all`, `lose to HOUSE..`."""

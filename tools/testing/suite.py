@@ -15,8 +15,8 @@ from collections.abc import Iterable, Sequence
 from building import machine
 from building.children import Children
 from building.schedule import Room, Task, run
-from building.sources import PROGRAMS, ROOT
-from testing.parts import LEFT_OUT, Part
+from building.sources import ROOT
+from testing.parts import LEFT_OUT, MADE, Part
 
 # The last line of a command that counts for itself, or the line of a crate's tests.
 SUM = re.compile(r"^(\d+) passed, (\d+) failed\b.*\Z", re.M)
@@ -44,7 +44,7 @@ def counted(status: int, said: str) -> tuple[int, int]:
 
 def with_programs(words: Sequence[str], paths: dict[str, str]) -> list[str]:
     """The words of a command, with the paths of the programs."""
-    return [paths[it[1:-1]] if it[1:-1] in PROGRAMS and it[:1] == "{" else it for it in words]
+    return [paths[it[1:-1]] if it[1:-1] in MADE and it[:1] == "{" else it for it in words]
 
 
 class Suite:
@@ -70,7 +70,7 @@ class Suite:
             return True
         began = time.monotonic()
         status, said, worked = self.ended(part)
-        if part.name in PROGRAMS and status == 0:
+        if part.name in MADE and status == 0:
             self.paths[part.name] = said.rstrip("\n").rpartition("\n")[2]
         passed, failed = counted(status, said)
         found = self.results[part.name] = Result(passed, failed, time.monotonic() - began, worked)

@@ -6,8 +6,7 @@ import contextlib
 import io
 import unittest
 
-from building.sources import PROGRAMS
-from testing.parts import BOTH, PROVED, UNPROVED, Part, has_tests, parts
+from testing.parts import BOTH, MADE, PROVED, UNPROVED, Part, has_tests, parts
 from testing.suite import Suite, chosen, counted, passed_over, table, with_programs
 
 
@@ -82,7 +81,7 @@ class OfParts(unittest.TestCase):
 
     def test_a_part_names_the_programs_that_it_runs(self) -> None:
         for part in parts(UNPROVED) + parts(PROVED):
-            named = {it[1:-1] for it in part.words if it[1:-1] in PROGRAMS and it[:1] == "{"}
+            named = {it[1:-1] for it in part.words if it[1:-1] in MADE and it[:1] == "{"}
             self.assertEqual(named, {*part.programs}, part.name)
 
     def test_the_programs_come_with_a_name(self) -> None:

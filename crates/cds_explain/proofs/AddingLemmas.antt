@@ -11,9 +11,11 @@ use Rattle.cell_model.specs.Steps.{first_refusal, outcome, refusals_of, replay, 
 use Rattle.cell_model.proofs.Runs.{replay-append}
 use Rattle.cell_runs.specs.Entries.{Entry}
 use Rattle.cell_runs.specs.Views.{seen_at}
+use Rattle.house_logs.specs.declared.log.LogEntry.{LogEntry}
 use Rattle.house_logs.specs.declared.order.LoggedOrder.{LoggedOrder}
 use Rattle.house_logs.specs.declared.order.LoggedOrder.TheVariants as order
 use Rattle.cds_explain.specs.Explained.{Scripts, view}
+use Rattle.cds_explain.specs.LoggedEntries.{AreLogged, IsLogged, NextEntry, NoEntry}
 use Rattle.cds_explain.specs.PrivateConsole.{IsReady}
 use Rattle.cds_explain.specs.PrivateExplainers.{Adds, GoesOn, IsTimed, Stops, clock_after}
 use Rattle.cds_explain.specs.PrivateReplays.{DoesEntry, DoesQuietly, HasDone, IfFault, OfFault}
@@ -54,6 +56,17 @@ any_fault OutOfMemory each = tt
 pub was_fault : {F : Type 0} (Q : F → Type 0) (e : AllocOr F) (f : F) → e ≡ Fault f → OfFault e Q → Q f
 was_fault {F} Q e f is q = subst (λ (z : AllocOr F). OfFault z Q) is q
 
+-- ---- entries
+
+-- more entries after others
+pub logged-append : (ls ks : List LogEntry) (es fs : List Entry) → AreLogged ls es → AreLogged ks fs → AreLogged (ls ++ ks) (es ++ fs)
+logged-append _ ks _ fs NoEntry more = more
+logged-append _ ks _ fs (NextEntry l e ls es is rest) more = NextEntry l e (ls ++ ks) (es ++ fs) is (logged-append ls ks es fs rest more)
+
+-- no entry is one of no journal
+pub logged_none : (es : List Entry) → AreLogged [] es → es ≡ []
+logged_none _ NoEntry = refl
+
 -- ---- one command
 
 -- the clock of a house after one command more
@@ -65,6 +78,8 @@ adds_none : (cs : List Command) (x time : ℕ) → clock_after cs x ≡ time →
 adds_none cs x time clock = record {
   more = [];
   follows = sym (append-nil cs);
+  entries = [];
+  logged = NoEntry;
   here = sym (append-nil (view x cs));
   there = λ y n. refl;
   clock = clock;
@@ -77,6 +92,8 @@ adds_quiet : (cs : List Command) (c : Command) (x time : ℕ) → seen_at (repla
 adds_quiet cs c x time none clock clocks = record {
   more = c ∷ [];
   follows = refl;
+  entries = [];
+  logged = NoEntry;
   here = view_quiet x cs c none ∙ sym (append-nil (view x cs));
   there = λ y n. view_quiet y cs c none;
   clock = clock_then cs c x ∙ clock;
@@ -84,10 +101,13 @@ adds_quiet cs c x time none clock clocks = record {
 }
 
 -- one that is an entry
-adds_entry : (cs : List Command) (c : Command) (x : ℕ) (e : Entry) → seen_at (replay cs) c ≡ Some (x, e) → Adds cs (cs ++ c ∷ []) x (e ∷ []) (clock_after cs x)
-adds_entry cs c x e is = record {
+adds_entry : (cs : List Command) (c : Command) (x : ℕ) (l : LogEntry) (e : Entry) → seen_at (replay cs) c ≡ Some (x, e) → IsLogged l e
+    → Adds cs (cs ++ c ∷ []) x (l ∷ []) (clock_after cs x)
+adds_entry cs c x l e is logged = record {
   more = c ∷ [];
   follows = refl;
+  entries = e ∷ [];
+  logged = NextEntry l e [] [] logged NoEntry;
   here = view_here x cs c e is;
   there = λ y n. view_there x y cs c e is n;
   clock = clock_then cs c x ∙ seen_keeps (replay cs) c (x, e) is x;
@@ -95,17 +115,19 @@ adds_entry cs c x e is = record {
 }
 
 -- more after more
-adds_more : (cs mid new : List Command) (x t u : ℕ) (es fs : List Entry) → Adds cs mid x es t → Adds mid new x fs u → Adds cs new x (es ++ fs) u
-adds_more cs mid new x t u es fs a b = record {
+adds_more : (cs mid new : List Command) (x t u : ℕ) (ls ks : List LogEntry) → Adds cs mid x ls t → Adds mid new x ks u → Adds cs new x (ls ++ ks) u
+adds_more cs mid new x t u ls ks a b = record {
   more = a.more ++ b.more;
   follows =
       b.follows
       ∙ ap (λ (l : List Command). l ++ b.more) a.follows
       ∙ append_assoc cs a.more b.more;
+  entries = a.entries ++ b.entries;
+  logged = logged-append ls ks a.entries b.entries a.logged b.logged;
   here =
       b.here
-      ∙ ap (λ (l : List Entry). l ++ fs) a.here
-      ∙ append_assoc (view x cs) es fs;
+      ∙ ap (λ (l : List Entry). l ++ b.entries) a.here
+      ∙ append_assoc (view x cs) a.entries b.entries;
   there = λ y n. b.there y n ∙ a.there y n;
   clock = b.clock;
   clocks = λ y n. b.clocks y n ∙ a.clocks y n;
@@ -133,17 +155,17 @@ timed_goes cs x time r (inr does) =
     }
 
 -- it does an entry
-entry_goes : (cs : List Command) (x : ℕ) (e : Entry) (r : Replay) → DoesEntry cs x e r → GoesOn cs x (e ∷ []) (clock_after cs x) r
-entry_goes cs x e r does = record {
+entry_goes : (cs : List Command) (x : ℕ) (l : LogEntry) (r : Replay) → DoesEntry cs x l r → GoesOn cs x (l ∷ []) (clock_after cs x) r
+entry_goes cs x l r does = record {
   new = cs ++ does.command ∷ [];
   has_done = does.has_done;
-  adds = adds_entry cs does.command x e does.seen;
+  adds = adds_entry cs does.command x l does.entry does.seen does.logged;
 }
 
 -- more after more
-pub goes_more : (cs : List Command) (x t u : ℕ) (es fs : List Entry) (mid new : Replay) (a : GoesOn cs x es t mid) → GoesOn a.new x fs u new
-    → GoesOn cs x (es ++ fs) u new
-goes_more cs x t u es fs mid new a b = record { new = b.new; has_done = b.has_done; adds = adds_more cs a.new b.new x t u es fs a.adds b.adds }
+pub goes_more : (cs : List Command) (x t u : ℕ) (ls ks : List LogEntry) (mid new : Replay) (a : GoesOn cs x ls t mid) → GoesOn a.new x ks u new
+    → GoesOn cs x (ls ++ ks) u new
+goes_more cs x t u ls ks mid new a b = record { new = b.new; has_done = b.has_done; adds = adds_more cs a.new b.new x t u ls ks a.adds b.adds }
 
 -- a crash, and the clock
 pub crash_timed : (cs : List Command) (x time : ℕ) (first second : Replay) (crash : DoesQuietly cs (commands.Crash x) first)
@@ -157,11 +179,11 @@ pub clock_of_crash : (cs : List Command) (x time : ℕ) → clock_after cs x ≡
 clock_of_crash cs x time is = clock_then cs (commands.Crash x) x ∙ crash_keeps (replay cs) x x ∙ is
 
 -- an entry after the clock, which is known
-pub timed_entry : (cs : List Command) (x time known : ℕ) (e : Entry) (mid new : Replay) (a : GoesOn cs x [] time mid) → known ≡ time → DoesEntry a.new x e new
-    → GoesOn cs x (e ∷ []) known new
-timed_entry cs x time known e mid new a is does =
-    subst (λ (t : ℕ). GoesOn cs x (e ∷ []) t new) (a.adds.clock ∙ sym is)
-    (goes_more cs x time (clock_after a.new x) [] (e ∷ []) mid new a (entry_goes a.new x e new does))
+pub timed_entry : (cs : List Command) (x time known : ℕ) (l : LogEntry) (mid new : Replay) (a : GoesOn cs x [] time mid) → known ≡ time → DoesEntry a.new x l new
+    → GoesOn cs x (l ∷ []) known new
+timed_entry cs x time known l mid new a is does =
+    subst (λ (t : ℕ). GoesOn cs x (l ∷ []) t new) (a.adds.clock ∙ sym is)
+    (goes_more cs x time (clock_after a.new x) [] (l ∷ []) mid new a (entry_goes a.new x l new does))
 
 -- what a turn needs is as it was before the clock was set
 ready_then : (g : Cell) (x time : ℕ) (o : LoggedOrder) (serial : ℕ) → IsReady g x o serial → IsReady (outcome g (commands.Clock x time)).cell x o serial
@@ -196,7 +218,8 @@ quiet cs new x time a y = by (eqb y x) refl
     by : (b : Bool) → eqb y x ≡ b → view y new ≡ view y cs
     by true on =
         let same : y ≡ x = grind (arith, on) in
-        subst (λ (z : ℕ). view z new ≡ view z cs) (sym same) (a.here ∙ append-nil (view x cs))
+        subst (λ (z : ℕ). view z new ≡ view z cs) (sym same)
+        (a.here ∙ ap (λ (es : List Entry). view x cs ++ es) (logged_none a.entries a.logged) ∙ append-nil (view x cs))
     by false off = a.there y (let n : y ≢ x = grind (arith, off) in n)
 
 -- a replay stops with this text

@@ -1,9 +1,8 @@
 -- An explainer that does the next entry of a journal, and where it ends.
 use Rattle.std.proofs.Common.{◌≡◌, ◌≢◌, ℕ, suc, ◌+◌, ◌<◌, ◌≤◌, ◌⊎◌, inl, inr, Bool, true, false, eqb, List, [], ◌∷◌, ◌++◌, length, take, drop, get_or, Option, Some, None, refl, sym, ◌∙◌, ap, subst, arith, append-nil}
 use Rattle.std.specs.Prelude.{IfSome, slice_get, slice_index, slice_set}
-use Rattle.std.specs.Option.{option_map}
-use Rattle.std.proofs.lemmas.List.{get_or-set_other, get_or-set_same, length-map, length-set, length-take-le, take-append-drop, take_all}
-use Rattle.std.proofs.lemmas.Option.{get_or_from_slice_get, slice_get-map, slice_get_within}
+use Rattle.std.proofs.lemmas.List.{get_or-set_other, get_or-set_same, length-set, length-take-le, take-append-drop, take_all}
+use Rattle.std.proofs.lemmas.Option.{get_or_from_slice_get, slice_get_within}
 use Rattle.std.proofs.Math.Seq.{take-suc}
 use Rattle.cell_model.specs.Commands.{Command}
 use Rattle.cell_model.specs.Sets.{In}
@@ -12,10 +11,11 @@ use Rattle.cell_runs.specs.Entries.{Entry}
 use Rattle.house_logs.specs.declared.log.HouseLog.{HouseLog}
 use Rattle.house_logs.specs.declared.log.LogEntry.{LogEntry}
 use Rattle.cds_explain.specs.Explained.{Explains, ExplainsFirst, ExplainsUpTo, HasNoLog, Makes, view}
-use Rattle.cds_explain.specs.LoggedEntries.{entries_of, entry_of}
+use Rattle.cds_explain.specs.LoggedEntries.{AreLogged, NextEntry, NoEntry}
 use Rattle.cds_explain.specs.PrivateExplainers.{AreApart, GoesOn, HasExplained, IsAllDone, IsNextAt, SameBut, Stops, clock_after}
 use Rattle.cds_explain.specs.declared.cause.Reason.{Reason}
 use Rattle.cds_explain.specs.declared.explainer.Explainer.{Explainer}
+use Rattle.cds_explain.proofs.AddingLemmas.{logged-append}
 use Rattle.cds_explain.proofs.MakingLemmas.{makes_more}
 
 -- ---- lists
@@ -67,6 +67,11 @@ no_log_differs logs x i log none is same =
     none i log (slice_get_within logs i log is)
     (subst (λ (l : HouseLog). l.house.0 ≡ x) (sym (get_or_from_slice_get logs i log log is)) (sym same))
 
+-- as many entries as the journal has
+logged_count : (ls : List LogEntry) (es : List Entry) → AreLogged ls es → length ls ≡ length es
+logged_count _ _ NoEntry = refl
+logged_count _ _ (NextEntry l e ls es is rest) = let more = logged_count ls es rest in grind (arith, more)
+
 -- ---- one entry more
 
 -- of a fact of each journal: what holds of the one at this place, and of all others
@@ -85,18 +90,17 @@ at_each P logs place log there here others i other is = by (eqb i place) refl
 -- the next entry of the journal at a place is done
 pub explained_more : (old new : Explainer) (logs : List HouseLog) (place : ℕ) (log : HouseLog) (entry : LogEntry) (h : HasExplained old logs)
     → slice_get logs place ≡ Some log → slice_get log.entries.items (slice_index old.done.items place) ≡ Some entry
-    → GoesOn h.cs log.house.0 (entry_of entry ∷ []) (slice_index new.clocks.items place) new.replay → SameBut place old.clocks.items new.clocks.items
+    → GoesOn h.cs log.house.0 (entry ∷ []) (slice_index new.clocks.items place) new.replay → SameBut place old.clocks.items new.clocks.items
     → SameBut place old.done.items new.done.items → slice_index new.done.items place ≡ slice_index old.done.items place + 1 → HasExplained new logs
 explained_more old new logs place log entry h there is goes clocks done count = record {
   cs = goes.new;
   has_done = goes.has_done;
   apart = h.apart;
   made = λ i other at. subst (λ (l : List Command). Makes l other) (sym goes.adds.follows) (makes_more h.cs goes.adds.more other (h.made i other at));
-  views = at_each (λ i other. view other.house.0 goes.new ≡ take (slice_index new.done.items i) (entries_of other)) logs place log there here
+  views = at_each (λ i other. AreLogged (take (slice_index new.done.items i) other.entries.items) (view other.house.0 goes.new)) logs place log there here
       (λ i other n at.
-      goes.adds.there other.house.0 (differs i other n at)
-      ∙ h.views i other at
-      ∙ ap (λ (k : ℕ). take k (entries_of other)) (sym (done.others i n)));
+      subst (AreLogged (take (slice_index new.done.items i) other.entries.items)) (sym (goes.adds.there other.house.0 (differs i other n at)))
+      (subst (λ (k : ℕ). AreLogged (take k other.entries.items) (view other.house.0 h.cs)) (sym (done.others i n)) (h.views i other at)));
   clocks = at_each (λ i other. clock_after goes.new other.house.0 ≡ slice_index new.clocks.items i) logs place log there goes.adds.clock
       (λ i other n at. goes.adds.clocks other.house.0 (differs i other n at) ∙ h.clocks i other at ∙ sym (clocks.others i n));
   others = λ x none. goes.adds.there x (no_log_differs logs x place log none there) ∙ h.others x none;
@@ -110,15 +114,14 @@ explained_more old new logs place log entry h there is goes clocks done count = 
     differs : (i : ℕ) (other : HouseLog) → i ≢ place → slice_get logs i ≡ Some other → other.house.0 ≢ log.house.0
     differs i other n at = houses_differ logs i place other log h.apart n at there
 
-    next : slice_get (entries_of log) n ≡ Some (entry_of entry)
-    next = slice_get-map entry_of log.entries.items n ∙ ap (option_map entry_of) is
+    next : take (slice_index new.done.items place) log.entries.items ≡ take n log.entries.items ++ entry ∷ []
+    next = ap (λ (k : ℕ). take k log.entries.items) count ∙ take_next log.entries.items n entry is
 
-    here : view log.house.0 goes.new ≡ take (slice_index new.done.items place) (entries_of log)
+    here : AreLogged (take (slice_index new.done.items place) log.entries.items) (view log.house.0 goes.new)
     here =
-        goes.adds.here
-        ∙ ap (λ (es : List Entry). es ++ entry_of entry ∷ []) (h.views place log there)
-        ∙ sym (take_next (entries_of log) n (entry_of entry) next)
-        ∙ ap (λ (k : ℕ). take k (entries_of log)) (sym count)
+        subst (AreLogged (take (slice_index new.done.items place) log.entries.items)) (sym goes.adds.here)
+        (subst (λ (ls : List LogEntry). AreLogged ls (view log.house.0 h.cs ++ goes.adds.entries)) (sym next)
+        (logged-append (take n log.entries.items) (entry ∷ []) (view log.house.0 h.cs) goes.adds.entries (h.views place log there) goes.adds.logged))
 
 -- ---- turns of the loops
 
@@ -224,10 +227,13 @@ explained_first e logs text h stops = record {
   views =
       λ log here.
       let at = place_in log logs here in
-      let n : ℕ = slice_index e.done.items at.0 in (
-        drop n (entries_of log),
-        sym (ap (λ (es : List Entry). es ++ drop n (entries_of log)) (stops.quiet log.house.0 ∙ h.views at.0 log at.1) ∙ take-append-drop n (entries_of log)),
-      );
+      let n : ℕ = slice_index e.done.items at.0 in
+      record {
+        first = take n log.entries.items;
+        more = drop n log.entries.items;
+        parts = sym (take-append-drop n log.entries.items);
+        logged = subst (AreLogged (take n log.entries.items)) (sym (stops.quiet log.house.0)) (h.views at.0 log at.1);
+      };
   others = λ x none. stops.quiet x ∙ h.others x none;
 }
 
@@ -242,20 +248,18 @@ explained_up_to e logs text reason h stops next = record {
     here = In-from_get next.log logs next.place next.here;
     house = next.house;
     number = next.number ∙ ap (λ (k : ℕ). k + 2) (sym many);
-    left = subst (λ (k : ℕ). k < length (entries_of next.log)) (sym many) left;
+    left = subst (λ (k : ℕ). k < length next.log.entries.items) (sym many) next.left;
   });
 }
   where
     n : ℕ
     n = slice_index e.done.items next.place
 
-    left : n < length (entries_of next.log)
-    left = omega (arith, next.left, length-map next.log.entries.items entry_of)
-
     many : length (view next.log.house.0 stops.new) ≡ n
     many =
-        ap length (stops.quiet next.log.house.0 ∙ h.views next.place next.log next.here)
-        ∙ length-take-le n (entries_of next.log) (omega (arith, left))
+        ap length (stops.quiet next.log.house.0)
+        ∙ sym (logged_count (take n next.log.entries.items) (view next.log.house.0 h.cs) (h.views next.place next.log next.here))
+        ∙ length-take-le n next.log.entries.items (let left = next.left in omega arith)
 
 -- all entries of all journals are done
 pub explained_whole : (e : Explainer) (logs : List HouseLog) → HasExplained e logs → ((i : ℕ) → i < length logs → IsAllDone logs e.done.items i)
@@ -269,7 +273,7 @@ explained_whole e logs h all = record {
       let at = place_in log logs here in
       let n : ℕ = slice_index e.done.items at.0 in
       let most : length log.entries.items ≤ n = all at.0 (slice_get_within logs at.0 log at.1) log at.1 in
-      h.views at.0 log at.1 ∙ take_all n (entries_of log) (omega (arith, most, length-map log.entries.items entry_of));
+      subst (λ (ls : List LogEntry). AreLogged ls (view log.house.0 h.cs)) (take_all n log.entries.items most) (h.views at.0 log at.1);
   others = h.others;
 }
 
@@ -278,6 +282,11 @@ pub whole_first : (text : List ℕ) (logs : List HouseLog) → Explains text log
 whole_first text logs e = record {
   cs = e.cs;
   script = e.script;
-  views = λ log here. ([], sym (e.views log here) ∙ sym (append-nil (view log.house.0 e.cs)));
+  views = λ log here. record {
+    first = log.entries.items;
+    more = [];
+    parts = sym (append-nil log.entries.items);
+    logged = e.views log here;
+  };
   others = e.others;
 }

@@ -9,3 +9,4 @@ pub mod AddingLemmas
 pub mod MakingLemmas
 pub mod ExplainerLemmas
 pub mod PlaceLemmas
+mod ReasonLemmas

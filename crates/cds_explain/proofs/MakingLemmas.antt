@@ -1,6 +1,6 @@
 -- Houses that are made, before any of them does anything.
 use Rattle.std.proofs.Common.{◌≡◌, ℕ, ◌<◌, ◌⊎◌, inl, inr, List, [], ◌∷◌, ◌++◌, length, take, Some, None, refl, sym, ◌∙◌, ap, subst, append_assoc}
-use Rattle.std.specs.Prelude.{slice_get, slice_index}
+use Rattle.std.specs.Prelude.{IfSome, slice_get, slice_index}
 use Rattle.std.proofs.lemmas.Option.{slice_get_within}
 use Rattle.cell_model.specs.Cells.{Cell, empty_cell}
 use Rattle.cell_model.specs.Commands as commands
@@ -11,8 +11,10 @@ use Rattle.cell_model.proofs.Lists.{In-append_cases}
 use Rattle.cell_model.proofs.Runs.{replay-append}
 use Rattle.cell_runs.specs.Views.{image_in}
 use Rattle.house_logs.specs.declared.log.HouseLog.{HouseLog}
-use Rattle.cds_explain.specs.Explained.{ExplainsUpTo, Makes, Scripts}
-use Rattle.cds_explain.specs.LoggedEntries.{entries_of}
+use Rattle.cell_runs.specs.Entries.{Entry}
+use Rattle.cds_explain.specs.Explained.{ExplainsUpTo, Makes, Scripts, view}
+use Rattle.house_logs.specs.declared.log.LogEntry.{LogEntry}
+use Rattle.cds_explain.specs.LoggedEntries.{AreLogged, NoEntry}
 use Rattle.cds_explain.specs.PrivateExplainers.{HasBegun, HasExplained, HasMade, IsFirstOfHouse, MakesOnly}
 use Rattle.cds_explain.specs.PrivateReplays.{DoesQuietly, HasDone}
 use Rattle.cds_explain.specs.declared.cause.Reason.{Reason}
@@ -61,7 +63,7 @@ made_other old new logs places x node h does = record {
 -- one more, of the journal at a place
 pub made_more : (old new : Replay) (logs : List HouseLog) (places : List ℕ) (place : ℕ) (log : HouseLog) (h : HasMade old logs places)
     → slice_get logs place ≡ Some log → IsFirstOfHouse logs place → (does : DoesQuietly h.cs (commands.House log.house.0 log.node) new)
-    → image_in (replay (h.cs ++ commands.House log.house.0 log.node ∷ [])) log.house.0 ≡ log.image → HasMade new logs (places ++ place ∷ [])
+    → IfSome log.image (λ i. image_in (replay (h.cs ++ commands.House log.house.0 log.node ∷ [])) log.house.0 ≡ i) → HasMade new logs (places ++ place ∷ [])
 unfolding made_other
 made_more old new logs places place log h there first does image = record {
   cs = rest.cs;
@@ -85,8 +87,8 @@ made_more old new logs places place log h there first does image = record {
       parts = refl;
       done = does.answer;
       image =
-          ap (λ (g : Cell). image_in g log.house.0) (sym (replay-append h.cs (commands.House log.house.0 log.node ∷ []) empty_cell))
-          ∙ image;
+          subst (λ (g : Cell). IfSome log.image (λ i. image_in g log.house.0 ≡ i)) (replay-append h.cs (commands.House log.house.0 log.node ∷ []) empty_cell)
+          image;
     }
 
     by_place : {P : Type 0} (i : ℕ) → In i places ⊎ In i (place ∷ []) → (In i places → P) → (i ≡ place → P) → P
@@ -119,12 +121,21 @@ makes_only r new logs places h kept =
     let is : r.text.items ≡ new.text.items = cc in
     record { cs = h.cs; script = subst (λ (t : List ℕ). Scripts t h.cs) is h.has_done.script; views = h.views }
 
+-- no entry is logged by none
+none_logged : (ls : List LogEntry) (es : List Entry) → ls ≡ [] → es ≡ [] → AreLogged ls es
+none_logged ls es a b = subst (λ (l : List LogEntry). AreLogged l es) (sym a) (subst (AreLogged []) (sym b) NoEntry)
+
 pub makes_up_to : (text : List ℕ) (logs : List HouseLog) (reason : Reason) → MakesOnly text → reason.entry ≡ 1 → ExplainsUpTo text logs reason
 makes_up_to text logs reason m number = record {
   first = record {
     cs = m.cs;
     script = m.script;
-    views = λ log here. (entries_of log, sym (ap (λ (l : List _). l ++ entries_of log) (m.views log.house.0)));
+    views = λ log here. record {
+      first = [];
+      more = log.entries.items;
+      parts = refl;
+      logged = none_logged [] (view log.house.0 m.cs) refl (m.views log.house.0);
+    };
     others = λ x none. m.views x;
   };
   next = inl (record { number = number; nothing = m.views reason.house.0 });
@@ -138,7 +149,9 @@ begun_explained e logs places b each = record {
   has_done = h.has_done;
   apart = λ i j a c lt ja ic. h.once i (each i (slice_get_within logs i c ic)) j a c lt ja ic;
   made = λ i log is. h.made i log (each i (slice_get_within logs i log is)) is;
-  views = λ i log is. h.views log.house.0 ∙ none i (entries_of log);
+  views =
+      λ i log is. none_logged (take (slice_index e.done.items i) log.entries.items) (view log.house.0 h.cs) (sym (none i log.entries.items))
+      (h.views log.house.0);
   clocks = λ i log is. h.clocks log.house.0 ∙ sym (b.clocks i);
   others = λ x none. h.views x;
   count = b.count;

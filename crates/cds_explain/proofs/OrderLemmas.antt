@@ -37,7 +37,7 @@ secondaries_of ls = numbers_of (secondaries_in ls)
 
 -- what is seen of a turn that was compared
 pub turn_is : (g : Cell) (x : ℕ) (t : LoggedTurn) (o : Outcome) → DoesTurn g x t o → (g.house x).clock ≡ t.clock
-    → turn_seen g x (order_of t.order) o ≡ Some (x, Turned (turn_of t))
+    → turn_seen g x (order_of t.order) o ≡ Some (x, Turned (turn_of t (image_in o.cell x)))
 turn_is g x t o does clock =
     ap (λ (b : Bool). cond b (Some (
       x,
@@ -56,7 +56,7 @@ turn_is g x t o does clock =
         order = order_of t.order;
         posts = does.posts j;
         answer = does.answer j;
-        image = does.image j;
+        image = image_in o.cell x;
       }),
     ))
 

@@ -28,7 +28,8 @@ use Rattle.script_answers.specs.declared.answer.Answer.TheVariants as answer
 use Rattle.entry_lines.specs.declared.command.Said.{Said}
 use Rattle.entry_lines.specs.EntryCommands.{IsCommandOf}
 use Rattle.entry_lines.specs.SaidLines.{SaysCommand}
-use Rattle.cds_explain.specs.LoggedEntries.{turn_of}
+use Rattle.house_logs.specs.declared.log.LogEntry.TheVariants as logged
+use Rattle.cds_explain.specs.LoggedEntries.{StartIs, TurnIs, turn_of}
 use Rattle.cds_explain.specs.PrivateComparing.{ArePostedAfter, DoesTurn, IsOrdered, own_of}
 use Rattle.cds_explain.specs.PrivateConsole.{HasMembers, IsListedAs, IsReady}
 use Rattle.cds_explain.specs.PrivateReplays.{DoesEntry, DoesQuietly, HasDone, HasStepped}
@@ -104,13 +105,15 @@ done_quietly old mid new cs c line has stepped text lines replayer says = record
 pub start_done : (old mid new : Replay) (cs : List model.Command) (h : HouseNo) (line image : List ℕ) → HasDone old cs
     → HasStepped cs (model.Start h.0) answer.Done old mid → new.text.items ≡ mid.text.items ++ (line ++ 10 ∷ []) → new.lines ≡ mid.lines
     → new.replayer ≡ mid.replayer → SaysCommand line (command.Start h) → image_in (outcome (replay cs) (model.Start h.0)).cell h.0 ≡ image
-    → DoesEntry cs h.0 (Started image) new
+    → DoesEntry cs h.0 (logged.Started image) new
 start_done old mid new cs h line image has stepped text lines replayer says same = record {
   command = model.Start h.0;
   has_done = done_more old mid new cs (command.Start h) line answer.Done has stepped text lines replayer says;
+  entry = Started image;
   seen =
       ap (start_seen h.0 o.cell) (done_only o.answer stepped.step.answer)
       ∙ ap (λ (octets : List ℕ). Some (h.0, Started octets)) same;
+  logged = StartIs image;
 }
   where
     o : Outcome
@@ -165,12 +168,14 @@ pub turn_done : (old mid new : Replay) (cs : List model.Command) (c : Command) (
     → new.replayer ≡ mid.replayer → SaysCommand line c → IsCommandOf h t.order serial c → IsReady (replay cs) h.0 t.order serial
     → HasMembers (replay cs) t.order before → IsListedAs (outcome (replay cs) (step_of c)).cell t.order before → own_of a ≡ Some told
     → answer_line told ≡ t.answer → ArePostedAfter (outcome (replay cs) (step_of c)).cell (length (replay cs).bag) t.posts.items
-    → image_in (outcome (replay cs) (step_of c)).cell h.0 ≡ t.image → ((replay cs).house h.0).clock ≡ t.clock
-    → DoesEntry cs h.0 (Turned (turn_of t)) new
+    → IfSome t.image (λ i. image_in (outcome (replay cs) (step_of c)).cell h.0 ≡ i) → ((replay cs).house h.0).clock ≡ t.clock
+    → DoesEntry cs h.0 (logged.Turned t) new
 turn_done old mid new cs c line h t serial before a told has stepped text lines replayer says is ready members lists owns answers posts image clock = record {
   command = step_of c;
   has_done = done_more old mid new cs c line a has stepped text lines replayer says;
+  entry = Turned (turn_of t (image_in o.cell h.0));
   seen = order_seen g h t.order serial c is (ordered g h t.order serial c before is ready own.0 members lists) ∙ turn_is g h.0 t o does clock;
+  logged = TurnIs t (image_in o.cell h.0) image;
 }
   where
     g : Cell

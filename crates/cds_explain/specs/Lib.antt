@@ -1,5 +1,7 @@
 pub mod LoggedEntries
 pub mod Explained
+pub mod Causes
+pub mod ReasonLines
 pub mod PrivateComparing
 pub mod PrivateConsole
 pub mod PrivateReplays

@@ -1,12 +1,11 @@
 -- The entries of a house that its journal has.
-use Rattle.std.specs.Prelude.{List, map}
+use Rattle.std.specs.Prelude.{◌≡◌, ℕ, List, [], ◌∷◌, map, IfSome}
 use Rattle.cds_stamps.specs.Members.{members_of}
 use Rattle.cell_model.specs.Steps.{sorted_houses}
 use Rattle.directory.specs.Updates.{Repoint, change_of}
 use Rattle.cell_script.specs.Listings.{houses_in, secondaries_in}
 use Rattle.house_directory.specs.HouseMessages.{numbers_of}
 use Rattle.cell_runs.specs.Entries.{Order, Root, Mkdir, Accept, Skulk, Epoch, Take, Post, TurnEntry, Entry, Started, Turned}
-use Rattle.house_logs.specs.declared.log.HouseLog.{HouseLog}
 use Rattle.house_logs.specs.declared.log.LogEntry.{LogEntry}
 use Rattle.house_logs.specs.declared.log.LogEntry.TheVariants as entry
 use Rattle.house_logs.specs.declared.log.LoggedTurn.{LoggedTurn}
@@ -29,22 +28,26 @@ order_of (order.Take octets) = Take octets
 abbrev pub post_of : PostedOctets → Post
 post_of p = record { to = p.to.0; octets = p.octets }
 
--- a turn
-abbrev pub turn_of : LoggedTurn → TurnEntry
-turn_of t =
+-- a turn, with the image that the house has after it
+abbrev pub turn_of : LoggedTurn → (image : List ℕ) → TurnEntry
+turn_of t image =
     record {
       clock = t.clock;
       order = order_of t.order;
       posts = map post_of t.posts.items;
       answer = t.answer;
-      image = t.image;
+      image = image;
     }
 
--- an entry
-abbrev pub entry_of : LogEntry → Entry
-entry_of (entry.Started image) = Started image
-entry_of (entry.Turned t) = Turned (turn_of t)
+-- an entry is that of a journal, in all that the journal has of it: it need not have the image
+-- after a turn
+pub data IsLogged : LogEntry → Entry → Type 0 where
+  StartIs : (image : List ℕ) → IsLogged (entry.Started image) (Started image)
+  TurnIs : (t : LoggedTurn) (image : List ℕ) → IfSome t.image (λ i. image ≡ i)
+      → IsLogged (entry.Turned t) (Turned (turn_of t image))
 
--- those of a journal, after the one that made the house
-abbrev pub entries_of : HouseLog → List Entry
-entries_of log = map entry_of log.entries.items
+-- entries are those of a journal, one after the other
+pub data AreLogged : List LogEntry → List Entry → Type 0 where
+  NoEntry : AreLogged [] []
+  NextEntry : (l : LogEntry) (e : Entry) (ls : List LogEntry) (es : List Entry) → IsLogged l e
+      → AreLogged ls es → AreLogged (l ∷ ls) (e ∷ es)

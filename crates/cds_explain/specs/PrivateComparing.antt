@@ -1,5 +1,5 @@
 -- What is compared of an entry and the replay.
-use Rattle.std.specs.Prelude.{◌≡◌, ℕ, ◌+◌, true, List, [], ◌∷◌, drop, length, map, Option, Some, None}
+use Rattle.std.specs.Prelude.{◌≡◌, ℕ, ◌+◌, true, List, [], ◌∷◌, drop, length, map, Option, Some, None, IfSome}
 use Rattle.cds_stamps.specs.Members.{members_of}
 use Rattle.cds_stamps.specs.declared.numbers.DirId.{DirId}
 use Rattle.cds_stamps.specs.declared.numbers.EpochNo.{EpochNo}
@@ -43,12 +43,13 @@ abbrev pub ArePostedAfter : Cell → ℕ → List PostedOctets → Type 0
 ArePostedAfter g n [] = length g.bag ≡ n
 ArePostedAfter g n (p ∷ ps) = IsPosted g (n + 1) p.to.0 p.octets × ArePostedAfter g (n + 1) ps
 
--- what a command came to at the house x is this turn, but for its order and its clock
+-- what a command came to at the house x is this turn, but for its order and its clock; with its
+-- image, if the journal has it
 pub record DoesTurn (g : Cell) (x : ℕ) (t : LoggedTurn) (o : Outcome) : Type 0 where
   pub turn : is_turn o.answer ≡ true
   pub answer : answer_said o.answer ≡ t.answer
   pub posts : map views.post_of (drop (length g.bag) o.cell.bag) ≡ map post_of t.posts.items
-  pub image : image_in o.cell x ≡ t.image
+  pub image : IfSome t.image (λ i. image_in o.cell x ≡ i)
 
 -- the console gives the house x the epoch of an order: the next one, with its list and those that
 -- leave

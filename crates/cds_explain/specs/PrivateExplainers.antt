@@ -5,8 +5,9 @@ use Rattle.cell_model.specs.Sets.{In}
 use Rattle.cell_model.specs.Steps.{replay}
 use Rattle.cell_runs.specs.Entries.{Entry}
 use Rattle.house_logs.specs.declared.log.HouseLog.{HouseLog}
+use Rattle.house_logs.specs.declared.log.LogEntry.{LogEntry}
 use Rattle.cds_explain.specs.Explained.{HasNoLog, Makes, Scripts, view}
-use Rattle.cds_explain.specs.LoggedEntries.{entries_of}
+use Rattle.cds_explain.specs.LoggedEntries.{AreLogged}
 use Rattle.cds_explain.specs.PrivateReplays.{DoesQuietly, HasDone}
 use Rattle.cds_explain.specs.declared.cause.Reason.{Reason}
 use Rattle.cds_explain.specs.declared.explainer.Explainer.{Explainer}
@@ -18,22 +19,24 @@ clock_after cs x = ((replay cs).house x).clock
 
 -- ---- what an entry adds
 
--- in the commands that are new the house x does these entries, and its clock is then this one; no
--- other house does any, and each has its own clock
-pub record Adds (cs new : List Command) (x : ℕ) (es : List Entry) (time : ℕ) : Type 0 where
+-- in the commands that are new the house x does these entries of its journal, and its clock is then
+-- this one; no other house does any, and each has its own clock
+pub record Adds (cs new : List Command) (x : ℕ) (ls : List LogEntry) (time : ℕ) : Type 0 where
   pub more : List Command
   pub follows : new ≡ cs ++ more
-  pub here : view x new ≡ view x cs ++ es
+  pub entries : List Entry
+  pub logged : AreLogged ls entries
+  pub here : view x new ≡ view x cs ++ entries
   pub there : (y : ℕ) → y ≢ x → view y new ≡ view y cs
   pub clock : clock_after new x ≡ time
   pub clocks : (y : ℕ) → y ≢ x → clock_after new y ≡ clock_after cs y
 
 -- a replay has done more commands, which add these entries
-pub record GoesOn (cs : List Command) (x : ℕ) (es : List Entry) (time : ℕ) (r : Replay) : Type 0
+pub record GoesOn (cs : List Command) (x : ℕ) (ls : List LogEntry) (time : ℕ) (r : Replay) : Type 0
   where
     pub new : List Command
     pub has_done : HasDone r new
-    pub adds : Adds cs new x es time
+    pub adds : Adds cs new x ls time
 
 -- a text is a script of more commands, in which no house does anything
 pub record Stops (cs : List Command) (text : List ℕ) : Type 0 where
@@ -94,7 +97,7 @@ pub record HasExplained (e : Explainer) (logs : List HouseLog) : Type 0 where
   pub apart : AreApart logs
   pub made : (i : ℕ) (log : HouseLog) → slice_get logs i ≡ Some log → Makes cs log
   pub views : (i : ℕ) (log : HouseLog) → slice_get logs i ≡ Some log
-      → view log.house.0 cs ≡ take (slice_index e.done.items i) (entries_of log)
+      → AreLogged (take (slice_index e.done.items i) log.entries.items) (view log.house.0 cs)
   pub clocks : (i : ℕ) (log : HouseLog) → slice_get logs i ≡ Some log
       → clock_after cs log.house.0 ≡ slice_index e.clocks.items i
   pub others : (x : ℕ) → HasNoLog x logs → view x cs ≡ []

@@ -9,7 +9,9 @@ use Rattle.cell_runs.specs.Entries.{Entry}
 use Rattle.cell_runs.specs.Views.{seen_at}
 use Rattle.cds_cell.specs.ModelCells.{IsStep, Stands}
 use Rattle.script_answers.specs.declared.answer.Answer.{Answer}
+use Rattle.house_logs.specs.declared.log.LogEntry.{LogEntry}
 use Rattle.cds_explain.specs.Explained.{Scripts}
+use Rattle.cds_explain.specs.LoggedEntries.{IsLogged}
 use Rattle.cds_explain.specs.declared.replay.Replay.{Replay}
 
 -- this holds of the fault, if it is one
@@ -41,8 +43,10 @@ pub record DoesQuietly (cs : List Command) (c : Command) (r : Replay) : Type 0 w
   pub has_done : HasDone r (cs ++ c ∷ [])
   pub answer : (outcome (replay cs) c).answer ≡ Done
 
--- one command more, which is this entry of the house x
-pub record DoesEntry (cs : List Command) (x : ℕ) (e : Entry) (r : Replay) : Type 0 where
+-- one command more, which is this entry of the journal of the house x
+pub record DoesEntry (cs : List Command) (x : ℕ) (l : LogEntry) (r : Replay) : Type 0 where
   pub command : Command
   pub has_done : HasDone r (cs ++ command ∷ [])
-  pub seen : seen_at (replay cs) command ≡ Some (x, e)
+  pub entry : Entry
+  pub seen : seen_at (replay cs) command ≡ Some (x, entry)
+  pub logged : IsLogged l entry

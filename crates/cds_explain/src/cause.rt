@@ -1,7 +1,10 @@
 // Why an entry is not explained, in words.
+ghost use Rattle.std.specs.Prelude.{◌≡◌, ◌++◌, List, ℕ, OnOk, map};
+ghost use Rattle.cds_explain.specs.ReasonLines.{entry_said, reason_line, shown};
+
 use cds_stamps::{DirId, EpochNo, HouseNo};
 use script_answers::push_number;
-use std::alloc::AllocError;
+use std::alloc::{AllocError, Global};
 
 /// Why an entry is not explained.
 #[derive(Drop)]
@@ -41,13 +44,30 @@ pub struct Reason {
 // How many octets of an answer are shown.
 const MOST_SHOWN: usize = 200;
 
-// Adds the first octets of an answer, with a `?` for each that is not printable.
-fn push_shown(text: &mut Vec<u8>, octets: &[u8]) -> Result<(), AllocError> {
-    for octet in octets.iter().take(MOST_SHOWN) {
-        let is_printable = (0x20..=0x7E).contains(octet);
-        text.push(if is_printable { *octet } else { b'?' })?;
+// An octet, or a `?` where it is not printable.
+fn shown(octet: u8) -> u8
+    ensures { result ≡ shown octet }
+{
+    if (0x20..=0x7E).contains(&octet) {
+        octet
+    } else {
+        b'?'
+    }
+}
+
+// Adds octets as they are shown.
+fn push_shown(text: &mut Vec<u8>, octets: &[u8]) -> Result<(), AllocError>
+    ensures { OnOk result (text.new.items ≡ text.old.items ++ map shown octets.now) }
+{
+    for octet in octets {
+        text.push(shown(*octet))?;
     }
     Ok(())
+}
+
+// Adds the first octets of an answer.
+fn push_answer(text: &mut Vec<u8>, answer: &[u8]) -> Result<(), AllocError> {
+    text.extend_from_slice(&answer[..answer.len().min(MOST_SHOWN)])
 }
 
 // Adds a number between words.
@@ -99,9 +119,9 @@ impl Cause {
             Cause::OtherList => text.extend_from_slice(b"the console would give another list"),
             Cause::OtherAnswer(answer, replay) => {
                 text.extend_from_slice(b"answered ")?;
-                push_shown(text, answer)?;
+                push_answer(text, answer)?;
                 text.extend_from_slice(b" where the replay answers ")?;
-                push_shown(text, replay)
+                push_answer(text, replay)
             }
             Cause::OtherPosts => text.extend_from_slice(b"posted what the replay does not post"),
             Cause::OtherImage => text.extend_from_slice(b"an image that the replay has not"),
@@ -112,18 +132,34 @@ impl Cause {
 }
 
 impl Reason {
-    /// Adds the line of the reason, which is a comment of a script.
-    pub fn push(&self, text: &mut Vec<u8>) -> Result<(), AllocError> {
-        push_between(
-            text,
-            b"# unexplained: house ",
-            u64::from(self.house.0),
-            b" entry ",
-        )?;
-        push_number(text, self.entry)?;
+    // Adds its entry, at the beginning of a line.
+    fn push_entry(&self, text: &mut Vec<u8>) -> Result<(), AllocError>
+        ensures { OnOk result (text.new.items ≡ text.old.items ++ entry_said self.now) }
+    {
+        text.extend_from_slice(b"# unexplained: house ")?;
+        push_number(text, u64::from(self.house.0))?;
+        text.extend_from_slice(b" entry ")?;
+        push_number(text, self.entry)
+    }
+
+    // Adds the line with these words.
+    fn push_line(&self, text: &mut Vec<u8>, words: &[u8]) -> Result<(), AllocError>
+        ensures { OnOk result (text.new.items ≡ text.old.items ++ reason_line self.now words.now) }
+    {
+        self.push_entry(text)?;
         text.extend_from_slice(b": ")?;
-        self.cause.push(text)?;
+        push_shown(text, words)?;
         text.push(b'\n')?;
         Ok(())
+    }
+
+    /// Adds the line of the reason, which is a comment of a script.
+    pub fn push(&self, alloc: Global, text: &mut Vec<u8>) -> Result<(), AllocError>
+        ensures { OnOk result ((words : List ℕ)
+            × (text.new.items ≡ text.old.items ++ reason_line self.now words)) }
+    {
+        let mut words = Vec::new(alloc);
+        self.cause.push(&mut words)?;
+        self.push_line(text, &words)
     }
 }

@@ -102,9 +102,8 @@ impl Explainer {
     ghost use Rattle.std.specs.Prelude.{◌≡◌, ◌≢◌, ◌≤◌, ◌<◌, ◌∷◌, [], List, ℕ, false, None, IfOk, IfSome, MatchOption, OnOk, length, slice_index};
     ghost use Rattle.cell_model.specs.Commands.{Command};
     ghost use Rattle.cell_model.specs.Sets.{In};
-    ghost use Rattle.cell_runs.specs.Entries.{Started, Turned};
+    ghost use Rattle.house_logs.specs.declared.log.LogEntry.TheVariants.{Started, Turned};
     ghost use Rattle.cds_explain.specs.Explained.{Explains, ExplainsUpTo};
-    ghost use Rattle.cds_explain.specs.LoggedEntries.{entry_of, turn_of};
     ghost use Rattle.cds_explain.specs.PrivateExplainers.{GoesOn, HasBegun, HasExplained, IsAllDone, IsNextAt, IsTimed, SameBut, Stops, clock_after};
     ghost use Rattle.cds_explain.specs.PrivateReplays.{HasDone, IfFault};
 
@@ -247,7 +246,7 @@ impl Explainer {
         ensures taken { (cs : List Command) → HasDone self.old.replay cs
             → clock_after cs log.now.house.0 ≡ slice_index self.old.clocks.items place
             → IfOk result (λ o. MatchOption o
-            (GoesOn cs log.now.house.0 (entry_of entry.now ∷ [])
+            (GoesOn cs log.now.house.0 (entry.now ∷ [])
             (slice_index self.new.clocks.items place) self.new.replay)
             (λ cause. self.new ≡ self.old)) }
         ensures stopped { (cs : List Command) → HasDone self.old.replay cs
@@ -327,7 +326,7 @@ impl Explainer {
         ensures taken { (cs : List Command) → HasDone self.old.replay cs
             → clock_after cs log.now.house.0 ≡ slice_index self.old.clocks.items place
             → IfOk result (λ o. MatchOption o
-            (GoesOn cs log.now.house.0 (Turned (turn_of turn.now) ∷ [])
+            (GoesOn cs log.now.house.0 (Turned turn.now ∷ [])
             (slice_index self.new.clocks.items place) self.new.replay)
             (λ cause. self.new ≡ self.old)) }
         ensures stopped { (cs : List Command) → HasDone self.old.replay cs

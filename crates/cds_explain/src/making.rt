@@ -49,7 +49,7 @@ fn make_house(
         return Err(AllocOr::Fault(cause));
     }
     replay.make(alloc, log.house, log.node)?;
-    replay.compare_image(alloc, log.house, log.image.list())?;
+    replay.compare_shown(alloc, log.house, log.image.as_ref())?;
     Ok(())
 }
 

@@ -1,8 +1,9 @@
 // Whether the next entry of a house can go on: what it takes was posted, and what the console gave
 // is next.
-ghost use Rattle.std.specs.Prelude.{◌≡◌, ◌+◌, ◌≤◌, IfOk, IfSome, OnOk};
+ghost use Rattle.std.specs.Prelude.{◌≡◌, ◌+◌, ◌≤◌, IfErr, IfOk, IfSome, OnOk};
 ghost use Rattle.cell_model.specs.Cells as model;
 ghost use Rattle.cds_cell.specs.ModelCells.{Stands};
+ghost use Rattle.cds_explain.specs.Causes.{Hinders, HindersEpoch, HindersMkdir, HindersRoot};
 ghost use Rattle.cds_explain.specs.PrivateConsole.{IsReady};
 
 use crate::cause::Cause;
@@ -21,7 +22,9 @@ fn next_directory(cell: &Cell) -> u64
 }
 
 // Why the root cannot be made.
-fn root_ready(cell: &Cell) -> Result<u64, Cause> {
+fn root_ready(cell: &Cell) -> Result<u64, Cause>
+    ensures { (g : model.Cell) → Stands cell.now g → IfErr result (HindersRoot g) }
+{
     match cell.listing(ROOT) {
         Some(_) => Err(Cause::SecondRoot),
         None => Ok(0),
@@ -30,7 +33,8 @@ fn root_ready(cell: &Cell) -> Result<u64, Cause> {
 
 // Why a directory of this number is not the next one.
 fn mkdir_ready(cell: &Cell, made: DirId) -> Result<u64, Cause>
-    ensures { (g : model.Cell) → Stands cell.now g → OnOk result (g.next_dir ≡ made.0) }
+    ensures ready { (g : model.Cell) → Stands cell.now g → OnOk result (g.next_dir ≡ made.0) }
+    ensures why { (g : model.Cell) → Stands cell.now g → IfErr result (HindersMkdir g made) }
 {
     let next = next_directory(cell);
     if u64::from(made.0) < next {
@@ -44,8 +48,9 @@ fn mkdir_ready(cell: &Cell, made: DirId) -> Result<u64, Cause>
 
 // Why an epoch is not the next one of its directory.
 fn epoch_ready(cell: &Cell, dir: DirId, epoch: EpochNo) -> Result<u64, Cause>
-    ensures { (g : model.Cell) → Stands cell.now g
+    ensures ready { (g : model.Cell) → Stands cell.now g
         → OnOk result ((1 ≤ g.top dir.0) × (epoch.0 ≡ g.top dir.0 + 1)) }
+    ensures why { (g : model.Cell) → Stands cell.now g → IfErr result (HindersEpoch g dir epoch) }
 {
     let last = match cell.listing(dir) {
         Some((last, _)) => last,
@@ -67,8 +72,9 @@ pub(crate) fn ready(
     house: HouseNo,
     order: &LoggedOrder,
 ) -> Result<u64, Cause>
-    ensures { (g : model.Cell) → Stands cell.now g
+    ensures ready { (g : model.Cell) → Stands cell.now g
         → IfOk result (λ n. IsReady g house.0 order.now n) }
+    ensures why { (g : model.Cell) → Stands cell.now g → IfErr result (Hinders g order.now) }
 {
     match order {
         LoggedOrder::Root(_) => root_ready(cell),

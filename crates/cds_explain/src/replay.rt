@@ -1,6 +1,6 @@
 // The replay of a script as it is made: each line is done on a cell, and compared with what the
 // entry says before it is added.
-ghost use Rattle.std.specs.Prelude.{◌≡◌, ◌≤◌, ◌+◌, ◌++◌, ◌∷◌, [], List, ℕ, Some, IfOk, OnOk};
+ghost use Rattle.std.specs.Prelude.{◌≡◌, ◌≤◌, ◌+◌, ◌++◌, ◌∷◌, [], List, ℕ, Some, IfOk, IfSome, OnOk, option_copied};
 ghost use Rattle.std.specs.Bool.{OnTrue};
 ghost use Rattle.cds_stamps.specs.Members.{members_of};
 ghost use Rattle.cell_model.specs.Cells.{Cell as Cell'};
@@ -20,7 +20,7 @@ use crate::ready::ready;
 use cds_base::MOST_LINES;
 use cds_cell::Cell;
 use cds_stamps::{AllocOr, HouseNo, Member, Node};
-use cell_script::Command;
+use cell_script::{Command, Octets};
 use entry_lines::Said;
 use house_logs::{LoggedOrder, LoggedTurn};
 use script_answers::Answer;
@@ -95,10 +95,9 @@ fn compare_answer(alloc: Global, own: &[u8], answer: &Answer) -> Result<(), Allo
 
 impl Replay {
     ghost use Rattle.cds_cell.specs.Scripted.{step_of};
-    ghost use Rattle.cell_runs.specs.Entries.{Started, Turned};
+    ghost use Rattle.house_logs.specs.declared.log.LogEntry.TheVariants as entry';
     ghost use Rattle.script_answers.specs.declared.answer.Answer.TheVariants as answer';
     ghost use Rattle.entry_lines.specs.SaidLines.{SaysCommand};
-    ghost use Rattle.cds_explain.specs.LoggedEntries.{turn_of};
     ghost use Rattle.cds_explain.specs.PrivateConsole.{IsReady};
     ghost use Rattle.cds_explain.specs.PrivateReplays.{DoesEntry, DoesQuietly, HasDone, HasStepped, IfFault};
 
@@ -235,7 +234,7 @@ impl Replay {
         image: &[u8],
     ) -> Result<(), AllocOr<Cause>>
         ensures done { (cs : List model.Command) → HasDone self.old cs
-            → OnOk result (DoesEntry cs house.0 (Started image.now) self.new) }
+            → OnOk result (DoesEntry cs house.0 (entry'.Started image.now) self.new) }
         ensures kept { IfFault result (λ cause. self.new.text ≡ self.old.text) }
     {
         let Some(said) = entry_lines::start(alloc, house)? else {
@@ -247,8 +246,8 @@ impl Replay {
         Ok(self.push(&line)?)
     }
 
-    /// The image of a house has to be this one.
-    pub(crate) fn compare_image(
+    // The image of a house has to be this one.
+    fn compare_image(
         &self,
         alloc: Global,
         house: HouseNo,
@@ -264,6 +263,22 @@ impl Replay {
         }
     }
 
+    /// The image of a house has to be this one, if there is one.
+    pub(crate) fn compare_shown(
+        &self,
+        alloc: Global,
+        house: HouseNo,
+        image: Option<&Octets>,
+    ) -> Result<(), AllocOr<Cause>>
+        ensures { (g : Cell') → Stands self.now.replayer.cell g
+            → OnOk result (IfSome (option_copied image.entry) (λ i. image_in g house.0 ≡ i)) }
+    {
+        match image {
+            Some(image) => self.compare_image(alloc, house, image.list()),
+            None => Ok(()),
+        }
+    }
+
     /// Does a turn, which takes the message of this serial number if it takes one.
     pub(crate) fn turn(
         &mut self,
@@ -275,7 +290,7 @@ impl Replay {
         ensures done { (cs : List model.Command) → HasDone self.old cs
             → IsReady (replay cs) house.0 turn.now.order serial
             → ((replay cs).house house.0).clock ≡ turn.now.clock
-            → OnOk result (DoesEntry cs house.0 (Turned (turn_of turn.now)) self.new) }
+            → OnOk result (DoesEntry cs house.0 (entry'.Turned turn.now) self.new) }
         ensures kept { IfFault result (λ cause. self.new.text ≡ self.old.text) }
     {
         let Some(said) = entry_lines::turn(alloc, house, turn, serial)? else {
@@ -292,7 +307,7 @@ impl Replay {
         if !are_posted(self.cell(), first, &turn.posts) {
             return Err(AllocOr::Fault(Cause::OtherPosts));
         }
-        self.compare_image(alloc, house, turn.image.list())?;
+        self.compare_shown(alloc, house, turn.image.as_ref())?;
         self.note(alloc, first, turn)?;
         Ok(self.push(&line)?)
     }

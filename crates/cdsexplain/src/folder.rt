@@ -1,23 +1,16 @@
-// The folder of a house: its segments by their numbers.
-use cds_stamps::AllocOr;
-use house_logs::{HouseLog, LogFault, LogReader};
+// The folders of houses: the octets of their segments, by their numbers.
+
+use cds_base::WordsFault;
+use cell_script::Octets;
+use explain_program::{FolderEnd, FolderOctets, Status};
 use std::alloc::AllocError;
 use std::{fs, io};
 
-/// Why the journal of a folder is not read.
-#[derive(Drop)]
-pub(crate) enum FolderFault {
-    /// The folder or a segment cannot be read.
-    ReadFault,
-    OutOfMemory,
-    /// A segment is not there.
-    Missing(u64),
-    BadLog(LogFault),
-}
-
-impl From<AllocError> for FolderFault {
-    fn from(_error: AllocError) -> FolderFault {
-        FolderFault::OutOfMemory
+/// How a program ends without the words of its command line.
+pub(crate) fn without_words(fault: WordsFault) -> Status {
+    match fault {
+        WordsFault::NoText => Status::Usage,
+        WordsFault::OutOfMemory => Status::OutOfMemory,
     }
 }
 
@@ -30,52 +23,91 @@ fn number_in(name: &str) -> Option<u64> {
     name.parse::<u64>().ok()
 }
 
-// The greatest number of a segment in the folder, or 0.
+// The number of a segment, or 0 of another entry of the folder. An entry that has a number and is
+// no file is an error: nobody knows whether a read of it ends.
+fn number_of(entry: &fs::DirEntry) -> io::Result<u64> {
+    match number_in(entry.file_name()) {
+        Some(_) if !entry.file_type()?.is_file() => {
+            Err(io::Error::from(io::ErrorKind::InvalidInput))
+        }
+        number => Ok(number.unwrap_or(0)),
+    }
+}
+
+// The greatest number of a segment in the folder, or 0. A name that is no text is no number.
 fn greatest(rt: &HostRuntime, folder: &str) -> io::Result<u64> {
     let mut most = 0;
     for entry in fs::read_dir(rt, folder)? {
-        if let Some(number) = number_in(entry?.file_name()) {
-            most = most.max(number);
+        match entry {
+            Ok(entry) => most = most.max(number_of(&entry)?),
+            Err(error) if error.kind() == io::ErrorKind::InvalidFilename => {}
+            Err(error) => return Err(error),
         }
     }
     Ok(most)
 }
 
-// Why a read failed.
-fn fault_of(error: io::Error) -> FolderFault {
+// The status of a read that failed.
+fn status_of(error: io::Error) -> Status {
     if error.kind() == io::ErrorKind::OutOfMemory {
-        FolderFault::OutOfMemory
+        Status::OutOfMemory
     } else {
-        FolderFault::ReadFault
+        Status::ReadFault
     }
 }
 
-// The octets of a segment.
-fn segment_octets(rt: &HostRuntime, folder: &str, number: u64) -> Result<Vec<u8>, FolderFault> {
-    let path = format!(in rt.alloc(); "{folder}/{number}")?;
+// The octets of a segment; none, if it is not there.
+fn segment_octets(rt: &HostRuntime, folder: &str, number: u64) -> Result<Option<Vec<u8>>, Status> {
+    let Ok(path) = path_of(rt, folder, number) else {
+        return Err(Status::OutOfMemory);
+    };
     match fs::read(rt, path.as_str()) {
-        Ok(octets) => Ok(octets),
-        Err(error) if error.kind() == io::ErrorKind::NotFound => {
-            Err(FolderFault::Missing(number))
-        }
-        Err(error) => Err(fault_of(error)),
+        Ok(octets) => Ok(Some(octets)),
+        Err(error) if error.kind() == io::ErrorKind::NotFound => Ok(None),
+        Err(error) => Err(status_of(error)),
     }
 }
 
-/// The journal of a folder; none, if no house was made there yet.
-pub(crate) fn log_of(rt: &HostRuntime, folder: &str) -> Result<Option<HouseLog>, FolderFault> {
+// The path of a segment.
+fn path_of(rt: &HostRuntime, folder: &str, number: u64) -> Result<String, AllocError> {
+    format!(in rt.alloc(); "{folder}/{number}")
+}
+
+// The octets of the segments of a folder, up to the first one that is missing.
+fn octets_of(rt: &HostRuntime, folder: &str) -> Result<FolderOctets, Status> {
     let most = match greatest(rt, folder) {
         Ok(most) => most,
-        Err(error) => return Err(fault_of(error)),
+        Err(error) => return Err(status_of(error)),
     };
-    let mut reader = LogReader::new(rt.alloc());
+    let mut segments = Vec::new(rt.alloc());
     for before in 0..most {
-        let octets = segment_octets(rt, folder, before + 1)?;
-        match reader.read(rt.alloc(), &octets) {
-            Ok(()) => {}
-            Err(AllocOr::Fault(fault)) => return Err(FolderFault::BadLog(fault)),
-            Err(AllocOr::OutOfMemory) => return Err(FolderFault::OutOfMemory),
+        let Some(octets) = segment_octets(rt, folder, before + 1)? else {
+            return Ok(FolderOctets {
+                segments,
+                end: FolderEnd::Missing,
+            });
+        };
+        if segments.push(Octets::of(octets)).is_err() {
+            return Err(Status::OutOfMemory);
         }
     }
-    Ok(reader.finish())
+    Ok(FolderOctets {
+        segments,
+        end: FolderEnd::Whole,
+    })
+}
+
+/// The octets of folders. There has to be one at least.
+pub(crate) fn folders_of(rt: &HostRuntime, words: &[String]) -> Result<Vec<FolderOctets>, Status> {
+    if words.is_empty() {
+        return Err(Status::Usage);
+    }
+    let mut folders = Vec::new(rt.alloc());
+    for word in words {
+        let folder = octets_of(rt, word.as_str())?;
+        if folders.push(folder).is_err() {
+            return Err(Status::OutOfMemory);
+        }
+    }
+    Ok(folders)
 }

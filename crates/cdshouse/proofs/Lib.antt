@@ -1,2 +1,1 @@
-mod GrownSegments
 mod SegmentNames

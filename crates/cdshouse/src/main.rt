@@ -2,25 +2,23 @@
 //! output.
 #![tactic(auto)]
 
-mod ending;
 mod folder;
 mod names;
-mod running;
-mod segments;
 
-use cds_base::words_of;
-use ending::Status;
-use running::run;
+use cds_base::{StdSink, StdSource, words_of};
+use folder::HostFolder;
+use house_program::{Status, run};
 use std::process::ExitCode;
 
 // How the process of the house in the folder of these words ends.
 fn status_of(rt: &HostRuntime, words: &[String]) -> Status {
-    if words.len() != 1 {
+    if words.len() != 1 || words[0].is_empty() {
         return Status::Usage;
     }
-    match run(rt, words[0].as_str()) {
-        Ok(status) | Err(status) => status,
-    }
+    let mut folder = HostFolder::new(rt, words[0].as_str());
+    let mut source = StdSource::new(rt.stdin());
+    let mut sink = StdSink::new(rt.stdout());
+    run(rt.alloc(), &mut folder, &mut source, &mut sink)
 }
 
 fn main(rt: HostRuntime) -> ExitCode {

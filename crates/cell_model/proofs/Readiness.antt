@@ -51,7 +51,7 @@ ready_changed d k ms g h floor r posts s epoch members =
 
 -- ---- messages of the epoch that is held
 
-own_held : (now : House) (z : Message) (b : Body) (r : Replica) → z.epoch ≡ r.epoch → is_listed z.sender r.members ≡ true
+pub own_held : (now : House) (z : Message) (b : Body) (r : Replica) → z.epoch ≡ r.epoch → is_listed z.sender r.members ≡ true
     → take_other now z b (Held r) ≡ take_own now z r b
 own_held now z b r e l =
     let not_late : nat_lt z.epoch r.epoch ≡ false = grind arith in

@@ -13,7 +13,8 @@ use cell_model::convergence;
 /// Runs of houses are runs of the cell. Take the entries of houses that do as the model does, in
 /// any order in which each message that was taken had been posted before, and the console
 /// numbered directories and epochs one after the other. Commands of the model do exactly that:
-/// each house sees its own entries, no command is refused, and the replicas converge.
+/// each house sees its own entries, no command is refused, and the replicas converge. (The last is
+/// `convergence` once more: it holds of any commands.)
 pub fn runs_are_cells()
     ensures views { (houses : List MadeHouse) (logs : ℕ → List Entry) (line : List (ℕ × Entry))
         → AreRuns houses logs → IsOrderOf houses logs line

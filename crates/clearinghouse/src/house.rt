@@ -75,6 +75,13 @@ impl Clearinghouse {
         self.dirs.get(&dir)
     }
 
+    /// What it has of directories.
+    pub fn states(&self) -> &DirStates
+        ensures { result.now ≡ self.now.dirs }
+    {
+        &self.dirs
+    }
+
     /// The floor of its stamps: nothing that it has has a later time.
     pub fn floor(&self) -> u64
         ensures { result ≡ self.now.floor.time }

@@ -1,5 +1,7 @@
-// The lines of a script that do what entries say. Nothing is promised of them here: what each one
-// says is compared with the entry afterwards.
+// The lines of a script that do what entries say. What each one says is compared with the entry
+// afterwards.
+ghost use Rattle.std.specs.Prelude.{◌≡◌, ◌++◌, ◌∷◌, IfOk, OnOk, codes, decimal};
+
 use cds_stamps::{HouseNo, Member, MemberKind, Node};
 use cell_script::Words;
 use house_logs::{LoggedOrder, LoggedTurn};
@@ -7,13 +9,17 @@ use script_answers::{push_hex, push_number};
 use std::alloc::{AllocError, Global};
 
 // Adds a word.
-fn push_word(line: &mut Vec<u8>, word: &[u8]) -> Result<(), AllocError> {
+fn push_word(line: &mut Vec<u8>, word: &[u8]) -> Result<(), AllocError>
+    ensures { OnOk result (line.new.items ≡ line.old.items ++ (32 ∷ word.now)) }
+{
     line.push(b' ')?;
     line.extend_from_slice(word)
 }
 
 // Adds a number as a word.
-fn push_number_word(line: &mut Vec<u8>, number: u64) -> Result<(), AllocError> {
+fn push_number_word(line: &mut Vec<u8>, number: u64) -> Result<(), AllocError>
+    ensures { OnOk result (line.new.items ≡ line.old.items ++ (32 ∷ decimal number)) }
+{
     line.push(b' ')?;
     push_number(line, number)
 }
@@ -30,7 +36,9 @@ fn push_words(line: &mut Vec<u8>, words: &mut Words<'_>, count: usize) -> Result
 }
 
 // A command of a house.
-fn house_line(alloc: Global, command: &[u8], house: HouseNo) -> Result<Vec<u8>, AllocError> {
+fn house_line(alloc: Global, command: &[u8], house: HouseNo) -> Result<Vec<u8>, AllocError>
+    ensures { IfOk result (λ v. v.items ≡ command.now ++ (32 ∷ decimal house.0)) }
+{
     let mut line = Vec::from_slice(alloc, command)?;
     push_number_word(&mut line, u64::from(house.0))?;
     Ok(line)
@@ -49,24 +57,33 @@ pub(crate) fn making_line(
 }
 
 /// `clock H TIME`.
-pub(crate) fn clock_line(alloc: Global, house: HouseNo, time: u64) -> Result<Vec<u8>, AllocError> {
+pub(crate) fn clock_line(alloc: Global, house: HouseNo, time: u64) -> Result<Vec<u8>, AllocError>
+    ensures { IfOk result (λ v. v.items
+        ≡ codes "clock" ++ (32 ∷ (decimal house.0 ++ (32 ∷ decimal time)))) }
+{
     let mut line = house_line(alloc, b"clock", house)?;
     push_number_word(&mut line, time)?;
     Ok(line)
 }
 
 /// `crash H`.
-pub(crate) fn crash_line(alloc: Global, house: HouseNo) -> Result<Vec<u8>, AllocError> {
+pub(crate) fn crash_line(alloc: Global, house: HouseNo) -> Result<Vec<u8>, AllocError>
+    ensures { IfOk result (λ v. v.items ≡ codes "crash" ++ (32 ∷ decimal house.0)) }
+{
     house_line(alloc, b"crash", house)
 }
 
 /// `start H`.
-pub(crate) fn start_line(alloc: Global, house: HouseNo) -> Result<Vec<u8>, AllocError> {
+pub(crate) fn start_line(alloc: Global, house: HouseNo) -> Result<Vec<u8>, AllocError>
+    ensures { IfOk result (λ v. v.items ≡ codes "start" ++ (32 ∷ decimal house.0)) }
+{
     house_line(alloc, b"start", house)
 }
 
 // `deliver N`.
-fn delivery_line(alloc: Global, serial: u64) -> Result<Vec<u8>, AllocError> {
+fn delivery_line(alloc: Global, serial: u64) -> Result<Vec<u8>, AllocError>
+    ensures { IfOk result (λ v. v.items ≡ codes "deliver" ++ (32 ∷ decimal serial)) }
+{
     let mut line = Vec::from_slice(alloc, b"deliver")?;
     push_number_word(&mut line, serial)?;
     Ok(line)

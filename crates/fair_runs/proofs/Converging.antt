@@ -1,33 +1,51 @@
 -- What houses have after a skulk whose messages come, if nothing is accepted meanwhile.
 use Rattle.std.proofs.Common.{◌≡◌, ℕ, ◌≤◌, ◌<◌, true, List, [], ◌∷◌, ◌++◌, Some, refl, sym, ap, ◌∙◌, subst, arith, ⊎_elim, append_assoc}
 use Rattle.cds_stamps.specs.declared.stamp.Stamp.{Stamp}
-use Rattle.cds_stamps.specs.Members.{Member, others_of, is_listed}
+use Rattle.cds_stamps.specs.Members.{Member, others_of, is_listed, since_in}
+use Rattle.directory.specs.Entries.{Entries}
 use Rattle.directory.specs.Histories.{Mark}
+use Rattle.directory.specs.Shown.{shown_of_name, shown_in}
+use Rattle.directory.proofs.MemberLaws.{table_of-same}
+use Rattle.directory.proofs.ShownLaws.{shown_in-table_of}
 use Rattle.cell_model.specs.Bodies.{round_of, copy_in, marks_in}
-use Rattle.cell_model.specs.Cells.{Phase, Replica, Slot, Held, Copy, Gather, Gathered, Message, Cell, IsHeld, empty_cell}
+use Rattle.cell_model.specs.Cells.{Phase, Replica, Slot, Held, Copy, Body, Gather, Gathered, Message, Cell, IsHeld, empty_cell}
 use Rattle.cell_model.specs.Commands as commands
 use Rattle.cell_model.specs.Commands.{Command, Accepted}
 use Rattle.cell_model.specs.Sets.{In, IsPart}
 use Rattle.cell_model.specs.Turns.{running_skulk_stamp, copy_of}
 use Rattle.cell_model.specs.Steps.{outcome, replay, accepted_from}
+use Rattle.cell_model.specs.Agreement.{place_of}
 use Rattle.cell_model.proofs.Lists.{append_nil, In-append_left, In-append_right}
 use Rattle.cell_model.proofs.Terms.{Listed, listed_or}
-use Rattle.cell_model.proofs.Facts.{View, view, IsPosted, Holds, Roll, Reached, Sound, Past, grew, rose, crowned, copied, founded, Came, own, sent, fresh, New}
+use Rattle.cell_model.proofs.Facts.{View, view, Kind, IsPosted, Holds, Roll, Reached, Sound, Past, grew, rose, crowned, copied, founded, Came, own, sent, fresh, New}
 use Rattle.cell_model.proofs.Facts.{Frame, HeldOk}
 use Rattle.cell_model.proofs.Views.{In-of_dir, In-from_dir}
 use Rattle.cell_model.proofs.Passages.{Passage, whole, halves}
-use Rattle.cell_model.proofs.Runs.{replay-append, accepted-append, roll_of, step_passage, reaching_at}
+use Rattle.cell_model.proofs.Merging.{contains_in, in_contains}
+use Rattle.cell_model.proofs.Moves.{outcome_steps}
+use Rattle.cell_model.proofs.Runs.{replay-append, accepted-append, roll_of, fit_at, step_passage, reaching_at}
 use Rattle.fair_runs.specs.Fairness.{Begins, IsUndisturbed, IsDelivered, IsFair}
-use Rattle.fair_runs.proofs.Phases.{Asked, Hears}
+use Rattle.fair_runs.proofs.Phases.{Asked, Told, Hears}
+use Rattle.fair_runs.proofs.Raises.{Staying, step_raises}
 use Rattle.fair_runs.proofs.Begun.{Begun}
+use Rattle.fair_runs.proofs.Prefixes.{one_more, parts_of, cell_next}
 use Rattle.fair_runs.proofs.Courses as courses
 use Rattle.fair_runs.proofs.Endings as endings
-use Rattle.fair_runs.proofs.Endings.{begins_at}
-use Rattle.fair_runs.specs.Converging.{AllStay, IsQuiet, HaveSame, CellsConverge}
+use Rattle.fair_runs.proofs.Letters as letters
+use Rattle.fair_runs.proofs.Letters.{Reply, Ack}
+use Rattle.fair_runs.specs.Converging.{AllStay, IsQuiet, IsAllUpTo, HaveConverged, CellsConverge}
 
 -- two replicas that a house holds at once are one
 held_once : (v : View) (x : ℕ) (q r : Replica) → Holds v x q → Holds v x r → q ≡ r
 held_once v x q r a b = let e : Held q ≡ Held r = sym a ∙ b in cc
+
+-- two histories with the same marks show the same
+same_shown : (g h : List Mark) (n : List ℕ) → IsPart g h → IsPart h g → shown_of_name g n ≡ shown_of_name h n
+same_shown g h n there back =
+    sym (shown_in-table_of g n)
+    ∙ ap (λ (z : Entries). shown_in z n)
+    (table_of-same g h (λ m. (λ c. in_contains h m (there m (contains_in g m c)), λ c. in_contains g m (back m (contains_in h m c)))))
+    ∙ shown_in-table_of h n
 
 -- ---- one step, in which the epoch stays
 
@@ -101,17 +119,8 @@ module _ (start late : List Command) (h d k : ℕ) (t : Stamp) (calm : IsUndistu
     pub grown : (x : ℕ) (p q : Replica) → IsHeld (replay (start ++ [])) x d p → p.epoch ≡ k → IsHeld (replay (start ++ past)) x d q → q.epoch ≡ k
         → IsPart p.history q.history
 
-  one_more : (past left : List Command) (c : Command) → past ++ c ∷ left ≡ late → (past ++ c ∷ []) ++ left ≡ late
-  one_more past left c e = append_assoc past (c ∷ []) left ∙ e
-
-  parts : (past left : List Command) → past ++ left ≡ late → (start ++ past) ++ left ≡ start ++ late
-  parts past left e = append_assoc start past left ∙ ap (λ (l : List Command). start ++ l) e
-
-  cell_next : (past : List Command) (c : Command) → (outcome (replay (start ++ past)) c).cell ≡ replay (start ++ (past ++ c ∷ []))
-  cell_next past c = sym (ap replay (sym (append_assoc start past (c ∷ []))) ∙ replay-append (start ++ past) (c ∷ []) empty_cell)
-
   sound_at : (past left : List Command) → past ++ left ≡ late → Sound (roll_of d (start ++ late)) (view d (replay (start ++ past)))
-  sound_at past left e = (reaching_at d (start ++ late) (start ++ past) left (parts past left e)).sound
+  sound_at past left e = (reaching_at d (start ++ late) (start ++ past) left (parts_of start past left late e)).sound
 
   stay_at : (past left : List Command) → past ++ left ≡ late → (x s : ℕ) → Listed ((roll_of d (start ++ late)).list k) x s
       → (q : Replica) × Holds (view d (replay (start ++ past))) x q × (q.epoch ≡ k)
@@ -123,9 +132,9 @@ module _ (start late : List Command) (h d k : ℕ) (t : Stamp) (calm : IsUndistu
       (outcome (replay (start ++ past)) c).accepted
   frame_at past left c e =
       subst (λ (g : Cell). Frame (roll_of d (start ++ late)) (view d (replay (start ++ past))) (view d g) (outcome (replay (start ++ past)) c).accepted)
-      (cell_next past c)
-      (by_passage (step_passage d (start ++ late) (start ++ past) left c (parts past (c ∷ left) e)
-      (reaching_at d (start ++ late) (start ++ past) (c ∷ left) (parts past (c ∷ left) e))))
+      (sym (cell_next start past c))
+      (by_passage (step_passage d (start ++ late) (start ++ past) left c (parts_of start past (c ∷ left) late e)
+      (reaching_at d (start ++ late) (start ++ past) (c ∷ left) (parts_of start past (c ∷ left) late e))))
     where
       by_passage : Passage (roll_of d (start ++ late)) (view d (replay (start ++ past))) (view d (outcome (replay (start ++ past)) c).cell)
           (outcome (replay (start ++ past)) c).accepted
@@ -201,7 +210,7 @@ module _ (start late : List Command) (h d k : ℕ) (t : Stamp) (calm : IsUndistu
       before = sound_at past (c ∷ left) e
 
       after : Sound (roll_of d (start ++ late)) (view d (replay (start ++ (past ++ c ∷ []))))
-      after = sound_at (past ++ c ∷ []) left (one_more past left c e)
+      after = sound_at (past ++ c ∷ []) left (one_more past left late c e)
 
       calm_new : (a : Accepted) → In a (outcome (replay (start ++ past)) c).accepted → a.dir ≡ d → ⊥
       calm_new = quiet_at past left c e
@@ -224,7 +233,7 @@ module _ (start late : List Command) (h d k : ℕ) (t : Stamp) (calm : IsUndistu
   kept_run [] past left e w = subst (λ (l : List Command). Kept l) (sym (append_nil past)) w
   kept_run (c ∷ mid) past left e w =
       subst (λ (l : List Command). Kept l) (append_assoc past (c ∷ []) mid)
-      (kept_run mid (past ++ c ∷ []) left (one_more past (mid ++ left) c e) (kept_step past (mid ++ left) c e w))
+      (kept_run mid (past ++ c ∷ []) left (one_more past (mid ++ left) late c e) (kept_step past (mid ++ left) c e w))
 
   -- at each moment
   pub kept_at : (past left : List Command) → past ++ left ≡ late → Kept past
@@ -237,35 +246,69 @@ module _ (start late : List Command) (h d k : ℕ) (t : Stamp) (calm : IsUndistu
       let here = subst (λ (z : List Command). IsHeld (replay (start ++ z)) x d q) (sym (append_nil past) ∙ e) at in
       λ j i. subst (λ (z : Replica). In j z.history) (held_once (view d (replay (start ++ late))) x q q' here at') i
   grows_on (c ∷ left) past e x q q' l at ep at' ep' =
-      let next = stay (past ++ c ∷ []) left (one_more past left c e) x l in
-      λ j i. grows_on left (past ++ c ∷ []) (one_more past left c e) x next.0 q' l next.1 next.2 at' ep' j
+      let next = stay (past ++ c ∷ []) left (one_more past left late c e) x l in
+      λ j i. grows_on left (past ++ c ∷ []) (one_more past left late c e) x next.0 q' l next.1 next.2 at' ep' j
       (grows_at past left c e x q next.0 at ep next.1 next.2 j i)
+
+  -- what is known of any house of the list in a step
+  staying : (past left : List Command) (c : Command) → past ++ c ∷ left ≡ late → (x : ℕ) (q q' : Replica) → IsHeld (replay (start ++ past)) x d q
+      → q.epoch ≡ k → IsHeld (outcome (replay (start ++ past)) c).cell x d q' → q'.epoch ≡ k
+      → Staying (replay (start ++ past)) (outcome (replay (start ++ past)) c).cell x d q q'
+  staying past left c e x q q' at ep at' ep' =
+      let g : Cell = replay (start ++ past) in
+      let sound = sound_at past (c ∷ left) e in
+      let ok = sound.held x q at in
+      let fit = fit_at d (start ++ late) (start ++ past) (c ∷ left) (parts_of start past (c ∷ left) late e) in
+      record {
+        at = at;
+        at' = at';
+        epoch = ep ∙ sym ep';
+        known = λ zero. sound.good.none x ok.listed.0
+            (subst (λ (z : ℕ). Listed ((roll_of d (start ++ late)).list z) x ok.listed.0) (none_below zero ok.top) ok.listed.1);
+        top = ok.top;
+        next = λ le. fit.plain.unknown d le;
+        joins = λ m ms copy i dir is.
+            let law = sound.messages m (In-of_dir d g.bag m i dir) in
+            let kind : (ms ≡ (roll_of d (start ++ late)).list m.epoch) × ((s : ℕ) × Listed ((roll_of d (start ++ late)).list m.epoch) m.receiver s) =
+            subst (λ (b : Body). Kind (roll_of d (start ++ late)) m b) is law.kind in
+            let le : kind.1.0 ≤ m.epoch = sound.good.order m.epoch m.receiver kind.1.0 law.top kind.1.1 in
+            let is_since : since_in ms m.receiver 0 ≡ kind.1.0 = ap (λ (l : List Member). since_in l m.receiver 0) kind.0 ∙ kind.1.1.1 in
+            subst (λ (z : ℕ). z ≤ m.epoch) (sym is_since) le;
+      }
+    where
+      none_below : (replay (start ++ past)).top d ≡ 0 → q.epoch ≤ (replay (start ++ past)).top d → q.epoch ≡ 0
+      none_below zero le = omega (arith, zero, le)
+
+  -- from any moment to the end no AllUpTo falls
+  pub raises_on : (left past : List Command) → past ++ left ≡ late → (x : ℕ) (q q' : Replica) → is_listed x ((roll_of d (start ++ late)).list k) ≡ true
+      → IsHeld (replay (start ++ past)) x d q → q.epoch ≡ k → IsAllUpTo t q.all_up_to → IsHeld (replay (start ++ late)) x d q' → IsAllUpTo t q'.all_up_to
+  raises_on [] past e x q q' l at ep low at' =
+      let here = subst (λ (z : List Command). IsHeld (replay (start ++ z)) x d q) (sym (append_nil past) ∙ e) at in
+      subst (λ (z : Replica). IsAllUpTo t z.all_up_to) (held_once (view d (replay (start ++ late))) x q q' here at') low
+  raises_on (c ∷ left) past e x q q' l at ep low at' =
+      let g : Cell = replay (start ++ past) in
+      let next = stay (past ++ c ∷ []) left (one_more past left late c e) x l in
+      let there = subst (λ (z : Cell). IsHeld z x d next.0) (cell_next start past c) next.1 in
+      let low' = step_raises g (outcome g c).cell x d t q next.0 (place_of g c) (outcome g c).answer (outcome g c).accepted (outcome_steps g c)
+      (staying past left c e x q next.0 at ep there next.2) low in
+      raises_on left (past ++ c ∷ []) (one_more past left late c e) x next.0 q' l next.1 next.2 low' at'
 
 -- ---- the skulk
 
 module _ (early late : List Command) (h d : ℕ) (t : Stamp) (r : Replica) (b : Begins early h d t r)
     (calm : IsUndisturbed (early ++ commands.Skulk h d ∷ []) late h d r.epoch t) (fair : IsFair (early ++ commands.Skulk h d ∷ []) late d t)
     (stay_of : AllStay (early ++ commands.Skulk h d ∷ []) late d r.epoch r.members) (quiet : IsQuiet (early ++ commands.Skulk h d ∷ []) late d) where
-  start : List Command
-  start = early ++ commands.Skulk h d ∷ []
-
   abbrev list : List Member
   list = (roll_of d ((early ++ commands.Skulk h d ∷ []) ++ late)).list r.epoch
 
-  begins : Begun (replay early) (replay ((early ++ commands.Skulk h d ∷ []) ++ [])) h d t
-  begins = begins_at early h d t r b
-
-  same_replica : begins.replica ≡ r
-  same_replica =
-      let held = subst (λ (l : List Command). IsHeld (replay l) h d begins.replica) (append_nil (early ++ commands.Skulk h d ∷ [])) begins.held in
-      held_once (view d (replay (early ++ commands.Skulk h d ∷ []))) h begins.replica r held b.held
+  abbrev begins : Begun (replay early) (replay ((early ++ commands.Skulk h d ∷ []) ++ [])) h d t
+  begins = endings.begins early late h d t r b calm
 
   epoch_0 : begins.replica.epoch ≡ r.epoch
-  epoch_0 = ap (λ (z : Replica). z.epoch) same_replica
+  epoch_0 = endings.epoch_0 early late h d t r b calm
 
   members_0 : r.members ≡ list
-  members_0 = ap (λ (z : Replica). z.members) (sym same_replica)
-      ∙ courses.listed (early ++ commands.Skulk h d ∷ []) late h d r.epoch t calm [] late refl h begins.replica begins.held epoch_0
+  members_0 = endings.members_0 early late h d t r b calm
 
   stay : AllStay (early ++ commands.Skulk h d ∷ []) late d r.epoch list
   stay past left e x l = stay_of past left e x (subst (λ (z : List Member). is_listed x z ≡ true) (sym members_0) l)
@@ -273,17 +316,8 @@ module _ (early late : List Command) (h d : ℕ) (t : Stamp) (r : Replica) (b : 
   -- no answer of the first round is there at the start
   none : (m : Message) (copy : Copy) → In m (replay ((early ++ commands.Skulk h d ∷ []) ++ [])).bag → m.dir ≡ d → m.body ≡ Gathered t copy → ⊥
   none m copy i dir is =
-      ⊎_elim
-      (λ was.
-      let reach = (reaching_at d ((early ++ commands.Skulk h d ∷ []) ++ late) early (commands.Skulk h d ∷ late)
-      (sym (append_assoc early (commands.Skulk h d ∷ []) late))).sound in
-      let now = courses.reached (early ++ commands.Skulk h d ∷ []) late h d r.epoch t calm [] late refl in
-      let home = ((now.sound.held h begins.replica begins.held).phase t (ap running_skulk_stamp begins.phase)).1 in
-      let le = ((reach.messages m (In-of_dir d (replay early).bag m was dir)).round t (ap round_of is)).1 in
-      let low : t.time ≤ ((replay early).house h).floor = subst (λ (z : ℕ). t.time ≤ ((replay early).house z).floor) home le in
-      let high : ((replay early).house h).floor < t.time = begins.fresh in absurd (omega arith))
-      (λ new. let z : Gather t ≡ Gathered t copy = sym new ∙ is in absurd (cc))
-      (begins.posted m i)
+      let new = endings.only_questions early late h d t r b calm m i dir (ap round_of is) in
+      let z : Gather t ≡ Gathered t copy = sym new ∙ is in cc
 
   -- the cell after some of what follows
   kept : (past left : List Command) → past ++ left ≡ late
@@ -315,7 +349,7 @@ module _ (early late : List Command) (h d : ℕ) (t : Stamp) (r : Replica) (b : 
       → IsHeld (replay ((early ++ commands.Skulk h d ∷ []) ++ (past ++ c ∷ []))) h d s.after
   held_after past left c f e s =
       subst (λ (g : Cell). IsHeld g h d s.after)
-      (sym (courses.cell_next (early ++ commands.Skulk h d ∷ []) late h d r.epoch t calm past c)) s.at'
+      (sym (cell_next (early ++ commands.Skulk h d ∷ []) past c)) s.at'
 
   hearing : (past left : List Command) (c : Command) (f : Phase) → past ++ c ∷ left ≡ late → running_skulk_stamp f ≡ Some t → (s : Step past c f) → (y : ℕ)
       → Hears (replay ((early ++ commands.Skulk h d ∷ []) ++ past)) d t y s.after → HasOf y s.after
@@ -363,12 +397,20 @@ module _ (early late : List Command) (h d : ℕ) (t : Stamp) (r : Replica) (b : 
   )
 
   other : In begins.another (others_of h list)
-  other = subst (λ (l : List Member). In begins.another (others_of h l)) (ap (λ (z : Replica). z.members) same_replica ∙ members_0) begins.other
+  other = endings.other early late h d t r b calm
 
-  end : endings.Finished (early ++ commands.Skulk h d ∷ []) late h d r.epoch t calm fair begins.another other HasOf HasAll hearing keeping filling lasting
-      (replay early) begins epoch_0
-  end = endings.finished (early ++ commands.Skulk h d ∷ []) late h d r.epoch t calm fair begins.another other HasOf HasAll hearing keeping filling lasting
-      (replay early) begins epoch_0
+  replies : (y : ℕ) → In y (others_of h list) → Reply (early ++ commands.Skulk h d ∷ []) late h d r.epoch t y
+  replies y i =
+      letters.reply_of (early ++ commands.Skulk h d ∷ []) late h d r.epoch t calm fair y (endings.questions early late h d t r b calm y i)
+
+  acks : (full : Replica) → courses.AreAsked (early ++ commands.Skulk h d ∷ []) late h d r.epoch t calm begins.another other late full → (y : ℕ)
+      → In y (others_of h list) → Ack (early ++ commands.Skulk h d ∷ []) late h d r.epoch t y
+  acks full asked y i = letters.ack_of (early ++ commands.Skulk h d ∷ []) late h d r.epoch t calm fair full y (asked y i)
+
+  end : endings.Finished (early ++ commands.Skulk h d ∷ []) late h d r.epoch t calm begins.another other HasOf HasAll hearing keeping filling lasting
+      (replay early) begins epoch_0 replies acks
+  end = endings.finished (early ++ commands.Skulk h d ∷ []) late h d r.epoch t calm begins.another other HasOf HasAll hearing keeping filling lasting
+      (replay early) begins epoch_0 replies acks
 
   -- at the end each house of the list has every mark that any of them had
   full_at : (x : ℕ) (p : Replica) → is_listed x list ≡ true → IsHeld (replay ((early ++ commands.Skulk h d ∷ []) ++ late)) x d p → p.epoch ≡ r.epoch
@@ -380,8 +422,7 @@ module _ (early late : List Command) (h d : ℕ) (t : Stamp) (r : Replica) (b : 
       by_question : Asked (replay ((early ++ commands.Skulk h d ∷ []) ++ late)) h d r.epoch t x end.full → In j p.history
       by_question ask =
           let w : IsDelivered (early ++ commands.Skulk h d ∷ []) late ask.message = fair ask.message ask.posted ask.dir (ap round_of ask.body) in
-          let now = endings.spread_after (early ++ commands.Skulk h d ∷ []) late h d r.epoch t calm fair begins.another other HasOf HasAll hearing keeping filling
-          lasting ask.message ask.copy ask.dir ask.sender ask.epoch ask.body w in
+          let now = letters.spread_after (early ++ commands.Skulk h d ∷ []) late h d r.epoch t calm fair ask.message ask.copy ask.dir ask.sender ask.epoch ask.body w in
           let here = subst (λ (z : ℕ). IsHeld (replay ((early ++ commands.Skulk h d ∷ []) ++ (w.past ++ commands.Deliver w.serial ∷ []))) z d now.0)
           ask.receiver now.1 in
           grows_on (early ++ commands.Skulk h d ∷ []) late h d r.epoch t calm stay quiet none w.left (w.past ++ commands.Deliver w.serial ∷ [])
@@ -393,16 +434,47 @@ module _ (early late : List Command) (h d : ℕ) (t : Stamp) (r : Replica) (b : 
       let q = stay late [] (append_nil late) x l in
       ap (λ (z : Replica). z.epoch) (held_once (view d (replay ((early ++ commands.Skulk h d ∷ []) ++ late))) x p q.0 at q.1) ∙ q.2
 
-  pub same_at : (x y : ℕ) (p q : Replica) → is_listed x r.members ≡ true → is_listed y r.members ≡ true
-      → IsHeld (replay ((early ++ commands.Skulk h d ∷ []) ++ late)) x d p → IsHeld (replay ((early ++ commands.Skulk h d ∷ []) ++ late)) y d q → HaveSame p q
-  same_at x y p q lx ly at at' =
+  -- the AllUpTo of each is the stamp or later: the master's since it completed the skulk, that of
+  -- another since it learned that
+  up_to_at : (x : ℕ) (p : Replica) → is_listed x list ≡ true → IsHeld (replay ((early ++ commands.Skulk h d ∷ []) ++ late)) x d p → IsAllUpTo t p.all_up_to
+  up_to_at x p l at = ⊎_elim (λ (e : x ≡ h). of_master e) (λ i. of_member (end.over.told x i)) (listed_or x h list l)
+    where
+      of_master : x ≡ h → IsAllUpTo t p.all_up_to
+      of_master e =
+          let o = end.over in
+          raises_on (early ++ commands.Skulk h d ∷ []) late h d r.epoch t calm stay quiet none o.rest (o.early ++ commands.Deliver o.serial ∷ [])
+          (append_assoc o.early (commands.Deliver o.serial ∷ []) o.rest ∙ o.parts) x o.replica p l
+          (subst (λ (z : ℕ). IsHeld (replay ((early ++ commands.Skulk h d ∷ []) ++ (o.early ++ commands.Deliver o.serial ∷ []))) z d o.replica) (sym e) o.held)
+          o.epoch o.up_to at
+
+      of_member : Told (replay ((early ++ commands.Skulk h d ∷ []) ++ late)) h d r.epoch t x → IsAllUpTo t p.all_up_to
+      of_member told =
+          let w : IsDelivered (early ++ commands.Skulk h d ∷ []) late told.message = fair told.message told.posted told.dir (ap round_of told.body) in
+          let now = letters.advance_after (early ++ commands.Skulk h d ∷ []) late h d r.epoch t calm fair told.message told.dir told.sender told.epoch told.body w in
+          let here = subst (λ (z : ℕ). IsHeld (replay ((early ++ commands.Skulk h d ∷ []) ++ (w.past ++ commands.Deliver w.serial ∷ []))) z d now.0)
+          told.receiver now.1 in
+          raises_on (early ++ commands.Skulk h d ∷ []) late h d r.epoch t calm stay quiet none w.left (w.past ++ commands.Deliver w.serial ∷ [])
+          (append_assoc w.past (commands.Deliver w.serial ∷ []) w.left ∙ w.parts) x now.0 p l here now.2 now.3 at
+
+  pub converged_at : (x y : ℕ) (p q : Replica) → is_listed x r.members ≡ true → is_listed y r.members ≡ true
+      → IsHeld (replay ((early ++ commands.Skulk h d ∷ []) ++ late)) x d p → IsHeld (replay ((early ++ commands.Skulk h d ∷ []) ++ late)) y d q
+      → HaveConverged t p q
+  converged_at x y p q lx ly at at' =
       let lx' = subst (λ (z : List Member). is_listed x z ≡ true) members_0 lx in
       let ly' = subst (λ (z : List Member). is_listed y z ≡ true) members_0 ly in
       let ep = epoch_at x p lx' at in
       let ep' = epoch_at y q ly' at' in
       let all = kept late [] (append_nil late) in
-      λ j. (λ i. full_at y q ly' at' ep' j (all.houses x p j at ep i), λ i. full_at x p lx' at ep j (all.houses y q j at' ep' i))
+      let there = λ (j : Mark) (i : In j p.history). full_at y q ly' at' ep' j (all.houses x p j at ep i) in
+      let back = λ (j : Mark) (i : In j q.history). full_at x p lx' at ep j (all.houses y q j at' ep' i) in
+      record {
+        marks = λ j. (there j, back j);
+        shown = λ n. same_shown p.history q.history n there back;
+        first = up_to_at x p lx' at;
+        second = up_to_at y q ly' at';
+      }
 
 -- of any list of commands
 pub cells_converge_lem : (early late : List Command) → CellsConverge early late
-cells_converge_lem early late h d t r b calm fair stay quiet x y p q lx ly at at' = same_at early late h d t r b calm fair stay quiet x y p q lx ly at at'
+cells_converge_lem early late h d t r b calm fair stay quiet x y p q lx ly at at' =
+    converged_at early late h d t r b calm fair stay quiet x y p q lx ly at at'

@@ -3,7 +3,7 @@ use Rattle.std.proofs.Common.{inl, inr, ◌≡◌, ℕ, ◌≤◌, true, false, 
 use Rattle.std.proofs.Common.{subst, arith, append_assoc}
 use Rattle.cds_stamps.specs.declared.stamp.Stamp.{Stamp}
 use Rattle.cds_stamps.specs.Members.{Member, master_of, others_of}
-use Rattle.cell_model.specs.Cells.{Phase, Gathering, Spreading, Replica, Held, Body, Message, Cell, IsHeld, empty_cell}
+use Rattle.cell_model.specs.Cells.{Phase, Gathering, Spreading, Replica, Held, Body, Message, Cell, IsHeld}
 use Rattle.cell_model.specs.Commands as commands
 use Rattle.cell_model.specs.Commands.{Command, Taken, Complete, Accepted}
 use Rattle.cell_model.specs.Completions.{CompletesBy, with_last, at_once}
@@ -19,9 +19,11 @@ use Rattle.cell_model.proofs.Moves.{outcome_steps}
 use Rattle.cell_model.proofs.Answering.{taken_by}
 use Rattle.cell_model.proofs.Completing.{answers_lem}
 use Rattle.cell_model.proofs.Passages.{Reaching, passage_stays}
-use Rattle.cell_model.proofs.Runs.{replay-append, roll_of, fit_at, step_passage, reaching_at}
+use Rattle.cell_model.proofs.Runs.{roll_of, fit_at, step_passage, reaching_at}
 use Rattle.fair_runs.specs.Fairness.{IsUndisturbed}
-use Rattle.fair_runs.proofs.Phases.{Asked, Hears, Goes, same, gathered, turned, acked, completed, goes}
+use Rattle.fair_runs.specs.Converging.{IsAllUpTo}
+use Rattle.fair_runs.proofs.Prefixes.{one_more, parts_of, cell_next}
+use Rattle.fair_runs.proofs.Phases.{Asked, Told, Hears, Goes, same, gathered, turned, acked, completed, goes}
 use Rattle.fair_runs.proofs.Takes.{still_gathering, still_spreading}
 use Rattle.fair_runs.proofs.Joins.{joins_lem}
 
@@ -43,19 +45,9 @@ module _ (start late : List Command) (h d k : ℕ) (t : Stamp) (calm : IsUndistu
   abbrev others : List ℕ
   others = others_of h ((roll_of d (start ++ late)).list k)
 
-  -- the cell after one command more
-  pub cell_next : (past : List Command) (c : Command) → replay (start ++ (past ++ c ∷ [])) ≡ (outcome (replay (start ++ past)) c).cell
-  cell_next past c = ap replay (sym (append_assoc start past (c ∷ []))) ∙ replay-append (start ++ past) (c ∷ []) empty_cell
-
-  pub one_more : (past left : List Command) (c : Command) → past ++ c ∷ left ≡ late → (past ++ c ∷ []) ++ left ≡ late
-  one_more past left c e = append_assoc past (c ∷ []) left ∙ e
-
-  pub whole : (past left : List Command) → past ++ left ≡ late → (start ++ past) ++ left ≡ start ++ late
-  whole past left e = append_assoc start past left ∙ ap (λ (l : List Command). start ++ l) e
-
   pub reached : (past left : List Command) → past ++ left ≡ late
       → Reaching (roll_of d (start ++ late)) (view d (replay (start ++ past))) (accepted_updates (start ++ past))
-  reached past left e = reaching_at d (start ++ late) (start ++ past) left (whole past left e)
+  reached past left e = reaching_at d (start ++ late) (start ++ past) left (parts_of start past left late e)
 
   -- what a house holds at this epoch has the epoch's list
   pub listed : (past left : List Command) → past ++ left ≡ late → (x : ℕ) (r : Replica) → IsHeld (replay (start ++ past)) x d r → r.epoch ≡ k
@@ -67,15 +59,15 @@ module _ (start late : List Command) (h d k : ℕ) (t : Stamp) (calm : IsUndistu
       → In m (replay (start ++ (past ++ c ∷ []))).bag
   stays_posted past left c e m dir i =
       let g : Cell = replay (start ++ past) in
-      let p = step_passage d (start ++ late) (start ++ past) left c (whole past (c ∷ left) e) (reached past (c ∷ left) e) in
+      let p = step_passage d (start ++ late) (start ++ past) left c (parts_of start past (c ∷ left) late e) (reached past (c ∷ left) e) in
       let i' = passage_stays (roll_of d (start ++ late)) (view d g) (view d (outcome g c).cell) (outcome g c).accepted p m (In-of_dir d g.bag m i dir) in
-      subst (λ (z : Cell). In m z.bag) (sym (cell_next past c)) (In-from_dir d (outcome g c).cell.bag m i').0
+      subst (λ (z : Cell). In m z.bag) (sym (cell_next start past c)) (In-from_dir d (outcome g c).cell.bag m i').0
 
   -- and is there at the end
   pub ends_posted : (left past : List Command) → past ++ left ≡ late → (m : Message) → m.dir ≡ d → In m (replay (start ++ past)).bag
       → In m (replay (start ++ late)).bag
   ends_posted [] past e m dir i = subst (λ (l : List Command). In m (replay (start ++ l)).bag) (sym (append_nil past) ∙ e) i
-  ends_posted (c ∷ left) past e m dir i = ends_posted left (past ++ c ∷ []) (one_more past left c e) m dir (stays_posted past left c e m dir i)
+  ends_posted (c ∷ left) past e m dir i = ends_posted left (past ++ c ∷ []) (one_more past left late c e) m dir (stays_posted past left c e m dir i)
 
   -- the master holds a replica of the epoch, in this phase
   pub record At (past : List Command) (f : Phase) : Type 0 where
@@ -90,23 +82,54 @@ module _ (start late : List Command) (h d k : ℕ) (t : Stamp) (calm : IsUndistu
       let p : Held a.replica ≡ Held b.replica = sym a.held ∙ b.held in
       let r : a.replica ≡ b.replica = cc in sym a.phase ∙ ap (λ (z : Replica). z.phase) r ∙ b.phase
 
-  -- a delivery answered that the skulk is complete
+  -- to each other member a message says that the skulk is complete
+  abbrev pub AreTold : List Command → Type 0
+  AreTold past = (x : ℕ) → In x (others_of h ((roll_of d (start ++ late)).list k)) → Told (replay (start ++ past)) h d k t x
+
+  -- a delivery answered that the skulk is complete: its master's AllUpTo was the stamp or later
+  -- then, and a message says so to each other member
   pub record Over (past : List Command) : Type 0 where
     pub early : List Command
     pub serial : ℕ
     pub rest : List Command
     pub parts : early ++ commands.Deliver serial ∷ rest ≡ past
     pub serials : List ℕ
+    pub place : place_of (replay (start ++ early)) (commands.Deliver serial) ≡ Some (h, d)
     pub answer : (outcome (replay (start ++ early)) (commands.Deliver serial)).answer ≡ Complete t serials
+    pub replica : Replica
+    pub held : IsHeld (replay (start ++ (early ++ commands.Deliver serial ∷ []))) h d replica
+    pub epoch : replica.epoch ≡ k
+    pub up_to : IsAllUpTo t replica.all_up_to
+    pub told : AreTold past
 
-  over_on : (past : List Command) (c : Command) → Over past → Over (past ++ c ∷ [])
-  over_on past c o = record {
+  -- these messages stay posted
+  told_on : (past left : List Command) (c : Command) → past ++ c ∷ left ≡ late → AreTold past → AreTold (past ++ c ∷ [])
+  told_on past left c e told x i =
+      let q = told x i in
+      record {
+        message = q.message;
+        posted = stays_posted past left c e q.message q.dir q.posted;
+        dir = q.dir;
+        receiver = q.receiver;
+        sender = q.sender;
+        epoch = q.epoch;
+        body = q.body;
+      }
+
+  over_on : (past left : List Command) (c : Command) → past ++ c ∷ left ≡ late → Over past → Over (past ++ c ∷ [])
+  over_on past left c e o = record {
     early = o.early;
     serial = o.serial;
     rest = o.rest ++ c ∷ [];
     parts = sym (append_assoc o.early (commands.Deliver o.serial ∷ o.rest) (c ∷ [])) ∙ ap (λ (l : List Command). l ++ c ∷ []) o.parts;
     serials = o.serials;
+    place = o.place;
     answer = o.answer;
+    replica = o.replica;
+    held = o.held;
+    epoch = o.epoch;
+    up_to = o.up_to;
+    told = told_on past left c e o.told;
   }
 
   -- a step of the master while the skulk runs
@@ -124,13 +147,13 @@ module _ (start late : List Command) (h d k : ℕ) (t : Stamp) (calm : IsUndistu
     pub step : (past left : List Command) (c : Command) → past ++ c ∷ left ≡ late → (f : Phase) → running_skulk_stamp f ≡ Some t → At past f → Stepped past c f
     step past left c e f run a =
         let g : Cell = replay (start ++ past) in
-        let next = calm (past ++ c ∷ []) left (one_more past left c e) in
-        let at' = subst (λ (z : Cell). IsHeld z h d next.replica) (cell_next past c) next.held in
+        let next = calm (past ++ c ∷ []) left (one_more past left late c e) in
+        let at' = subst (λ (z : Cell). IsHeld z h d next.replica) (cell_next start past c) next.held in
         let reach = reached past (c ∷ left) e in
         let ok = reach.sound.held h a.replica a.held in
         let runs : running_skulk_stamp a.replica.phase ≡ Some t = ap running_skulk_stamp a.phase ∙ run in
         let phase = ok.phase t runs in
-        let fit = fit_at d (start ++ late) (start ++ past) (c ∷ left) (whole past (c ∷ left) e) in
+        let fit = fit_at d (start ++ late) (start ++ past) (c ∷ left) (parts_of start past (c ∷ left) late e) in
         record {
           before = a.replica;
           after = next.replica;
@@ -143,7 +166,7 @@ module _ (start late : List Command) (h d k : ℕ) (t : Stamp) (calm : IsUndistu
             at = a.held;
             at' = at';
             epoch = a.epoch ∙ sym next.epoch;
-            up = subst (λ (z : Cell). (z.house h).up ≡ true) (cell_next past c) next.up;
+            up = subst (λ (z : Cell). (z.house h).up ≡ true) (cell_next start past c) next.up;
             run = runs;
             runs = next.runs;
             low = phase.2;
@@ -194,27 +217,39 @@ module _ (start late : List Command) (h d k : ℕ) (t : Stamp) (calm : IsUndistu
         ∙ ap (λ (v : ℕ). others_of v lone.replica.members) (sym z.0) ∙ lone.none in
         elim (subst (λ (l : List ℕ). In another l) none other) [ ]
 
-    over_by : (past : List Command) (c : Command) (n : ℕ) (ns : List ℕ) → c ≡ commands.Deliver n → (outcome (replay (start ++ past)) c).answer ≡ Complete t ns
-        → Over (past ++ c ∷ [])
-    over_by past c n ns is e = record {
+    over_by : (past : List Command) (c : Command) (f : Phase) (n : ℕ) (ns : List ℕ) (s : Stepped past c f) → c ≡ commands.Deliver n
+        → place_of (replay (start ++ past)) c ≡ Some (h, d) → (outcome (replay (start ++ past)) c).answer ≡ Complete t ns → IsAllUpTo t s.after.all_up_to → AreTold (past ++ c ∷ []) → Over (past ++ c ∷ [])
+    over_by past c f n ns s is p e up told = record {
       early = past;
       serial = n;
       rest = [];
       parts = ap (λ (x : Command). past ++ x ∷ []) (sym is);
       serials = ns;
+      place = subst (λ (x : Command). place_of (replay (start ++ past)) x ≡ Some (h, d)) is p;
       answer = subst (λ (x : Command). (outcome (replay (start ++ past)) x).answer ≡ Complete t ns) is e;
+      replica = s.after;
+      held = subst (λ (x : Command). IsHeld (replay (start ++ (past ++ x ∷ []))) h d s.after) is
+          (subst (λ (z : Cell). IsHeld z h d s.after) (sym (cell_next start past c)) s.at');
+      epoch = s.epoch';
+      up_to = up;
+      told = told;
     }
 
     completes_there : (past left : List Command) (c : Command) (f : Phase) (ns : List ℕ) → past ++ c ∷ left ≡ late → (s : Stepped past c f)
-        → (outcome (replay (start ++ past)) c).answer ≡ Complete t ns → place_of (replay (start ++ past)) c ≡ Some (h, d) → Over (past ++ c ∷ [])
-    completes_there past left c f ns e s a p =
-        let w = by_delivery past left c s.before e s.at s.epoch p ((answers_lem (start ++ past) c).completes t ns a) in over_by past c w.0 ns w.1 a
+        → (outcome (replay (start ++ past)) c).answer ≡ Complete t ns → place_of (replay (start ++ past)) c ≡ Some (h, d) → IsAllUpTo t s.after.all_up_to
+        → ((x : ℕ) → In x (others_of h s.before.members) → Told (outcome (replay (start ++ past)) c).cell h d s.before.epoch t x) → Over (past ++ c ∷ [])
+    completes_there past left c f ns e s a p up told =
+        let w = by_delivery past left c s.before e s.at s.epoch p ((answers_lem (start ++ past) c).completes t ns a) in
+        let o = its_others past (c ∷ left) e s.before s.at s.epoch in
+        over_by past c f w.0 ns s w.1 p a up
+        (λ x i. subst (λ (z : Cell). Told z h d k t x) (sym (cell_next start past c))
+        (subst (λ (z : ℕ). Told (outcome (replay (start ++ past)) c).cell h d z t x) s.epoch (told x (subst (λ (z : List ℕ). In x z) (sym o) i))))
 
     -- the phase after a step
     at_next : (past : List Command) (c : Command) (f f' : Phase) → (s : Stepped past c f) → s.after.phase ≡ f' → At (past ++ c ∷ []) f'
     at_next past c f f' s p = record {
       replica = s.after;
-      held = subst (λ (z : Cell). IsHeld z h d s.after) (sym (cell_next past c)) s.at';
+      held = subst (λ (z : Cell). IsHeld z h d s.after) (sym (cell_next start past c)) s.at';
       epoch = s.epoch';
       phase = p;
     }
@@ -309,10 +344,10 @@ module _ (start late : List Command) (h d k : ℕ) (t : Stamp) (calm : IsUndistu
             second [] (at_next past c (Gathering t a) (Spreading t []) s q) at_first s.after
             (filling past left c (Gathering t a) e s
             (λ x i. heard_in past left c a b y e s l noted w x (all x (subst (λ (z : List ℕ). In x z) (sym o) i))))
-            (λ x i. subst (λ (z : Cell). Asked z h d k t x s.after) (sym (cell_next past c))
+            (λ x i. subst (λ (z : Cell). Asked z h d k t x s.after) (sym (cell_next start past c))
             (subst (λ (z : ℕ). Asked (outcome (replay (start ++ past)) c).cell h d z t x s.after) s.epoch (asked x (subst (λ (z : List ℕ). In x z) (sym o) i)))) (turn a has_it)
         stage_first past left c a e s some noted has_it (acked b ns y p q answer) = let z : Gathering t a ≡ Spreading t b = sym s.phase ∙ p in absurd (cc)
-        stage_first past left c a e s some noted has_it (completed b ns q answer p) = let z : Gathering t a ≡ Spreading t b = sym s.phase ∙ q in absurd (cc)
+        stage_first past left c a e s some noted has_it (completed b ns q answer p up told) = let z : Gathering t a ≡ Spreading t b = sym s.phase ∙ q in absurd (cc)
 
         -- those that answered so far
         list_is : (past : List Command) (c : Command) (a b : List ℕ) (s : Stepped past c (Spreading t a)) → s.before.phase ≡ Spreading t b → a ≡ b
@@ -332,8 +367,8 @@ module _ (start late : List Command) (h d k : ℕ) (t : Stamp) (calm : IsUndistu
         stage_second past left c a e s some full has_all asked has_it (acked b ns y p q answer) =
             second (y ∷ b) (at_next past c (Spreading t a) (Spreading t (y ∷ b)) s q) (second_on past left c a (y ∷ b) ns e s q answer some) full (lasting past left c e full has_all)
             (asked_on past left c full e asked) (more_again y b (subst V (list_is past c a b s p) has_it))
-        stage_second past left c a e s some full has_all asked has_it (completed b ns q answer p) =
-            over (completes_there past left c (Spreading t a) ns e s answer p) full (lasting past left c e full has_all) (asked_on past left c full e asked)
+        stage_second past left c a e s some full has_all asked has_it (completed b ns q answer p up told) =
+            over (completes_there past left c (Spreading t a) ns e s answer p up told) full (lasting past left c e full has_all) (asked_on past left c full e asked)
 
         pub stage_step : (past left : List Command) (c : Command) → past ++ c ∷ left ≡ late → Stage W V past → Stage W V (past ++ c ∷ [])
         unfolding step
@@ -342,11 +377,11 @@ module _ (start late : List Command) (h d k : ℕ) (t : Stamp) (calm : IsUndistu
         stage_step past left c e (second a at some full has_all asked has_it) =
             let s = step past left c e (Spreading t a) refl at in stage_second past left c a e s some full has_all asked has_it s.goes
         stage_step past left c e (over o full has_all asked) =
-            over (over_on past c o) full (lasting past left c e full has_all) (asked_on past left c full e asked)
+            over (over_on past left c e o) full (lasting past left c e full has_all) (asked_on past left c full e asked)
 
         -- at each moment
         pub stage_run : (mid past left : List Command) → past ++ (mid ++ left) ≡ late → Stage W V past → Stage W V (past ++ mid)
         stage_run [] past left e s = subst (λ (l : List Command). Stage W V l) (sym (append_nil past)) s
         stage_run (c ∷ mid) past left e s =
             subst (λ (l : List Command). Stage W V l) (append_assoc past (c ∷ []) mid)
-            (stage_run mid (past ++ c ∷ []) left (one_more past (mid ++ left) c e) (stage_step past (mid ++ left) c e s))
+            (stage_run mid (past ++ c ∷ []) left (one_more past (mid ++ left) late c e) (stage_step past (mid ++ left) c e s))

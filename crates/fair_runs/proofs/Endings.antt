@@ -1,18 +1,17 @@
 -- A skulk whose messages are delivered is complete.
 use Rattle.std.proofs.Common.{◌≡◌, ℕ, ◌⊎◌, inl, inr, Bool, true, false, ◌&&◌, cond, List, [], ◌∷◌, ◌++◌, Some, refl, sym, ap, ◌∙◌, subst, ⊎_elim}
-use Rattle.std.proofs.Common.{eqb, ◌||◌}
+use Rattle.std.proofs.Common.{eqb, ◌||◌, ◌≤◌, ◌<◌, arith, append_assoc}
 use Rattle.cds_stamps.specs.declared.stamp.Stamp.{Stamp}
 use Rattle.cds_stamps.specs.Members.{Member, others_of, is_listed}
 use Rattle.cell_model.specs.Bodies.{round_of}
-use Rattle.cell_model.specs.Cells.{Phase, Idle, Gathering, Spreading, Replica, Held, House, Copy, Body, Gather, Gathered, Spread, SpreadAck, Advance, Message, Cell, IsHeld, empty_cell}
+use Rattle.cell_model.specs.Cells.{Phase, Idle, Gathering, Spreading, Replica, Held, Copy, Body, Gather, Gathered, Spread, SpreadAck, Advance, Message, Cell, IsHeld, empty_cell}
 use Rattle.cell_model.specs.Commands as commands
 use Rattle.cell_model.specs.Commands.{Command, Complete}
 use Rattle.cell_model.specs.Completions.{CompletesBy, with_last, IsLastAck}
-use Rattle.cell_model.specs.Sets.{In, has, IsPart}
-use Rattle.cell_model.specs.Turns.{running_skulk_stamp, HouseStep, copy_of, merge_copy, later_up_to, takes, take_and_answer, reply, to_others, floor_after, all_answered}
-use Rattle.cell_model.specs.Turns.{take}
-use Rattle.cell_model.specs.Steps.{at_house, message_at, outcome, replay}
-use Rattle.cell_model.proofs.Lists.{In-append_right, has-from_In, append_nil}
+use Rattle.cell_model.specs.Sets.{In, has}
+use Rattle.cell_model.specs.Turns.{running_skulk_stamp, copy_of, merge_copy, later_up_to, takes, take_and_answer, to_others, floor_after, all_answered}
+use Rattle.cell_model.specs.Steps.{at_house, outcome, replay}
+use Rattle.cell_model.proofs.Lists.{has-from_In, append_nil}
 use Rattle.cell_model.proofs.Terms.{In-others_of}
 use Rattle.cell_model.proofs.Facts.{view}
 use Rattle.cell_model.proofs.Views.{In-of_dir}
@@ -21,12 +20,15 @@ use Rattle.cell_model.proofs.Completing.{answers_lem}
 use Rattle.cell_model.proofs.Passages.{slot_after}
 use Rattle.cell_model.proofs.Rounds.{Round}
 use Rattle.cell_model.proofs.Rows.{Own}
-use Rattle.cell_model.proofs.Runs.{replay-append, roll_of}
-use Rattle.fair_runs.specs.Fairness.{Begins, IsUndisturbed, IsDelivered, IsFair, IsComplete, SkulksEnd}
+use Rattle.cell_model.proofs.Runs.{replay-append, roll_of, reaching_at}
+use Rattle.fair_runs.specs.Fairness.{Begins, IsUndisturbed, IsDelivered, IsComplete, SkulksEnd}
 use Rattle.fair_runs.proofs.Phases.{Asked, Hears}
-use Rattle.fair_runs.proofs.Takes.{gather_take, spread_take, gathered_take, ack_take, deliver_take}
+use Rattle.fair_runs.proofs.Takes.{gathered_take, ack_take, delivered}
 use Rattle.fair_runs.proofs.Begun.{Begun, Questioned, begun}
+use Rattle.fair_runs.proofs.Prefixes.{one_more, cell_next}
 use Rattle.fair_runs.proofs.Courses as courses
+use Rattle.fair_runs.proofs.Letters as letters
+use Rattle.fair_runs.proofs.Letters.{Reply, Ack}
 
 -- all of these answered
 answered_to : (xs a : List ℕ) → ((x : ℕ) → In x xs → In x a) → all_answered xs a ≡ true
@@ -44,8 +46,8 @@ all_or (x ∷ xs) a W each = by_first (each x (inl refl)) (all_or xs a W (λ y i
     by_first (inl i) (inr w) = inr w
     by_first (inl i) (inl rest) = inl (λ y j. ⊎_elim (λ (e : y ≡ x). subst (λ (z : ℕ). In z a) (sym e) i) (λ z. rest y z) j)
 
-module _ (start late : List Command) (h d k : ℕ) (t : Stamp) (calm : IsUndisturbed start late h d k t) (fair : IsFair start late d t)
-    (another : ℕ) (other : In another (others_of h ((roll_of d (start ++ late)).list k))) (Q : ℕ → Replica → Type 0) (P : List Command → Replica → Type 0)
+module _ (start late : List Command) (h d k : ℕ) (t : Stamp) (calm : IsUndisturbed start late h d k t) (another : ℕ)
+    (other : In another (others_of h ((roll_of d (start ++ late)).list k))) (Q : ℕ → Replica → Type 0) (P : List Command → Replica → Type 0)
     (hearing : (past left : List Command) (c : Command) (f : Phase) → past ++ c ∷ left ≡ late → running_skulk_stamp f ≡ Some t → (s : courses.Stepped start late h d k t calm past c f)
     → (y : ℕ) → Hears (replay (start ++ past)) d t y s.after → Q y s.after)
     (keeping : (past left : List Command) (c : Command) (f : Phase) → past ++ c ∷ left ≡ late → (s : courses.Stepped start late h d k t calm past c f)
@@ -71,102 +73,6 @@ module _ (start late : List Command) (h d k : ℕ) (t : Stamp) (calm : IsUndistu
   abbrev others : List ℕ
   others = others_of h ((roll_of d (start ++ late)).list k)
 
-  -- the master is listed in its epoch
-  pub master_listed : (past left : List Command) → past ++ left ≡ late → is_listed h ((roll_of d (start ++ late)).list k) ≡ true
-  master_listed past left e =
-      let here = calm past left e in
-      let ok = (courses.reached start late h d k t calm past left e).sound.held h here.replica here.held in
-      subst (λ (z : ℕ). is_listed h ((roll_of d (start ++ late)).list z) ≡ true) here.epoch ok.listed.1.0
-
-  -- what the delivery of a message does, and what it leaves
-  pub done : (past : List Command) (n : ℕ) (m : Message) (s : HouseStep) → message_at (replay (start ++ past)) n ≡ Some m
-      → ((replay (start ++ past)).house m.receiver).up ≡ true → take ((replay (start ++ past)).house m.receiver) m ≡ s
-      → outcome (replay (start ++ past)) (commands.Deliver n) ≡ at_house (replay (start ++ past)) m.receiver s
-  done past n m s at up e = deliver_take (replay (start ++ past)) n m at up ∙ ap (at_house (replay (start ++ past)) m.receiver) e
-
-  -- an answer that a delivery posts is delivered
-  comes : (past left : List Command) (n : ℕ) (z : Message) → past ++ commands.Deliver n ∷ left ≡ late → z.dir ≡ d → round_of z.body ≡ Some t
-      → In z (outcome (replay (start ++ past)) (commands.Deliver n)).cell.bag → IsDelivered start late z
-  comes past left n z e dir round i =
-      let c : Command = commands.Deliver n in
-      let i' = subst (λ (g : Cell). In z g.bag) (sym (courses.cell_next start late h d k t calm past c)) i in
-      fair z (courses.ends_posted start late h d k t calm left (past ++ c ∷ []) (courses.one_more start late h d k t calm past left c e) z dir i') dir round
-
-  -- an answer that was posted, and is delivered to the master
-  record Answer (from : ℕ) (b : Replica → Body) : Type 0 where
-    letter : Message
-    sent : Replica
-    comes_there : IsDelivered start late letter
-    dir : letter.dir ≡ d
-    receiver : letter.receiver ≡ h
-    sender : letter.sender ≡ from
-    epoch : letter.epoch ≡ k
-    body : letter.body ≡ b sent
-
-  -- a house that is asked answers, and its answer is delivered
-  answer_to : (m : Message) (ask : Body) (b : Replica → Body) (R : Replica → Replica)
-      → ((now : House) (q : Replica) → Own now m ask q → take now m ≡ take_and_answer now m (Held (R q)) (reply now m (b q)))
-      → ((q : Replica) → round_of (b q) ≡ Some t) → m.dir ≡ d → m.sender ≡ h → m.epoch ≡ k → m.body ≡ ask → IsDelivered start late m → Answer m.receiver b
-  answer_to m ask b R took round dir from epoch body w =
-      let g : Cell = replay (start ++ w.past) in
-      let now : House = g.house m.receiver in
-      let held : IsHeld g m.receiver d w.replica = subst (λ (v : ℕ). IsHeld g m.receiver v w.replica) dir w.held in
-      let list = courses.listed start late h d k t calm w.past (commands.Deliver w.serial ∷ w.left) w.parts m.receiver w.replica held (w.epoch ∙ epoch) in
-      let own : Own now m ask w.replica = record {
-        is = body;
-        held = w.held;
-        epoch = sym w.epoch;
-        member = ap (λ (v : ℕ). is_listed v w.replica.members) from ∙ ap (is_listed h) list
-            ∙ master_listed w.past (commands.Deliver w.serial ∷ w.left) w.parts;
-      } in
-      let z : Message = record {
-        receiver = m.sender;
-        dir = m.dir;
-        sender = m.receiver;
-        epoch = m.epoch;
-        floor = floor_after now m;
-        body = b w.replica;
-      } in
-      let after = done w.past w.serial m _ w.message w.up (took now w.replica own) in
-      let i = subst (λ (o : Cell). In z o.bag) (ap (λ o. o.cell) (sym after)) (In-append_right z g.bag (z ∷ []) (inl refl)) in
-      record {
-        letter = z;
-        sent = w.replica;
-        comes_there = comes w.past w.left w.serial z w.parts dir (round w.replica) i;
-        dir = dir;
-        receiver = from;
-        sender = refl;
-        epoch = epoch;
-        body = refl;
-      }
-
-  -- what a house holds after it took the question of the second round: all that this brought
-  pub spread_after : (m : Message) (copy : Copy) → m.dir ≡ d → m.sender ≡ h → m.epoch ≡ k → m.body ≡ Spread t copy → (w : IsDelivered start late m)
-      → (R : Replica) × IsHeld (replay (start ++ (w.past ++ commands.Deliver w.serial ∷ []))) m.receiver d R × (R.epoch ≡ k)
-      × IsPart copy.history R.history
-  spread_after m copy dir from epoch body w =
-      let g : Cell = replay (start ++ w.past) in
-      let now : House = g.house m.receiver in
-      let held : IsHeld g m.receiver d w.replica = subst (λ (v : ℕ). IsHeld g m.receiver v w.replica) dir w.held in
-      let list = courses.listed start late h d k t calm w.past (commands.Deliver w.serial ∷ w.left) w.parts m.receiver w.replica held (w.epoch ∙ epoch) in
-      let own : Own now m (Spread t copy) w.replica = record {
-        is = body;
-        held = w.held;
-        epoch = sym w.epoch;
-        member = ap (λ (v : ℕ). is_listed v w.replica.members) from ∙ ap (is_listed h) list
-            ∙ master_listed w.past (commands.Deliver w.serial ∷ w.left) w.parts;
-      } in
-      let R : Replica = merge_copy w.replica copy in
-      let after = done w.past w.serial m _ w.message w.up (spread_take now m t copy w.replica own) in
-      let there = subst (λ (c : Cell). IsHeld c m.receiver m.dir R) (ap (λ o. o.cell) (sym after))
-      (slot_after g m.receiver m.dir (floor_after now m) (Held R)) in
-      let there' = subst (λ (x : ℕ). IsHeld (outcome g (commands.Deliver w.serial)).cell m.receiver x R) dir there in (
-        R,
-        subst (λ (c : Cell). IsHeld c m.receiver d R) (sym (courses.cell_next start late h d k t calm w.past (commands.Deliver w.serial))) there',
-        w.epoch ∙ epoch,
-        λ j i. In-append_right j w.replica.history copy.history i,
-      )
-
   -- what the master holds after a delivery
   at_after : (past : List Command) (n : ℕ) (z : Message) (R : Replica) (posts : List Message) (answer : List ℕ → commands.Answer)
       → outcome (replay (start ++ past)) (commands.Deliver n)
@@ -180,7 +86,7 @@ module _ (start late : List Command) (h d k : ℕ) (t : Stamp) (calm : IsUndistu
       (subst (λ (x : ℕ). IsHeld (outcome g (commands.Deliver n)).cell z.receiver x R) dir held) in
       record {
         replica = R;
-        held = subst (λ (c : Cell). IsHeld c h d R) (sym (courses.cell_next start late h d k t calm past (commands.Deliver n))) held';
+        held = subst (λ (c : Cell). IsHeld c h d R) (sym (cell_next start past (commands.Deliver n))) held';
         epoch = epoch;
         phase = refl;
       }
@@ -199,7 +105,10 @@ module _ (start late : List Command) (h d k : ℕ) (t : Stamp) (calm : IsUndistu
         member = ap (λ (v : ℕ). is_listed v a.replica.members) from ∙ ap (is_listed y) list ∙ (In-others_of y h ((roll_of d (start ++ late)).list k) i).1;
       }
 
-  module _ (was : Cell) (begun : Begun was (replay (start ++ [])) h d t) (epoch_0 : begun.replica.epoch ≡ k) where
+  module _ (was : Cell) (begun : Begun was (replay (start ++ [])) h d t) (epoch_0 : begun.replica.epoch ≡ k)
+      (gathered : (y : ℕ) → In y (others_of h ((roll_of d (start ++ late)).list k)) → Reply start late h d k t y)
+      (acked : (full : Replica) → courses.AreAsked start late h d k t calm another other late full → (y : ℕ)
+      → In y (others_of h ((roll_of d (start ++ late)).list k)) → Ack start late h d k t y) where
     at_0 : Stage []
     at_0 = courses.first []
         (record { replica = begun.replica; held = begun.held; epoch = epoch_0; phase = begun.phase })
@@ -235,7 +144,7 @@ module _ (start late : List Command) (h d k : ℕ) (t : Stamp) (calm : IsUndistu
     hears z copy y i dir to from epoch body w = by_stage (stage_at w.past (commands.Deliver w.serial ∷ w.left) w.parts)
       where
         e_next : (w.past ++ commands.Deliver w.serial ∷ []) ++ w.left ≡ late
-        e_next = courses.one_more start late h d k t calm w.past w.left (commands.Deliver w.serial) w.parts
+        e_next = one_more w.past w.left late (commands.Deliver w.serial) w.parts
 
         -- where the second round has begun
         in_second : At (w.past ++ commands.Deliver w.serial ∷ []) (Spreading t []) → Stage (w.past ++ commands.Deliver w.serial ∷ [])
@@ -281,19 +190,12 @@ module _ (start late : List Command) (h d k : ℕ) (t : Stamp) (calm : IsUndistu
             heard_on (commands.Deliver w.serial ∷ w.left) w.past y w.parts (courses.over o full has_all asked)
         by_stage (courses.first b at some noted _) =
             by_all (courses.first b at some noted tt) b at (all_answered (others_of z.receiver at.replica.members) (z.sender ∷ b))
-            (done w.past w.serial z _ w.message w.up (gathered_take ((replay (start ++ w.past)).house z.receiver) z t copy b at.replica
+            (delivered (replay (start ++ w.past)) w.serial z _ w.message w.up (gathered_take ((replay (start ++ w.past)).house z.receiver) z t copy b at.replica
             (own_at w.past (commands.Deliver w.serial ∷ w.left) w.parts (Gathering t b) at z (Gathered t copy) y i dir to from epoch body) at.phase))
 
     -- so is each other member
     heard_first : (y : ℕ) → In y others → Heard late y
-    heard_first y i =
-        let q : Questioned (replay (start ++ [])) h d k t y = subst (λ (z : ℕ). Questioned (replay (start ++ [])) h d z t y) epoch_0
-        (begun.asked y (subst (λ (l : List ℕ). In y l)
-        (sym (courses.its_others start late h d k t calm another other [] late refl begun.replica begun.held epoch_0)) i)) in
-        let a : Answer q.message.receiver (λ r. Gathered t (copy_of r)) = answer_to q.message (Gather t) (λ r. Gathered t (copy_of r)) (λ r. r)
-        (λ now r own. gather_take now q.message t r own) (λ r. refl) q.dir q.sender q.epoch q.body
-        (fair q.message (courses.ends_posted start late h d k t calm late [] refl q.message q.dir q.posted) q.dir (ap round_of q.body)) in
-        hears a.letter (copy_of a.sent) y i a.dir a.receiver (a.sender ∙ q.receiver) a.epoch a.body a.comes_there
+    heard_first y i = let z = gathered y i in hears z.letter z.copy y i z.dir z.receiver z.sender z.epoch z.body z.arrives
 
     -- the answer of the second round is heard
     hears_twice : (z : Message) (y : ℕ) → In y others → z.dir ≡ d → z.receiver ≡ h → z.sender ≡ y → z.epoch ≡ k → z.body ≡ SpreadAck t
@@ -301,7 +203,7 @@ module _ (start late : List Command) (h d k : ℕ) (t : Stamp) (calm : IsUndistu
     hears_twice z y i dir to from epoch body w = by_stage (stage_at w.past (commands.Deliver w.serial ∷ w.left) w.parts)
       where
         e_next : (w.past ++ commands.Deliver w.serial ∷ []) ++ w.left ≡ late
-        e_next = courses.one_more start late h d k t calm w.past w.left (commands.Deliver w.serial) w.parts
+        e_next = one_more w.past w.left late (commands.Deliver w.serial) w.parts
 
         -- where no round runs any more
         in_none : At (w.past ++ commands.Deliver w.serial ∷ []) Idle → Stage (w.past ++ commands.Deliver w.serial ∷ [])
@@ -357,16 +259,12 @@ module _ (start late : List Command) (h d k : ℕ) (t : Stamp) (calm : IsUndistu
             twice_on (commands.Deliver w.serial ∷ w.left) w.past y w.parts (courses.over o full has_all asked)
         by_stage (courses.second b at some full has_all asked _) =
             by_all (courses.second b at some full has_all asked tt) b at (all_answered (others_of z.receiver at.replica.members) (z.sender ∷ b))
-            (done w.past w.serial z _ w.message w.up (ack_take ((replay (start ++ w.past)).house z.receiver) z t b at.replica
+            (delivered (replay (start ++ w.past)) w.serial z _ w.message w.up (ack_take ((replay (start ++ w.past)).house z.receiver) z t b at.replica
             (own_at w.past (commands.Deliver w.serial ∷ w.left) w.parts (Spreading t b) at z (SpreadAck t) y i dir to from epoch body) at.phase))
 
     -- so is each other member, if the second round runs at the end
     heard_second : (full : Replica) → ((x : ℕ) → In x others → Asked (replay (start ++ late)) h d k t x full) → (y : ℕ) → In y others → HeardTwice late y
-    heard_second full asked y i =
-        let q = asked y i in
-        let a : Answer q.message.receiver (λ r. SpreadAck t) = answer_to q.message (Spread t q.copy) (λ r. SpreadAck t) (λ r. merge_copy r q.copy)
-        (λ now r own. spread_take now q.message t q.copy r own) (λ r. refl) q.dir q.sender q.epoch q.body (fair q.message q.posted q.dir (ap round_of q.body)) in
-        hears_twice a.letter y i a.dir a.receiver (a.sender ∙ q.receiver) a.epoch a.body a.comes_there
+    heard_second full asked y i = let z = acked full asked y i in hears_twice z.letter y i z.dir z.receiver z.sender z.epoch z.body z.arrives
 
     -- the skulk is complete, and each other member was asked with what the master had once all were
     -- heard
@@ -410,7 +308,7 @@ module _ (start late : List Command) (h d k : ℕ) (t : Stamp) (calm : IsUndistu
     last_of : (past : List Command) (n : ℕ) → CompletesBy (replay (start ++ past)) t (commands.Deliver n) → IsLastAck (replay (start ++ past)) n t
     last_of past n (with_last _ last) = last
 
-    pub complete : IsComplete start late t
+    pub complete : IsComplete start late h d t
     complete =
         let o = finished.over in
         record {
@@ -419,6 +317,7 @@ module _ (start late : List Command) (h d k : ℕ) (t : Stamp) (calm : IsUndistu
           left = o.rest;
           parts = o.parts;
           serials = o.serials;
+          place = o.place;
           answer = o.answer;
           last = last_of o.early o.serial ((answers_lem (start ++ o.early) (commands.Deliver o.serial)).completes t o.serials o.answer);
         }
@@ -431,25 +330,64 @@ begins_at early h d t r b =
     (sym (replay-append early (commands.Skulk h d ∷ []) empty_cell) ∙ ap replay (sym (append_nil (early ++ commands.Skulk h d ∷ []))))
     (begun (replay early) h d t b.serials b.answer)
 
+-- ---- from the start on
+
+module _ (early late : List Command) (h d : ℕ) (t : Stamp) (r : Replica) (b : Begins early h d t r)
+    (calm : IsUndisturbed (early ++ commands.Skulk h d ∷ []) late h d r.epoch t) where
+  pub begins : Begun (replay early) (replay ((early ++ commands.Skulk h d ∷ []) ++ [])) h d t
+  begins = begins_at early h d t r b
+
+  pub same_replica : begins.replica ≡ r
+  same_replica =
+      let held = subst (λ (l : List Command). IsHeld (replay l) h d begins.replica) (append_nil (early ++ commands.Skulk h d ∷ [])) begins.held in
+      let slots : Held begins.replica ≡ Held r = sym held ∙ b.held in cc
+
+  pub epoch_0 : begins.replica.epoch ≡ r.epoch
+  epoch_0 = ap (λ (z : Replica). z.epoch) same_replica
+
+  pub members_0 : r.members ≡ (roll_of d ((early ++ commands.Skulk h d ∷ []) ++ late)).list r.epoch
+  members_0 = ap (λ (z : Replica). z.members) (sym same_replica)
+      ∙ courses.listed (early ++ commands.Skulk h d ∷ []) late h d r.epoch t calm [] late refl h begins.replica begins.held epoch_0
+
+  pub other : In begins.another (others_of h ((roll_of d ((early ++ commands.Skulk h d ∷ []) ++ late)).list r.epoch))
+  other = subst (λ (l : List Member). In begins.another (others_of h l)) (ap (λ (z : Replica). z.members) same_replica ∙ members_0) begins.other
+
+  -- each question of the first round is there
+  pub questions : (y : ℕ) → In y (others_of h ((roll_of d ((early ++ commands.Skulk h d ∷ []) ++ late)).list r.epoch))
+      → Questioned (replay ((early ++ commands.Skulk h d ∷ []) ++ [])) h d r.epoch t y
+  questions y i =
+      subst (λ (z : ℕ). Questioned (replay ((early ++ commands.Skulk h d ∷ []) ++ [])) h d z t y) epoch_0
+      (begins.asked y (subst (λ (l : List Member). In y (others_of h l)) (sym (ap (λ (z : Replica). z.members) same_replica ∙ members_0)) i))
+
+  -- of its messages only questions of the first round are there
+  pub only_questions : (m : Message) → In m (replay ((early ++ commands.Skulk h d ∷ []) ++ [])).bag → m.dir ≡ d → round_of m.body ≡ Some t → m.body ≡ Gather t
+  only_questions m i dir is =
+      ⊎_elim
+      (λ was.
+      let reach = (reaching_at d ((early ++ commands.Skulk h d ∷ []) ++ late) early (commands.Skulk h d ∷ late)
+      (sym (append_assoc early (commands.Skulk h d ∷ []) late))).sound in
+      let now = courses.reached (early ++ commands.Skulk h d ∷ []) late h d r.epoch t calm [] late refl in
+      let home = ((now.sound.held h begins.replica begins.held).phase t (ap running_skulk_stamp begins.phase)).1 in
+      let le = ((reach.messages m (In-of_dir d (replay early).bag m was dir)).round t is).1 in
+      let low : t.time ≤ ((replay early).house h).floor = subst (λ (z : ℕ). t.time ≤ ((replay early).house z).floor) home le in
+      let high : ((replay early).house h).floor < t.time = begins.fresh in absurd (omega arith))
+      (λ new. new)
+      (begins.posted m i)
+
+  -- if an answer of each to each round is delivered, the skulk is complete
+  pub ends_if_heard : ((y : ℕ) → In y (others_of h ((roll_of d ((early ++ commands.Skulk h d ∷ []) ++ late)).list r.epoch))
+      → Reply (early ++ commands.Skulk h d ∷ []) late h d r.epoch t y)
+      → ((full : Replica) → courses.AreAsked (early ++ commands.Skulk h d ∷ []) late h d r.epoch t calm begins.another other late full → (y : ℕ)
+      → In y (others_of h ((roll_of d ((early ++ commands.Skulk h d ∷ []) ++ late)).list r.epoch)) → Ack (early ++ commands.Skulk h d ∷ []) late h d r.epoch t y)
+      → IsComplete (early ++ commands.Skulk h d ∷ []) late h d t
+  ends_if_heard gathered acked =
+      complete (early ++ commands.Skulk h d ∷ []) late h d r.epoch t calm begins.another other (λ y r. Unit {0}) (λ past r. Unit {0})
+      (λ past left c f e run s y w. tt) (λ past left c f e s y q. tt) (λ past left c f e s all. tt) (λ past left c e full w. tt) (replay early) begins
+      epoch_0 gathered acked
+
 -- of any list of commands
 pub skulks_end_lem : (early late : List Command) → SkulksEnd early late
 skulks_end_lem early late h d t r b calm fair =
-    complete start late h d r.epoch t calm fair begins.another other (λ y r. Unit {0}) (λ past r. Unit {0}) (λ past left c f e run s y w. tt)
-    (λ past left c f e s y q. tt) (λ past left c f e s all. tt) (λ past left c e full w. tt)
-    (replay early) begins epoch_0
-  where
-    start : List Command
-    start = early ++ commands.Skulk h d ∷ []
-
-    begins : Begun (replay early) (replay (start ++ [])) h d t
-    begins = begins_at early h d t r b
-
-    epoch_0 : begins.replica.epoch ≡ r.epoch
-    epoch_0 =
-        let held : IsHeld (replay start) h d begins.replica = subst (λ (l : List Command). IsHeld (replay l) h d begins.replica) (append_nil start) begins.held in
-        let slots : Held begins.replica ≡ Held r = sym held ∙ b.held in
-        let same : begins.replica ≡ r = cc in ap (λ (z : Replica). z.epoch) same
-
-    other : In begins.another (others_of h ((roll_of d (start ++ late)).list r.epoch))
-    other = subst (λ (l : List Member). In begins.another (others_of h l))
-        (courses.listed start late h d r.epoch t calm [] late refl h begins.replica begins.held epoch_0) begins.other
+    ends_if_heard early late h d t r b calm
+    (λ y i. letters.reply_of (early ++ commands.Skulk h d ∷ []) late h d r.epoch t calm fair y (questions early late h d t r b calm y i))
+    (λ full asked y i. letters.ack_of (early ++ commands.Skulk h d ∷ []) late h d r.epoch t calm fair full y (asked y i))

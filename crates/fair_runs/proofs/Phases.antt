@@ -5,15 +5,17 @@ use Rattle.cds_stamps.specs.declared.stamp.Stamp.{Stamp}
 use Rattle.cds_stamps.specs.Members.{Member, others_of}
 use Rattle.directory.specs.Histories.{Mark}
 use Rattle.cell_model.specs.Cells.{Phase, Idle, Gathering, Gathered, Spreading, Replica, Slot, Absent, Gone, Held, House, Copy, Spread}
-use Rattle.cell_model.specs.Cells.{Join, Message, Cell, IsHeld, put}
+use Rattle.cell_model.specs.Cells.{Advance, Join, Message, Cell, IsHeld, put}
 use Rattle.cell_model.specs.Commands.{Answer, Taken, Complete, Accepted}
 use Rattle.cell_model.specs.Sets.{In, IsPart}
-use Rattle.cell_model.specs.Turns.{running_skulk_stamp, with_slot, with_marks, to_each, first_replica, epoch_replica, crashed_house, started_house}
+use Rattle.cell_model.specs.Turns.{running_skulk_stamp, with_slot, with_marks, to_each, later_up_to, first_replica, epoch_replica, crashed_house, started_house}
 use Rattle.cell_model.specs.Steps.{member_list_of}
 use Rattle.cell_model.proofs.Lists.{In-append_right, eq_from}
 use Rattle.cell_model.proofs.Marks.{stamp_next}
 use Rattle.cell_model.proofs.Moves.{Act, accepts, skulks, lone, updates, gives, gathers, turns, gathers_again, spreads, acks_early, acks, completes, advances}
 use Rattle.cell_model.proofs.Moves.{copies, keeps, leaves, new_marks, Move, stays, houses, clocks, loses, crashes, starts, acts, founds, crowns, Steps, one, mkdirs, IsUp}
+use Rattle.fair_runs.specs.Converging.{IsAllUpTo}
+use Rattle.fair_runs.proofs.UpTos.{up_to_of, raised}
 
 -- a question of the second round to this house
 pub record Asked (g : Cell) (h d k : ℕ) (t : Stamp) (x : ℕ) (r' : Replica) : Type 0 where
@@ -27,6 +29,16 @@ pub record Asked (g : Cell) (h d k : ℕ) (t : Stamp) (x : ℕ) (r' : Replica) :
   pub body : message.body ≡ Spread t copy
   pub whole : IsPart r'.history copy.history
 
+-- a message to this house says that the skulk is complete
+pub record Told (g : Cell) (h d k : ℕ) (t : Stamp) (x : ℕ) : Type 0 where
+  pub message : Message
+  pub posted : In message g.bag
+  pub dir : message.dir ≡ d
+  pub receiver : message.receiver ≡ x
+  pub sender : message.sender ≡ h
+  pub epoch : message.epoch ≡ k
+  pub body : message.body ≡ Advance t
+
 -- a house was heard in the first round: its answer, whose marks the master has then
 pub record Hears (g : Cell) (d : ℕ) (t : Stamp) (y : ℕ) (r' : Replica) : Type 0 where
   pub message : Message
@@ -38,7 +50,7 @@ pub record Hears (g : Cell) (d : ℕ) (t : Stamp) (y : ℕ) (r' : Replica) : Typ
   pub part : IsPart copy.history r'.history
 
 -- how the skulk t goes on: nothing of it changes; one more house answered in a round; the last one
--- did, and the second round begins; or the skulk is complete
+-- did, and the second round begins; or the skulk is complete, and each other member learns it
 pub data Goes (h d : ℕ) (t : Stamp) (g g' : Cell) (place : Option (ℕ × ℕ)) (answer : Answer) (r r' : Replica) : Type 0 where
   same : r'.phase ≡ r.phase → Goes h d t g g' place answer r r'
   gathered : (a ns : List ℕ) (y : ℕ) → r.phase ≡ Gathering t a → r'.phase ≡ Gathering t (y ∷ a) → answer ≡ Taken ns → Hears g d t y r'
@@ -46,7 +58,8 @@ pub data Goes (h d : ℕ) (t : Stamp) (g g' : Cell) (place : Option (ℕ × ℕ)
   turned : (a : List ℕ) (y : ℕ) → r.phase ≡ Gathering t a → r'.phase ≡ Spreading t [] → ((x : ℕ) → In x (others_of h r.members) → Asked g' h d r.epoch t x r')
       → ((x : ℕ) → In x (others_of h r.members) → In x (y ∷ a)) → Hears g d t y r' → Goes h d t g g' place answer r r'
   acked : (a ns : List ℕ) (y : ℕ) → r.phase ≡ Spreading t a → r'.phase ≡ Spreading t (y ∷ a) → answer ≡ Taken ns → Goes h d t g g' place answer r r'
-  completed : (a ns : List ℕ) → r.phase ≡ Spreading t a → answer ≡ Complete t ns → place ≡ Some (h, d) → Goes h d t g g' place answer r r'
+  completed : (a ns : List ℕ) → r.phase ≡ Spreading t a → answer ≡ Complete t ns → place ≡ Some (h, d) → IsAllUpTo t r'.all_up_to
+      → ((x : ℕ) → In x (others_of h r.members) → Told g' h d r.epoch t x) → Goes h d t g g' place answer r r'
 
 -- the skulk t of d runs at its master h before a step, and after it the master is up, in the same
 -- epoch, and runs no other
@@ -73,7 +86,7 @@ phase_in Absent = Idle
 phase_in (Gone e) = Idle
 phase_in (Held r) = r.phase
 
-abbrev epoch_in : Slot → ℕ
+abbrev pub epoch_in : Slot → ℕ
 epoch_in Absent = 0
 epoch_in (Gone e) = e
 epoch_in (Held r) = r.epoch
@@ -149,6 +162,27 @@ module _ (g g' : Cell) (h d : ℕ) (t : Stamp) (r r' : Replica) (w : Watched g g
         whole = all;
       }
 
+  -- and a message to each of them that the skulk is complete
+  told : (m : Message) (u : Stamp) (q : Replica) (floor : ℕ) → u ≡ t → q ≡ r → m.receiver ≡ h → m.dir ≡ d
+      → g'.bag ≡ g.bag ++ to_each (others_of m.receiver q.members) m.dir m.receiver q.epoch floor (Advance u)
+      → (x : ℕ) → In x (others_of h r.members) → Told g' h d r.epoch t x
+  told m u q floor is same_r i j bag x k =
+      let k' : In x (others_of m.receiver q.members) =
+      subst (λ (z : Replica). In x (others_of m.receiver z.members)) (sym same_r) (subst (λ (z : ℕ). In x (others_of z r.members)) (sym i) k) in
+      let z : Message = record { receiver = x; dir = m.dir; sender = m.receiver; epoch = q.epoch; floor = floor; body = Advance u } in
+      let posted : In z (g.bag ++ to_each (others_of m.receiver q.members) m.dir m.receiver q.epoch floor (Advance u)) =
+      In-append_right z g.bag _ (in_map
+      (λ (y : ℕ). record { receiver = y; dir = m.dir; sender = m.receiver; epoch = q.epoch; floor = floor; body = Advance u }) x _ k') in
+      record {
+        message = z;
+        posted = subst (λ (b : List Message). In z b) (sym bag) posted;
+        dir = j;
+        receiver = refl;
+        sender = i;
+        epoch = ap (λ (y : Replica). y.epoch) same_r;
+        body = ap (λ (s : Stamp). Advance s) is;
+      }
+
   -- the answer of a house
   heard : (m : Message) (u : Stamp) (copy : Copy) (q : Replica) → u ≡ t → m.dir ≡ d → In m g.bag → m.body ≡ Gathered u copy
       → q.history ++ copy.history ≡ r'.history → Hears g d t m.sender r'
@@ -203,10 +237,13 @@ module _ (g g' : Cell) (h d : ℕ) (t : Stamp) (r r' : Replica) (w : Watched g g
       let is : u ≡ t = stamp_is u (Spreading u b) refl run' in
       acked b ns m.sender (run' ∙ ap (λ (z : Stamp). Spreading z b) is) (ap phase_in (sym at) ∙ ap (λ (z : Stamp). Spreading z (m.sender ∷ b)) is) refl
   act_goes p x e floor s posts a n (completes m u b q ns k run all) pe i j at bag =
-      let run' : r.phase ≡ Spreading u b = ap (λ (z : Replica). z.phase) (sym (held_here x e q i j k.held)) ∙ run in
-      completed b ns (run' ∙ ap (λ (z : Stamp). Spreading z b) (stamp_is u (Spreading u b) refl run'))
-      (ap (λ (z : Stamp). Complete z ns) (stamp_is u (Spreading u b) refl run'))
+      let same_r = held_here x e q i j k.held in
+      let run' : r.phase ≡ Spreading u b = ap (λ (z : Replica). z.phase) (sym same_r) ∙ run in
+      let is : u ≡ t = stamp_is u (Spreading u b) refl run' in
+      completed b ns (run' ∙ ap (λ (z : Stamp). Spreading z b) is) (ap (λ (z : Stamp). Complete z ns) is)
       (pe ∙ ap (λ (z : ℕ). Some (z, m.dir)) i ∙ ap (λ (z : ℕ). Some (h, z)) j)
+      (subst (λ (o : Option Stamp). IsAllUpTo t o) (ap up_to_of at) (subst (λ (z : Stamp). IsAllUpTo z (later_up_to q.all_up_to u)) is (raised u q.all_up_to)))
+      (told m u q _ is same_r i j bag)
   act_goes p x e floor s posts a n (advances m u q ns k) pe i j at bag =
       same (ap phase_in (sym at) ∙ ap (λ (z : Replica). z.phase) (held_here x e q i j k.held))
   act_goes p x e floor s posts a n (copies m ms copy ns k low) pe i j at bag = absurd (w.joins m ms copy k.posted j i k.is (ap epoch_in at ∙ sym w.epoch))

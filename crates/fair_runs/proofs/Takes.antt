@@ -10,6 +10,7 @@ use Rattle.cell_model.specs.Commands as commands
 use Rattle.cell_model.specs.Turns.{HouseStep, Stays, with_slot, with_marks, floor_after, copy_of, merge_copy, later_up_to, takes, take_and_answer, reply, to_others, all_answered, take_gathered}
 use Rattle.cell_model.specs.Turns.{take_gathered_answer, spread, take_ack, take_own, take_other, replica_of_copy, kept_at_join, take_in, take}
 use Rattle.cell_model.specs.Steps.{refusal_outcome, is_down, at_house, message_at, deliver, outcome}
+use Rattle.cell_model.proofs.Readiness.{own_held}
 use Rattle.cell_model.proofs.Rows as rows
 use Rattle.cell_model.proofs.Rows.{Row, Own}
 use Rattle.fair_runs.proofs.Phases.{phase_in, slot_changed}
@@ -19,17 +20,6 @@ is_itself : (t : Stamp) → is_stamp t t ≡ true
 is_itself t = grind arith
 
 -- ---- a message of the epoch, from a member
-
-own_held : (now : House) (z : Message) (b : Body) (r : Replica) → z.epoch ≡ r.epoch → is_listed z.sender r.members ≡ true
-    → take_other now z b (Held r) ≡ take_own now z r b
-own_held now z b r e l =
-    let low : nat_lt z.epoch r.epoch ≡ false = grind arith in
-    let high : nat_lt r.epoch z.epoch ≡ false = grind arith in
-    let own : HouseStep = take_own now z r b in
-    ap (λ (c : Bool). cond c (Stays (commands.Late z.epoch r.epoch)) (cond (nat_lt r.epoch z.epoch) (Stays (commands.Early z.epoch r.epoch))
-    (cond (is_listed z.sender r.members) own (Stays commands.Foreign)))) low
-    ∙ ap (λ (c : Bool). cond c (Stays (commands.Early z.epoch r.epoch)) (cond (is_listed z.sender r.members) own (Stays commands.Foreign))) high
-    ∙ ap (λ (c : Bool). cond c own (Stays commands.Foreign)) l
 
 -- it is taken by its body
 own_take : (now : House) (m : Message) (b : Body) (r : Replica) → ((s : Slot) → take_in now m b s ≡ take_other now m b s) → Own now m b r
@@ -46,6 +36,11 @@ gather_take now m t r k = own_take now m (Gather t) r (λ s. refl) k
 pub spread_take : (now : House) (m : Message) (t : Stamp) (copy : Copy) (r : Replica) → Own now m (Spread t copy) r
     → take now m ≡ take_and_answer now m (Held (merge_copy r copy)) (reply now m (SpreadAck t))
 spread_take now m t copy r k = own_take now m (Spread t copy) r (λ s. refl) k
+
+-- that a skulk is complete is taken in
+pub advance_take : (now : House) (m : Message) (t : Stamp) (r : Replica) → Own now m (Advance t) r
+    → take now m ≡ take_and_answer now m (Held (record r { all_up_to = later_up_to r.all_up_to t })) []
+advance_take now m t r k = own_take now m (Advance t) r (λ s. refl) k
 
 -- an answer of the first round, while that runs
 pub gathered_take : (now : House) (m : Message) (t : Stamp) (copy : Copy) (a : List ℕ) (r : Replica) → Own now m (Gathered t copy) r
@@ -64,10 +59,15 @@ ack_take now m t a r k run =
     ∙ ap (λ (c : Bool). cond c (spread now m r t (m.sender ∷ a)) (Stays (commands.Stale t (Some t)))) (is_itself t)
 
 -- a message that is there is taken by its receiver, if that is up
-pub deliver_take : (g : Cell) (n : ℕ) (m : Message) → message_at g n ≡ Some m → (g.house m.receiver).up ≡ true
+deliver_take : (g : Cell) (n : ℕ) (m : Message) → message_at g n ≡ Some m → (g.house m.receiver).up ≡ true
     → outcome g (commands.Deliver n) ≡ at_house g m.receiver (take (g.house m.receiver) m)
 deliver_take g n m at up =
     ap (deliver g) at ∙ ap (λ (b : Bool). cond (not b) (refusal_outcome g commands.Down) (at_house g m.receiver (take (g.house m.receiver) m))) up
+
+-- and as it takes it
+pub delivered : (g : Cell) (n : ℕ) (m : Message) (s : HouseStep) → message_at g n ≡ Some m → (g.house m.receiver).up ≡ true → take (g.house m.receiver) m ≡ s
+    → outcome g (commands.Deliver n) ≡ at_house g m.receiver s
+delivered g n m s at up e = deliver_take g n m at up ∙ ap (at_house g m.receiver) e
 
 -- ---- a round in which one more house answered still waits for another
 

@@ -1,2 +1,3 @@
 pub mod Fairness
 pub mod Converging
+pub mod Needs

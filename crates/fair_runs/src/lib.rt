@@ -4,4 +4,4 @@
 
 mod laws;
 
-pub use laws::{cells_converge, skulks_end};
+pub use laws::{cells_converge, skulks_end, skulks_end_if_heard, skulks_need};

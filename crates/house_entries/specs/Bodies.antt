@@ -29,4 +29,4 @@ pub record IsBody (octets : List ℕ) (number clock : ℕ) (text : List ℕ) (im
 -- the head of a segment: a line that names it, and the digest of the last record of the segment
 -- before
 abbrev pub head_of : (number : ℕ) → (before : List ℕ) → List ℕ
-head_of number before = codes "cdshouse journal 1 " ++ (decimal number ++ (10 ∷ before))
+head_of number before = codes "cdshouse journal 2 " ++ (decimal number ++ (10 ∷ before))

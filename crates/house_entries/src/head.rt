@@ -11,7 +11,7 @@ pub fn head_octets(alloc: Global, number: u64, before: &[u8]) -> Result<Vec<u8>,
     ensures { IfOk result (λ v. v.items ≡ head_of number before.now) }
 {
     let mut digits = Buffer::new();
-    let mut octets = Vec::from_slice(alloc, b"cdshouse journal 1 ")?;
+    let mut octets = Vec::from_slice(alloc, b"cdshouse journal 2 ")?;
     octets.extend_from_slice(digits.format(number).as_bytes())?;
     octets.push(b'\n')?;
     octets.extend_from_slice(before)?;

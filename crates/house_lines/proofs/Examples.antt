@@ -13,6 +13,7 @@ use Rattle.cell_script.specs.Words.{words_of, number_of}
 use Rattle.cell_script.specs.WordForms.{check_count, take_words}
 use Rattle.house_lines.specs.declared.line.HouseLine.{HouseLine}
 use Rattle.house_lines.specs.declared.line.HouseLine.TheVariants as line
+use Rattle.house_lines.specs.declared.line.HouseQuestion.TheVariants as question
 use Rattle.house_lines.specs.MemberWords.{kind_of, member_of}
 use Rattle.house_lines.specs.Listings.{list_said}
 use Rattle.house_lines.specs.LineRows.{epoch_words, said_by, said_in}
@@ -111,11 +112,23 @@ take_is : says (codes "take 02fF") ≡ Ok (Some (line.Take (2 ∷ 255 ∷ [])))
 unfolding said_by check_count take_words decode_pairs
 take_is = refl
 
-look_is : says (codes "look 1 lpr A") ≡ Ok (Some (line.Look (record { 0 = 1 }) (codes "lpr") (codes "A")))
+look_is : says (codes "look 1 lpr A") ≡ Ok (Some (line.Ask (question.Look (record { 0 = 1 }) (codes "lpr") (codes "A"))))
 unfolding said_by check_count take_words number_of
 look_is = refl
 
-image_is : says (codes "image") ≡ Ok (Some line.Image)
+show_is : says (codes "show high 1 lpr") ≡ Ok (Some (line.Ask (question.Show true (record { 0 = 1 }) (codes "lpr"))))
+unfolding said_by check_count take_words number_of
+show_is = refl
+
+status_is : says (codes "status 1") ≡ Ok (Some (line.Ask (question.Status (record { 0 = 1 }))))
+unfolding said_by check_count take_words number_of
+status_is = refl
+
+directories_is : says (codes "directories") ≡ Ok (Some (line.Ask question.Directories))
+unfolding said_by check_count
+directories_is = refl
+
+image_is : says (codes "image") ≡ Ok (Some (line.Ask question.Image))
 unfolding said_by check_count
 image_is = refl
 

@@ -6,11 +6,12 @@ use Rattle.std.specs.Result.{result_err}
 use Rattle.directory.specs.declared.update.Update.TheVariants as update
 use Rattle.cell_script.specs.declared.fault.ParseFault.{ParseFault}
 use Rattle.cell_script.specs.declared.fault.ParseFault.TheVariants.{UnknownCommand}
-use Rattle.cell_script.specs.WordForms.{◌>>=◌, Form, House, Directory, Serial, Time, Node, SimpleName, FullName, AttrName, Value, Octets, Houses, Listeds}
+use Rattle.cell_script.specs.WordForms.{◌>>=◌, Form, House, Directory, Serial, Time, Node, SimpleName, FullName, AttrName, Value, Octets, Houses, Listeds, Confidence}
 use Rattle.cell_script.specs.WordForms.{Builds, Words, check_count, take_words}
 use Rattle.cell_script.specs.CommandRows.{RowOf, said_among, early_among, no_command, line_in, fault_in}
 use Rattle.house_lines.specs.declared.line.HouseLine.{HouseLine}
 use Rattle.house_lines.specs.declared.line.HouseLine.TheVariants as line
+use Rattle.house_lines.specs.declared.line.HouseQuestion.TheVariants as question
 use Rattle.house_lines.specs.Listings.{list_said}
 
 -- a command: its first word, the forms of the words after it, and what they say
@@ -55,9 +56,12 @@ message_rows =
 -- the questions
 abbrev pub question_rows : List (RowOf HouseLine)
 question_rows =
-    row (codes "dump") (Directory ∷ []) line.Dump
-    ∷ row (codes "look") (Directory ∷ SimpleName ∷ AttrName ∷ []) line.Look
-    ∷ row (codes "image") [] line.Image
+    row (codes "dump") (Directory ∷ []) (λ d. line.Ask (question.Dump d))
+    ∷ row (codes "look") (Directory ∷ SimpleName ∷ AttrName ∷ []) (λ d s a. line.Ask (question.Look d s a))
+    ∷ row (codes "show") (Confidence ∷ Directory ∷ SimpleName ∷ []) (λ c d s. line.Ask (question.Show c d s))
+    ∷ row (codes "status") (Directory ∷ []) (λ d. line.Ask (question.Status d))
+    ∷ row (codes "directories") [] (line.Ask question.Directories)
+    ∷ row (codes "image") [] (line.Ask question.Image)
     ∷ []
 
 -- the commands but `epoch`

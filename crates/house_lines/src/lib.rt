@@ -10,5 +10,5 @@ mod replicas;
 mod updates;
 
 pub use given::GivenMembers;
-pub use line::{EpochList, HouseLine};
+pub use line::{EpochList, HouseLine, HouseQuestion};
 pub use parse::parse_house_line;

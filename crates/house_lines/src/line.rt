@@ -11,6 +11,23 @@ pub struct EpochList {
     pub leaving: HouseNos,
 }
 
+/// What a line asks a house, which changes nothing. Its fields are in the order of its words.
+#[derive(Drop)]
+pub enum HouseQuestion {
+    /// All that the house holds of a directory.
+    Dump(DirId),
+    /// The values that show of an attribute.
+    Look(DirId, SimpleName, AttrName),
+    /// What shows of a name; true is `high`, which the master alone answers.
+    Show(bool, DirId, SimpleName),
+    /// How a directory is, without its entries.
+    Status(DirId),
+    /// The directories that the house holds, or has left.
+    Directories,
+    /// The octets of the house's image.
+    Image,
+}
+
 /// What a line of a house says. Its fields are in the order of its words.
 #[derive(Drop)]
 pub enum HouseLine {
@@ -28,7 +45,5 @@ pub enum HouseLine {
     /// Octets in front of those of the next message.
     More(Octets),
     Take(Octets),
-    Dump(DirId),
-    Look(DirId, SimpleName, AttrName),
-    Image,
+    Ask(HouseQuestion),
 }

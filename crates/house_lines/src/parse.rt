@@ -111,6 +111,15 @@ fn asked(alloc: Global, word: &[u8], words: &mut Words<'_>) -> Parsed<HouseLine>
     if word == b"look".as_slice() {
         return questions::look(alloc, words);
     }
+    if word == b"show".as_slice() {
+        return questions::show(alloc, words);
+    }
+    if word == b"status".as_slice() {
+        return questions::status(words);
+    }
+    if word == b"directories".as_slice() {
+        return questions::directories(words);
+    }
     if word == b"image".as_slice() {
         return questions::image(words);
     }

@@ -1,10 +1,17 @@
 -- What was read of a journal, and one record more.
-use Rattle.std.proofs.Common.{◌≡◌, ℕ, ◌+◌, false, List, [], ◌∷◌, ◌++◌, map, Option, Some, None, refl, sym, ◌∙◌, ap, subst, append_assoc, append-nil}
-use Rattle.std.specs.Prelude.{Ok, codes, decimal, is_none}
+use Rattle.std.proofs.Common.{◌≡◌, ℕ, ◌+◌, inl, inr, Bool, true, false, List, [], ◌∷◌, ◌++◌, length, map, drop, Option, Some, None, refl, sym, ◌∙◌, ap, subst, append_assoc, append-nil, arith}
+use Rattle.std.specs.Prelude.{Result, Ok, Err, IfOk, codes, decimal, is_none}
+use Rattle.std.specs.Bool.{OnTrue}
+use Rattle.std.specs.Result.{IsErr, IsErrAnd}
+use Rattle.std.proofs.lemmas.Grind.{common_steps}
+use Rattle.cds_stamps.specs.declared.alloc_or.AllocOr.{AllocOr}
+use Rattle.cds_stamps.specs.declared.alloc_or.AllocOr.TheVariants.{Fault, OutOfMemory}
 use Rattle.cell_script.specs.Words.{words_of}
 use Rattle.house_entries.specs.Bodies.{IsBody, head_of}
 use Rattle.house_lines.specs.LineRows.{said_in}
 use Rattle.house_lines.specs.declared.line.HouseLine.TheVariants as asks
+use Rattle.house_logs.specs.declared.fault.LogFault.{LogFault}
+use Rattle.house_logs.specs.declared.fault.LogFault.TheVariants as why
 use Rattle.house_logs.specs.declared.log.LogEntry.{LogEntry}
 use Rattle.house_logs.specs.declared.log.LogEntry.TheVariants as entry
 use Rattle.house_logs.specs.declared.log.LoggedTurn.{LoggedTurn}
@@ -12,29 +19,24 @@ use Rattle.house_logs.specs.declared.log.Making.{Making}
 use Rattle.house_logs.specs.declared.reader.LogReader.{LogReader}
 use Rattle.house_logs.specs.declared.text.TurnText.{TurnText}
 use Rattle.house_journal.specs.JournalRecords.{images}
-use Rattle.house_logs.specs.Logs.{body_in, making_text}
-use Rattle.house_logs.specs.Reads.{HasMade, HasRead, HasReadOf, IsMadeBy, IsTurnBy, ReadsOn, ReadsRecords, last_entry}
-use Rattle.house_logs.specs.Records.{AreRecords, LastEntry, NoRecord, SaysTurn, SegmentRecord, StartRecord, TurnRecord, after_start, after_turn, segment_text}
+use Rattle.house_logs.specs.Faults.{IsFaultOf, IsOfRecord}
+use Rattle.house_logs.specs.Logs.{IsLogOf, body_in, making_text}
+use Rattle.house_logs.specs.Reads.{HasRead, HasReadOf, HasReadPart, IfFault, IsMadeBy, IsTurnBy, OfFault, ReadsFront, ReadsOn, ReadsRecords, StopsAt, told_of}
+use Rattle.house_logs.specs.Records.{AreRecords, Follows, CanBe, OfEntry, SegmentRecord, Shows, StartRecord, Told, TurnRecord, image_of, running_text, with_image}
 use Rattle.house_logs.specs.TurnTexts.{turn_text}
-use Rattle.house_segments.specs.Reading.{IsLast}
+use Rattle.house_segments.specs.Reading.{IsLast, IsSegment}
 
 -- ---- records
 
--- records after others
-pub records-append : (last middle end : LastEntry) (bs cs : List (List ℕ)) (es fs : List LogEntry) → AreRecords last bs es middle → AreRecords middle cs fs end
-    → AreRecords last (bs ++ cs) (es ++ fs) end
-records-append last middle end bs cs es fs (NoRecord _) more = more
-records-append last middle end bs cs es fs (TurnRecord _ body line t bodies es' _ says is rest) more =
-    TurnRecord last body line t (bodies ++ cs) (es' ++ fs) end says is (records-append (after_turn last line t) middle end bodies cs es' fs rest more)
-records-append last middle end bs cs es fs (StartRecord _ body image bodies es' _ is rest) more =
-    StartRecord last body image (bodies ++ cs) (es' ++ fs) end is (records-append (after_start last image) middle end bodies cs es' fs rest more)
-records-append last middle end bs cs es fs (SegmentRecord _ body bodies es' _ is rest) more =
-    SegmentRecord last body (bodies ++ cs) (es' ++ fs) end is (records-append last middle end bodies cs es' fs rest more)
+-- one record more
+pub records-more : (s mid end : Told) (bodies : List (List ℕ)) (body : List ℕ) → AreRecords s bodies mid → Follows mid body end
+    → AreRecords s (bodies ++ body ∷ []) end
+records-more s mid end [] body same next = (end, subst (λ (z : Told). Follows z body end) same next, refl)
+records-more s mid end (b ∷ bodies) body all next = (all.0, all.1, records-more all.0 mid end bodies body all.2 next)
 
 -- one record more of a house that was made
-added : (bodies : List (List ℕ)) (octets : List ℕ) (m : Making) (es fs : List LogEntry) (last end : LastEntry) → HasMade bodies m es last
-    → AreRecords last (octets ∷ []) fs end → HasMade (bodies ++ octets ∷ []) m (es ++ fs) end
-added bodies octets m es fs last end has one = record {
+added : (bodies : List (List ℕ)) (octets : List ℕ) (s end : Told) → IsLogOf bodies s → Follows s octets end → IsLogOf (bodies ++ octets ∷ []) end
+added bodies octets s end has one = record {
   news = has.news;
   first = has.first;
   others = has.others ++ octets ∷ [];
@@ -42,180 +44,236 @@ added bodies octets m es fs last end has one = record {
   parts = ap (λ (l : List (List ℕ)). l ++ octets ∷ []) has.parts ∙ append_assoc has.news (has.first ∷ has.others) (octets ∷ []);
   are_new = has.are_new;
   begins = has.begins;
-  records = records-append has.begun last end has.others (octets ∷ []) es fs has.records one;
+  records = records-more has.begun s end has.others octets has.records one;
 }
 
 -- ---- one record more
 
--- what was read, of this house
-abbrev ReadOf : Option Making → LogReader → (bodies : List (List ℕ)) → Type 0
-ReadOf o r bodies = HasReadOf o (last_entry r) r.entries.items bodies
-
--- a start of a house that was made
-pub start_read : (o : Option Making) (r new : LogReader) (bodies : List (List ℕ)) (octets image : List ℕ) → ReadOf o r bodies → is_none o ≡ false
-    → new.number ≡ r.number + 1 → new.clock ≡ 0 → new.image ≡ image → new.turn.items ≡ r.turn.items → new.entries.items ≡ r.entries.items ++ entry.Started image ∷ []
-    → IsBody octets (r.number + 1) 0 (codes "start" ++ (10 ∷ r.turn.items)) (Some image) → ReadOf o new (bodies ++ octets ∷ [])
-start_read None r new bodies octets image has some number clock kept turn es is = absurd (cc (some))
-start_read (Some m) r new bodies octets image has some number clock kept turn es is =
-    subst (λ (l : List LogEntry). HasMade (bodies ++ octets ∷ []) m l (last_entry new)) (sym es)
-    (subst (λ (z : LastEntry). HasMade (bodies ++ octets ∷ []) m (r.entries.items ++ entry.Started image ∷ []) z) same
-    (added bodies octets m r.entries.items (entry.Started image ∷ []) last (after_start last image) has
-    (StartRecord last octets image [] [] (after_start last image) is (NoRecord (after_start last image)))))
-  where
-    last : LastEntry
-    last = last_entry r
-
-    same : after_start last image ≡ last_entry new
-    same j = record {
-      number = sym number j;
-      clock = sym clock j;
-      image = sym kept j;
-      turn = sym turn j;
-    }
-
--- a turn of one
-pub turn_read : (o : Option Making) (r new : LogReader) (bodies : List (List ℕ)) (octets line : List ℕ) (t : LoggedTurn) → ReadOf o r bodies
-    → is_none o ≡ false → SaysTurn line t → new.number ≡ r.number + 1 → new.clock ≡ t.clock
-    → new.image ≡ t.image → new.turn.items ≡ turn_text line t.posts.items t.answer → new.entries.items ≡ r.entries.items ++ entry.Turned t ∷ []
-    → IsBody octets (r.number + 1) t.clock (turn_text line t.posts.items t.answer) (Some t.image) → ReadOf o new (bodies ++ octets ∷ [])
-turn_read None r new bodies octets line t has some says number clock kept turn es is = absurd (cc (some))
-turn_read (Some m) r new bodies octets line t has some says number clock kept turn es is =
-    subst (λ (l : List LogEntry). HasMade (bodies ++ octets ∷ []) m l (last_entry new)) (sym es)
-    (subst (λ (z : LastEntry). HasMade (bodies ++ octets ∷ []) m (r.entries.items ++ entry.Turned t ∷ []) z) same
-    (added bodies octets m r.entries.items (entry.Turned t ∷ []) last (after_turn last line t) has
-    (TurnRecord last octets line t [] [] (after_turn last line t) says is (NoRecord (after_turn last line t)))))
-  where
-    last : LastEntry
-    last = last_entry r
-
-    same : after_turn last line t ≡ last_entry new
-    same j = record {
-      number = sym number j;
-      clock = sym clock j;
-      image = sym kept j;
-      turn = sym turn j;
-    }
-
--- a segment begins in the middle of a process
-pub segment_read : (o : Option Making) (r : LogReader) (bodies : List (List ℕ)) (octets image : List ℕ) → ReadOf o r bodies
-    → is_none o ≡ false → image ≡ r.image
-    → IsBody octets r.number r.clock (codes "segment " ++ (decimal r.number ++ (10 ∷ r.turn.items))) (Some image)
-    → ReadOf o r (bodies ++ octets ∷ [])
-segment_read None r bodies octets image has some same is = absurd (cc (some))
-segment_read (Some m) r bodies octets image has some same is =
-    subst (λ (l : List LogEntry). HasMade (bodies ++ octets ∷ []) m l last) (append-nil r.entries.items)
-    (added bodies octets m r.entries.items [] last last has
-    (SegmentRecord last octets [] [] last
-    (subst (λ (i : List ℕ). IsBody octets r.number r.clock (segment_text last) (Some i)) same is) (NoRecord last)))
-  where
-    last : LastEntry
-    last = last_entry r
+-- of a house that was made
+pub more_read : (o : Option Making) (r new : LogReader) (bodies : List (List ℕ)) (octets : List ℕ) → HasReadOf o r bodies → is_none o ≡ false
+    → ((m : Making) → Follows (told_of m r) octets (told_of m new)) → HasReadOf o new (bodies ++ octets ∷ [])
+more_read None r new bodies octets has some next = absurd (cc (some))
+more_read (Some m) r new bodies octets has some next = added bodies octets (told_of m r) (told_of m new) has (next m)
 
 -- the house is made
-pub making_read : (o : Option Making) (r new : LogReader) (bodies : List (List ℕ)) (octets line : List ℕ) (m : Making) → ReadOf o r bodies → o ≡ None
+pub making_read : (o : Option Making) (r new : LogReader) (bodies : List (List ℕ)) (octets line : List ℕ) (m : Making) → HasReadOf o r bodies → o ≡ None
     → said_in (words_of line) ≡ Ok (Some (asks.House m.house m.node)) → new.number ≡ r.number + 1 → new.clock ≡ 0
-    → new.image ≡ m.image → new.turn.items ≡ making_text line → new.entries.items ≡ r.entries.items → IsBody octets (r.number + 1) 0 (making_text line) (Some m.image)
-    → ReadOf (Some m) new (bodies ++ octets ∷ [])
-making_read (Some n) r new bodies octets line m has none says number clock kept turn es is = absurd (cc (none))
-making_read None r new bodies octets line m has none says number clock kept turn es is =
-    subst (λ (l : List LogEntry). HasMade (bodies ++ octets ∷ []) m l (last_entry new)) (sym no_entry) made
+    → new.turn.items ≡ making_text line → new.entries.items ≡ r.entries.items → new.image ≡ None → IsBody octets (r.number + 1) 0 (making_text line) None
+    → HasReadOf (Some m) new (bodies ++ octets ∷ [])
+making_read (Some n) r new bodies octets line m has none says number clock turn es bare is = absurd (cc (none))
+making_read None r new bodies octets line m has none says number clock turn es bare is = record {
+  news = bodies;
+  first = octets;
+  others = [];
+  begun = told_of m new;
+  parts = refl;
+  are_new = has.0;
+  begins = record {
+    line = line;
+    says = says;
+    body_is = subst (λ (n : ℕ). IsBody octets n 0 (making_text line) None) first is;
+    bare = bare;
+    alone = es ∙ has.2;
+    number = number ∙ first;
+    clock = clock;
+    turn = turn;
+  };
+  records = refl;
+}
   where
     first : r.number + 1 ≡ 1
     first = ap (λ (n : ℕ). n + 1) has.1
 
-    no_entry : new.entries.items ≡ []
-    no_entry = es ∙ has.2
+-- ---- images
 
-    begun : LastEntry
-    begun = record { number = 1; clock = 0; image = m.image; turn = making_text line }
+-- the last entry of what was read shows an image
+pub last_shown : (m : Making) (r new : LogReader) (front : List LogEntry) (e shown : LogEntry) (image : List ℕ) (known : Option (List ℕ))
+    → r.entries.items ≡ front ++ e ∷ [] → known ≡ image_of e → CanBe known image → shown ≡ with_image image e → new.entries.items ≡ front ++ shown ∷ []
+    → new.image ≡ r.image → new.number ≡ r.number → new.clock ≡ r.clock → new.turn ≡ r.turn → Shows (told_of m r) image (told_of m new)
+last_shown m r new front e shown image known parts is can with es kept number clock turn =
+    OfEntry front e parts (subst (λ (o : Option (List ℕ)). CanBe o image) is can) (λ j. record {
+      house = m.house;
+      node = m.node;
+      image = kept j;
+      entries = (es ∙ ap (λ (l : LogEntry). front ++ l ∷ []) with) j;
+      number = number j;
+      clock = clock j;
+      turn = (turn j).items;
+    })
 
-    same : begun ≡ last_entry new
-    same j = record {
-      number = sym (number ∙ first) j;
-      clock = sym clock j;
-      image = sym kept j;
-      turn = sym turn j;
-    }
+-- what follows where an image was shown
+pub shown_then : {E : Type 0} {P : Making → Type 0} {Q : Type 0} (result : Result Bool E) → ((m : Making) → IfOk result (λ b. OnTrue b (P m)))
+    → (((m : Making) → P m) → Q) → IfOk result (λ b. OnTrue b Q)
+shown_then (Ok true) all then = then all
+shown_then (Ok false) all then = tt
+shown_then (Err e) all then = tt
 
-    made : HasMade (bodies ++ octets ∷ []) m [] (last_entry new)
-    made = record {
-      news = bodies;
-      first = octets;
-      others = [];
-      begun = begun;
-      parts = refl;
-      are_new = has.0;
-      begins = record {
-        line = line;
-        says = says;
-        body_is = subst (λ (n : ℕ). IsBody octets n 0 (making_text line) (Some m.image)) first is;
-        last_is = refl;
-      };
-      records = subst (λ (z : LastEntry). AreRecords begun [] [] z) same (NoRecord begun);
-    }
+-- ---- skulks
+
+-- the lines of skulks, and one more
+running_more : (lines : List (List ℕ)) (words : List ℕ) → running_text (lines ++ words ∷ []) ≡ running_text lines ++ running_text (words ∷ [])
+running_more [] words = refl
+running_more (l ∷ lines) words =
+    ap (λ (r : List ℕ). (codes "running " ++ (l ++ 10 ∷ [])) ++ r) (running_more lines words)
+    ∙ sym (append_assoc (codes "running " ++ (l ++ 10 ∷ [])) (running_text lines) (running_text (words ∷ [])))
+
+-- one line more of a text was passed over
+pub passed_more : (text rest words line behind : List ℕ) (lines : List (List ℕ)) → text ≡ running_text lines ++ rest → rest ≡ codes "running " ++ words
+    → words ≡ line ++ (10 ∷ behind) → text ≡ running_text (lines ++ line ∷ []) ++ behind
+passed_more text rest words line behind lines is begins parts =
+    is
+    ∙ ap (λ (r : List ℕ). running_text lines ++ r) (begins ∙ ap (λ (w : List ℕ). codes "running " ++ w) (parts ∙ one) ∙ two)
+    ∙ sym (append_assoc (running_text lines) (running_text (line ∷ [])) behind)
+    ∙ ap (λ (r : List ℕ). r ++ behind) (sym (running_more lines line))
+  where
+    one : line ++ (10 ∷ behind) ≡ (line ++ 10 ∷ []) ++ behind
+    one = sym (append_assoc line (10 ∷ []) behind)
+
+    two : codes "running " ++ ((line ++ 10 ∷ []) ++ behind) ≡ running_text (line ∷ []) ++ behind
+    two =
+        sym (append_assoc (codes "running ") (line ++ 10 ∷ []) behind)
+        ∙ ap (λ (r : List ℕ). r ++ behind) (sym (append-nil (codes "running " ++ (line ++ 10 ∷ []))))
 
 -- ---- with the fields of a record
 
 -- what was read with this house
-read_with : (r : LogReader) (o : Option Making) (bodies : List (List ℕ)) → r.made ≡ o → ReadOf o r bodies → HasRead r bodies
-read_with r o bodies made is = record { is = subst (λ (m : Option Making). ReadOf m r bodies) (sym made) is }
+read_with : (r : LogReader) (o : Option Making) (bodies : List (List ℕ)) → r.made ≡ o → HasReadOf o r bodies → HasRead r bodies
+read_with r o bodies made is = record { is = subst (λ (m : Option Making). HasReadOf m r bodies) (sym made) is }
 
 -- a start
 pub took_start : (r new : LogReader) (bodies : List (List ℕ)) (octets image turn : List ℕ) (number clock : ℕ) → HasRead r bodies
     → IsBody octets number clock (codes "start" ++ (10 ∷ turn)) (Some image) → is_none r.made ≡ false → number ≡ r.number + 1 → clock ≡ 0
-    → turn ≡ r.turn.items → new.made ≡ r.made → new.number ≡ number → new.clock ≡ 0 → new.image ≡ image → new.turn.items ≡ r.turn.items
+    → turn ≡ r.turn.items → new.made ≡ r.made → new.image ≡ r.image → new.number ≡ number → new.clock ≡ 0 → new.turn.items ≡ r.turn.items
     → new.entries.items ≡ r.entries.items ++ entry.Started image ∷ [] → HasRead new (bodies ++ octets ∷ [])
-took_start r new bodies octets image turn number clock has is some due timed last made numbered timed' kept turned es =
-    read_with new r.made (bodies ++ octets ∷ []) made
-    (start_read r.made r new bodies octets image has.is some (numbered ∙ due) timed' kept turned es
-    (subst (λ (n : ℕ). IsBody octets n 0 (codes "start" ++ (10 ∷ r.turn.items)) (Some image)) due
-    (subst (λ (k : ℕ). IsBody octets number k (codes "start" ++ (10 ∷ r.turn.items)) (Some image)) timed
-    (subst (λ (t : List ℕ). IsBody octets number clock (codes "start" ++ (10 ∷ t)) (Some image)) last is))))
+took_start r new bodies octets image turn number clock has is some due timed last made kept numbered timed' turned es =
+    read_with new r.made (bodies ++ octets ∷ []) made (more_read r.made r new bodies octets has.is some one)
+  where
+    body : IsBody octets (r.number + 1) 0 (codes "start" ++ (10 ∷ r.turn.items)) (Some image)
+    body =
+        subst (λ (n : ℕ). IsBody octets n 0 (codes "start" ++ (10 ∷ r.turn.items)) (Some image)) due
+        (subst (λ (k : ℕ). IsBody octets number k (codes "start" ++ (10 ∷ r.turn.items)) (Some image)) timed
+        (subst (λ (t : List ℕ). IsBody octets number clock (codes "start" ++ (10 ∷ t)) (Some image)) last is))
+
+    one : (m : Making) → Follows (told_of m r) octets (told_of m new)
+    one m = StartRecord image body (λ j. record {
+      house = m.house;
+      node = m.node;
+      image = kept j;
+      entries = es j;
+      number = (numbered ∙ due) j;
+      clock = timed' j;
+      turn = turned j;
+    })
+
+-- the text of such a record, by its line
+segment_says : (text rest turn : List ℕ) (number : ℕ) (running : List (List ℕ)) → text ≡ (codes "segment " ++ (decimal number ++ 10 ∷ [])) ++ rest
+    → rest ≡ running_text running ++ turn → text ≡ codes "segment " ++ (decimal number ++ (10 ∷ (running_text running ++ turn)))
+segment_says text rest turn number running is says =
+    is
+    ∙ ap (λ (r : List ℕ). (codes "segment " ++ (decimal number ++ 10 ∷ [])) ++ r) says
+    ∙ append_assoc (codes "segment ") (decimal number ++ 10 ∷ []) (running_text running ++ turn)
+    ∙ ap (λ (l : List ℕ). codes "segment " ++ l) (append_assoc (decimal number) (10 ∷ []) (running_text running ++ turn))
 
 -- the first record of a segment in the middle of a process
-pub took_segment : (r : LogReader) (bodies : List (List ℕ)) (octets image text : List ℕ) (number clock : ℕ) → HasRead r bodies
-    → IsBody octets number clock text (Some image) → is_none r.made ≡ false → number ≡ r.number → clock ≡ r.clock → image ≡ r.image
-    → codes "segment " ++ (decimal r.number ++ (10 ∷ r.turn.items)) ≡ text → HasRead r (bodies ++ octets ∷ [])
-took_segment r bodies octets image text number clock has is some due timed same says =
-    read_with r r.made (bodies ++ octets ∷ []) refl
-    (segment_read r.made r bodies octets image has.is some same
-    (subst (λ (n : ℕ). IsBody octets n r.clock (codes "segment " ++ (decimal r.number ++ (10 ∷ r.turn.items))) (Some image)) due
-    (subst (λ (k : ℕ). IsBody octets number k (codes "segment " ++ (decimal r.number ++ (10 ∷ r.turn.items))) (Some image)) timed
-    (subst (λ (t : List ℕ). IsBody octets number clock t (Some image)) (sym says) is))))
+pub took_segment : (r new : LogReader) (bodies : List (List ℕ)) (octets image text line rest turn : List ℕ) (number clock : ℕ) (running : List (List ℕ)) → HasRead r bodies
+    → IsBody octets number clock text (Some image) → is_none r.made ≡ false → number ≡ r.number → clock ≡ r.clock
+    → line ≡ codes "segment " ++ (decimal r.number ++ 10 ∷ []) → text ≡ line ++ rest → rest ≡ running_text running ++ turn → turn ≡ r.turn.items
+    → new.made ≡ r.made → ((m : Making) → Shows (told_of m r) image (told_of m new)) → HasRead new (bodies ++ octets ∷ [])
+took_segment r new bodies octets image text line rest turn number clock running has is some due timed begins parts runs same made shows =
+    read_with new r.made (bodies ++ octets ∷ []) made
+    (more_read r.made r new bodies octets has.is some (λ m. SegmentRecord image (record { running = running; is = body }) (shows m)))
+  where
+    whole : List ℕ
+    whole = codes "segment " ++ (decimal r.number ++ (10 ∷ (running_text running ++ r.turn.items)))
+
+    says : text ≡ whole
+    says =
+        segment_says text rest turn r.number running (parts ∙ ap (λ (l : List ℕ). l ++ rest) begins) runs
+        ∙ ap (λ (t : List ℕ). codes "segment " ++ (decimal r.number ++ (10 ∷ (running_text running ++ t)))) same
+
+    body : IsBody octets r.number r.clock whole (Some image)
+    body =
+        subst (λ (n : ℕ). IsBody octets n r.clock whole (Some image)) due
+        (subst (λ (k : ℕ). IsBody octets number k whole (Some image)) timed
+        (subst (λ (t : List ℕ). IsBody octets number clock t (Some image)) says is))
 
 -- a turn
-pub took_turn : (r new : LogReader) (bodies : List (List ℕ)) (octets image text : List ℕ) (number clock : ℕ) (parts : TurnText) (t : LoggedTurn)
-    → HasRead r bodies → IsBody octets number clock text (Some image) → IsTurnBy parts clock image t → is_none r.made ≡ false → number ≡ r.number + 1
-    → text ≡ turn_text parts.line.now parts.posts.items parts.answer.now → new.made ≡ r.made → new.number ≡ number → new.clock ≡ clock
-    → new.image ≡ image → new.turn.items ≡ text → new.entries.items ≡ r.entries.items ++ entry.Turned t ∷ []
-    → HasRead new (bodies ++ octets ∷ [])
-took_turn r new bodies octets image text number clock parts t has is by some due says made numbered timed kept turned es =
-    read_with new r.made (bodies ++ octets ∷ []) made
-    (turn_read r.made r new bodies octets parts.line.now t has.is some (record { says = by.says }) (numbered ∙ due) (timed ∙ sym by.clock_is)
-    (kept ∙ sym by.image_is) (turned ∙ same) es
-    (subst (λ (n : ℕ). IsBody octets n t.clock (turn_text parts.line.now t.posts.items t.answer) (Some t.image)) due
-    (subst (λ (k : ℕ). IsBody octets number k (turn_text parts.line.now t.posts.items t.answer) (Some t.image)) (sym by.clock_is)
-    (subst (λ (x : List ℕ). IsBody octets number clock x (Some t.image)) same
-    (subst (λ (i : List ℕ). IsBody octets number clock text (Some i)) (sym by.image_is) is)))))
+pub took_turn : (r new : LogReader) (bodies : List (List ℕ)) (octets text : List ℕ) (number clock : ℕ) (parts : TurnText) (t : LoggedTurn)
+    → HasRead r bodies → IsBody octets number clock text None → IsTurnBy parts clock t → is_none r.made ≡ false → number ≡ r.number + 1
+    → text ≡ turn_text parts.line.now parts.posts.items parts.answer.now → new.made ≡ r.made → new.image ≡ r.image → new.number ≡ number
+    → new.clock ≡ clock → new.turn.items ≡ text → new.entries.items ≡ r.entries.items ++ entry.Turned t ∷ [] → HasRead new (bodies ++ octets ∷ [])
+took_turn r new bodies octets text number clock parts t has is by some due says made kept numbered timed turned es =
+    read_with new r.made (bodies ++ octets ∷ []) made (more_read r.made r new bodies octets has.is some one)
   where
-    same : text ≡ turn_text parts.line.now t.posts.items t.answer
-    same = says ∙ (λ j. turn_text parts.line.now (sym by.posts j).items (sym by.answer j))
+    line : List ℕ
+    line = parts.line.now
+
+    same : text ≡ turn_text line t.posts.items t.answer
+    same = says ∙ (λ j. turn_text line (sym by.posts j).items (sym by.answer j))
+
+    body : IsBody octets (r.number + 1) t.clock (turn_text line t.posts.items t.answer) None
+    body =
+        subst (λ (n : ℕ). IsBody octets n t.clock (turn_text line t.posts.items t.answer) None) due
+        (subst (λ (k : ℕ). IsBody octets number k (turn_text line t.posts.items t.answer) None) (sym by.clock_is)
+        (subst (λ (x : List ℕ). IsBody octets number clock x None) same is))
+
+    one : (m : Making) → Follows (told_of m r) octets (told_of m new)
+    one m = TurnRecord line t (record { says = by.says }) (record { is = body; bare = by.bare }) (λ j. record {
+      house = m.house;
+      node = m.node;
+      image = kept j;
+      entries = es j;
+      number = (numbered ∙ due) j;
+      clock = (timed ∙ sym by.clock_is) j;
+      turn = (turned ∙ same) j;
+    })
 
 -- the turn that makes the house
-pub took_making : (r new : LogReader) (bodies : List (List ℕ)) (octets image text : List ℕ) (number clock : ℕ) (parts : TurnText) (m : Making)
-    → HasRead r bodies → IsBody octets number clock text (Some image) → IsMadeBy parts image m → r.made ≡ None → number ≡ r.number + 1 → clock ≡ 0
-    → text ≡ turn_text parts.line.now parts.posts.items parts.answer.now → new.made ≡ Some m → new.number ≡ number → new.clock ≡ 0
-    → new.image ≡ image → new.turn.items ≡ text → new.entries.items ≡ r.entries.items → HasRead new (bodies ++ octets ∷ [])
-took_making r new bodies octets image text number clock parts m has is by none due timed says made numbered timed' kept turned es =
+pub took_making : (r new : LogReader) (bodies : List (List ℕ)) (octets text : List ℕ) (number clock : ℕ) (parts : TurnText) (m : Making)
+    → HasRead r bodies → IsBody octets number clock text None → IsMadeBy parts m → r.made ≡ None → number ≡ r.number + 1 → clock ≡ 0
+    → text ≡ turn_text parts.line.now parts.posts.items parts.answer.now → new.made ≡ Some m → new.image ≡ None → new.number ≡ number
+    → new.clock ≡ 0 → new.turn.items ≡ text → new.entries.items ≡ r.entries.items → HasRead new (bodies ++ octets ∷ [])
+took_making r new bodies octets text number clock parts m has is by none due timed says made bare numbered timed' turned es =
     read_with new (Some m) (bodies ++ octets ∷ []) made
-    (making_read r.made r new bodies octets parts.line.now m has.is none by.says (numbered ∙ due) timed' (kept ∙ sym by.image_is) (turned ∙ same) es
-    (subst (λ (n : ℕ). IsBody octets n 0 (making_text parts.line.now) (Some m.image)) due
-    (subst (λ (k : ℕ). IsBody octets number k (making_text parts.line.now) (Some m.image)) timed
-    (subst (λ (x : List ℕ). IsBody octets number clock x (Some m.image)) same
-    (subst (λ (i : List ℕ). IsBody octets number clock text (Some i)) (sym by.image_is) is)))))
+    (making_read r.made r new bodies octets parts.line.now m has.is none by.says (numbered ∙ due) timed' (turned ∙ same) es bare body)
   where
     same : text ≡ making_text parts.line.now
     same = says ∙ (λ j. turn_text parts.line.now (by.posts j) (by.answer j))
+
+    body : IsBody octets (r.number + 1) 0 (making_text parts.line.now) None
+    body =
+        subst (λ (n : ℕ). IsBody octets n 0 (making_text parts.line.now) None) due
+        (subst (λ (k : ℕ). IsBody octets number k (making_text parts.line.now) None) timed
+        (subst (λ (x : List ℕ). IsBody octets number clock x None) same is))
+
+-- ---- faults
+
+-- what a fault implies
+pub fault_then : {F : Type 0} {P Q : F → Type 0} (e : AllocOr F) → ((f : F) → Q f → P f) → OfFault e Q → OfFault e P
+fault_then (Fault f) then is = then f is
+fault_then OutOfMemory then is = tt
+
+-- one that is passed on
+pub fault_passed : {U F : Type 0} {P Q : F → Type 0} (r : Result U (AllocOr F)) (e : AllocOr F) → IsErr r × IsErrAnd r (λ y. y ≡ e)
+    → ((f : F) → Q f → P f) → OfFault e Q → IfFault r P
+fault_passed (Ok x) e is then q = tt
+fault_passed {U} {F} {P} {Q} (Err y) e is then q = subst (λ (z : AllocOr F). OfFault z P) (sym is.1) (fault_then e then q)
+
+-- what two facts of a fault imply
+two_then : {F : Type 0} {P Q R : F → Type 0} (e : AllocOr F) → ((f : F) → Q f → R f → P f) → OfFault e Q → OfFault e R → OfFault e P
+two_then (Fault f) then q r = then f q r
+two_then OutOfMemory then q r = tt
+
+-- of one that is passed on
+pub two_passed : {U F : Type 0} {P Q R : F → Type 0} (r : Result U (AllocOr F)) (e : AllocOr F) → IsErr r × IsErrAnd r (λ y. y ≡ e)
+    → ((f : F) → Q f → R f → P f) → OfFault e Q → OfFault e R → IfFault r P
+two_passed (Ok x) e is then q s = tt
+two_passed {U} {F} {P} {Q} {R} (Err y) e is then q s = subst (λ (z : AllocOr F). OfFault z P) (sym is.1) (two_then e then q s)
+
+-- that of a call
+pub fault_called : {U F : Type 0} {P Q : F → Type 0} (r : Result U (AllocOr F)) → ((f : F) → Q f → P f) → IfFault r Q → IfFault r P
+fault_called (Ok x) then q = tt
+fault_called (Err e) then q = fault_then e then q
 
 -- ---- records, one after the other
 
@@ -224,11 +282,140 @@ pub read_as : (r : LogReader) (bodies : List (List ℕ)) (octets others : List �
     → HasRead r (bodies ++ others ∷ [])
 read_as r bodies octets others has same = subst (λ (o : List ℕ). HasRead r (bodies ++ o ∷ [])) same has
 
--- the records at the front of octets were read, and the others follow
-pub record HasReadSome (octets rest : List ℕ) (bodies : List (List ℕ)) (r : LogReader) : Type 0 where
+-- the records at the front of octets were read, of which the next one has the place after this in
+-- their segment, and the others follow
+pub record HasReadSome (octets rest : List ℕ) (bodies : List (List ℕ)) (place : ℕ) (r : LogReader) : Type 0 where
   pub done : List (List ℕ)
   pub split : map body_in (images octets) ≡ done ++ map body_in (images rest)
   pub read : HasRead r (bodies ++ done)
+  pub next : place ≡ length done + 1
+
+-- nothing was read yet
+pub read_none : (r : LogReader) (bodies : List (List ℕ)) (octets : List ℕ) → HasRead r bodies → HasReadSome octets octets bodies 1 r
+read_none r bodies octets has = record {
+  done = [];
+  split = refl;
+  read = subst (HasRead r) (sym (append-nil bodies)) has;
+  next = refl;
+}
+
+-- one record more was read
+pub read_one : (old new : LogReader) (bodies : List (List ℕ)) (octets rest first behind : List ℕ) (place : ℕ) (has : HasReadSome octets rest bodies place old)
+    → images rest ≡ first ∷ images behind → HasRead new ((bodies ++ has.done) ++ body_in first ∷ []) → HasReadSome octets behind bodies (place + 1) new
+read_one old new bodies octets rest first behind place has is read = record {
+  done = has.done ++ body_in first ∷ [];
+  split =
+      has.split
+      ∙ ap (λ (l : List (List ℕ)). has.done ++ map body_in l) is
+      ∙ sym (append_assoc has.done (body_in first ∷ []) (map body_in (images behind)));
+  read = subst (HasRead new) (append_assoc bodies has.done (body_in first ∷ [])) read;
+  next = (let before = has.next in grind (arith, before, common_steps));
+}
+
+-- some records were read
+pub read_some : (r : LogReader) (bodies : List (List ℕ)) (octets rest : List ℕ) (place next : ℕ) → HasReadSome octets rest bodies place r → next ≡ place + 1
+    → HasReadPart octets bodies next r
+read_some r bodies octets rest place next has is = record {
+  front = has.done;
+  others = map body_in (images rest);
+  parts = has.split;
+  read = has.read;
+  next = (let before = has.next in omega (arith, before, is));
+}
+
+-- some records were read, and the next one has a fault
+pub read_until : (old new : LogReader) (number : ℕ) (bodies : List (List ℕ)) (octets rest : List ℕ) (place next : ℕ) (f : LogFault)
+    (has : HasReadSome octets rest bodies place old) → next ≡ place + 1 → HasRead new (bodies ++ has.done) → IsOfRecord number next f
+    → StopsAt number octets bodies f new
+read_until old new number bodies octets rest place next f has is read of = record {
+  place = next;
+  part = record {
+    front = has.done;
+    others = map body_in (images rest);
+    parts = has.split;
+    read = read;
+    next = (let before = has.next in omega (arith, before, is));
+  };
+  of = of;
+}
+
+-- ---- faults of records
+
+-- a fault of a record
+of_record : (number place count : ℕ) (octets : List ℕ) (f : LogFault) → IsOfRecord number place f → place ≡ count + 2 → IsFaultOf number octets count f
+of_record number place count octets (why.OtherVersion n) is next = absurd is
+of_record number place count octets (why.Damaged n p) is next = absurd is
+of_record number place count octets (why.NotNext n) is next = absurd is
+of_record number place count octets (why.BadRecord n p) is next = record { segment = is.0; place = is.1 ∙ next; damage = λ no. absurd no }
+of_record number place count octets (why.NotDue n p entry due) is next = record { segment = is.0; place = is.1 ∙ next; damage = λ no. absurd no }
+
+-- records after the head of a segment, up to one with a fault
+pub read_behind : (r : LogReader) (number : ℕ) (bodies : List (List ℕ)) (head octets rest : List ℕ) (f : LogFault) → images octets ≡ head ∷ images rest
+    → StopsAt number rest bodies f r → ReadsFront number bodies octets f r
+read_behind r number bodies head octets rest f is stops = record {
+  front = stops.part.front;
+  others = stops.part.others;
+  parts = ap (λ (l : List (List ℕ)). map body_in (drop 1 l)) is ∙ stops.part.parts;
+  read = stops.part.read;
+  why = of_record number stops.place (length stops.part.front) octets f stops.of stops.part.next;
+}
+
+-- records after the head of a segment, up to one that is damaged
+pub read_damaged : (r : LogReader) (number : ℕ) (bodies : List (List ℕ)) (head octets rest : List ℕ) (place : ℕ) → images octets ≡ head ∷ images rest
+    → HasReadPart rest bodies place r → (IsSegment (head_of number []) octets → ⊥) → ReadsFront number bodies octets (why.Damaged number place) r
+read_damaged r number bodies head octets rest place is part none = record {
+  front = part.front;
+  others = part.others;
+  parts = ap (λ (l : List (List ℕ)). map body_in (drop 1 l)) is ∙ part.parts;
+  read = part.read;
+  why = record { segment = refl; place = inl part.next; damage = λ yes. none };
+}
+
+-- no record of a segment was read
+pub front_none : (r : LogReader) (number : ℕ) (bodies : List (List ℕ)) (octets : List ℕ) (f : LogFault) → HasRead r bodies → IsFaultOf number octets 0 f
+    → ReadsFront number bodies octets f r
+front_none r number bodies octets f has is = record {
+  front = [];
+  others = map body_in (drop 1 (images octets));
+  parts = refl;
+  read = subst (HasRead r) (sym (append-nil bodies)) has;
+  why = is;
+}
+
+-- its head is damaged
+pub head_damaged : (r : LogReader) (number : ℕ) (bodies : List (List ℕ)) (octets : List ℕ) → HasRead r bodies → (IsSegment (head_of number []) octets → ⊥)
+    → ReadsFront number bodies octets (why.Damaged number 1) r
+head_damaged r number bodies octets has none =
+    front_none r number bodies octets (why.Damaged number 1) has (record { segment = refl; place = inr (refl, refl); damage = λ yes. none })
+
+-- it is of another version
+pub head_other : (r : LogReader) (number : ℕ) (bodies : List (List ℕ)) (octets : List ℕ) → HasRead r bodies → (IsSegment (head_of number []) octets → ⊥)
+    → ReadsFront number bodies octets (why.OtherVersion number) r
+head_other r number bodies octets has none =
+    front_none r number bodies octets (why.OtherVersion number) has (record { segment = refl; place = refl; damage = λ yes. none })
+
+-- it does not follow
+pub head_next : (r : LogReader) (number : ℕ) (bodies : List (List ℕ)) (octets : List ℕ) → HasRead r bodies → ReadsFront number bodies octets (why.NotNext number) r
+head_next r number bodies octets has =
+    front_none r number bodies octets (why.NotNext number) has (record { segment = refl; place = refl; damage = λ no. absurd no })
+
+-- what was read does not know of the digest and the number of the segment
+pub read_kept : (read new : LogReader) (bodies : List (List ℕ)) → new.made ≡ read.made → new.image ≡ read.image → new.entries.items ≡ read.entries.items
+    → new.number ≡ read.number → new.clock ≡ read.clock → new.turn ≡ read.turn → HasRead read bodies → HasRead new bodies
+read_kept read new bodies made image es number clock turn has =
+    read_with new read.made bodies made (by read.made has.is)
+  where
+    by : (o : Option Making) → HasReadOf o read bodies → HasReadOf o new bodies
+    by None is = (is.0, number ∙ is.1, es ∙ is.2)
+    by (Some m) is = subst (IsLogOf bodies) (λ j. record {
+      house = m.house;
+      node = m.node;
+      image = sym image j;
+      entries = sym es j;
+      number = sym number j;
+      clock = sym clock j;
+      turn = (sym turn j).items;
+    }) is
 
 -- a segment
 pub segment_done : (old read new : LogReader) (bodies : List (List ℕ)) (octets title last : List ℕ) (number : ℕ) → ReadsRecords bodies octets old.digest read

@@ -2,4 +2,5 @@ pub mod Orders
 pub mod TurnTexts
 pub mod Records
 pub mod Logs
+pub mod Faults
 pub mod Reads

@@ -8,7 +8,7 @@ use Rattle.house_lines.specs.declared.line.HouseLine.TheVariants as asks
 use Rattle.house_segments.specs.Reading.{IsLast}
 use Rattle.house_segments.specs.declared.chain.TheConstants.{DIGEST}
 use Rattle.house_logs.specs.declared.log.HouseLog.{HouseLog}
-use Rattle.house_logs.specs.Records.{AreRecords, LastEntry}
+use Rattle.house_logs.specs.Records.{AreRecords, Told}
 use Rattle.house_logs.specs.TurnTexts.{turn_text}
 
 -- ---- entries
@@ -21,28 +21,39 @@ IsNew body = IsBody body 0 0 (codes "new" ++ 10 ∷ []) None
 abbrev pub making_text : (line : List ℕ) → List ℕ
 making_text line = turn_text line [] (codes "ok")
 
--- a house is made by the record with this body, which is entry 1; and the last entry then
-pub record Begins (body : List ℕ) (log : HouseLog) (last : LastEntry) : Type 0 where
+-- a house is made by the record with this body, which is entry 1 and shows no image
+pub record Begins (body : List ℕ) (s : Told) : Type 0 where
   pub line : List ℕ
-  pub says : said_in (words_of line) ≡ Ok (Some (asks.House log.house log.node))
-  pub body_is : IsBody body 1 0 (making_text line) (Some log.image)
-  pub last_is : last ≡ record { number = 1; clock = 0; image = log.image; turn = making_text line }
+  pub says : said_in (words_of line) ≡ Ok (Some (asks.House s.house s.node))
+  pub body_is : IsBody body 1 0 (making_text line) None
+  pub bare : s.image ≡ None
+  pub alone : s.entries ≡ []
+  pub number : s.number ≡ 1
+  pub clock : s.clock ≡ 0
+  pub turn : s.turn ≡ making_text line
 
 -- the bodies of records are those of a house: a record for each process before it was made, the one
--- that made it, and its entries after that
-pub record IsLogOf (bodies : List (List ℕ)) (log : HouseLog) (last : LastEntry) : Type 0 where
+-- that made it, and those of its entries after that
+pub record IsLogOf (bodies : List (List ℕ)) (s : Told) : Type 0 where
   pub news : List (List ℕ)
   pub first : List ℕ
   pub others : List (List ℕ)
-  pub begun : LastEntry
+  pub begun : Told
   pub parts : bodies ≡ news ++ first ∷ others
   pub are_new : All IsNew news
-  pub begins : Begins first log begun
-  pub records : AreRecords begun others log.entries.items last
+  pub begins : Begins first begun
+  pub records : AreRecords begun others s
+
+-- what records say is this journal
+pub record IsToldOf (log : HouseLog) (s : Told) : Type 0 where
+  pub house : s.house ≡ log.house
+  pub node : s.node ≡ log.node
+  pub image : s.image ≡ log.image
+  pub entries : s.entries ≡ log.entries.items
 
 -- the journal that records with these bodies are
 abbrev pub IsJournalOf : (bodies : List (List ℕ)) → HouseLog → Type 0
-IsJournalOf bodies log = (last : LastEntry) × IsLogOf bodies log last
+IsJournalOf bodies log = (s : Told) × IsLogOf bodies s × IsToldOf log s
 
 -- ---- segments
 

@@ -1,51 +1,44 @@
 -- What a reader of a journal has read.
-use Rattle.std.specs.Prelude.{◌≡◌, ℕ, ◌+◌, List, [], ◌∷◌, ◌++◌, All, map, Option, Some, None, Ok, codes, option_copied}
+use Rattle.std.specs.Prelude.{◌≡◌, ℕ, ◌+◌, List, [], ◌∷◌, ◌++◌, All, length, map, drop, Option, Some, None, Result, Ok, Err, codes, option_copied}
+use Rattle.cds_stamps.specs.declared.alloc_or.AllocOr.{AllocOr}
+use Rattle.cds_stamps.specs.declared.alloc_or.AllocOr.TheVariants.{Fault, OutOfMemory}
 use Rattle.cell_script.specs.Words.{words_of}
 use Rattle.house_entries.specs.Bodies.{IsBody}
 use Rattle.house_entries.specs.declared.body.Body.{Body}
 use Rattle.house_journal.specs.JournalRecords.{images}
 use Rattle.house_lines.specs.LineRows.{said_in}
 use Rattle.house_lines.specs.declared.line.HouseLine.TheVariants as asks
-use Rattle.house_logs.specs.declared.log.LogEntry.{LogEntry}
+use Rattle.house_logs.specs.declared.fault.LogFault.{LogFault}
 use Rattle.house_logs.specs.declared.log.LoggedTurn.{LoggedTurn}
 use Rattle.house_logs.specs.declared.log.Making.{Making}
 use Rattle.house_logs.specs.declared.reader.LogReader.{LogReader}
 use Rattle.house_logs.specs.declared.text.TurnText.{TurnText}
-use Rattle.house_logs.specs.Logs.{IsNew, IsSegment, before_in, body_in, making_text}
+use Rattle.house_logs.specs.Faults.{IsFaultOf, IsOfRecord}
+use Rattle.house_logs.specs.Logs.{IsLogOf, IsNew, IsSegment, before_in, body_in}
 use Rattle.house_logs.specs.Orders.{line_of}
-use Rattle.house_logs.specs.Records.{AreRecords, LastEntry}
+use Rattle.house_logs.specs.Records.{Told}
 
--- the last entry that was read
-abbrev pub last_entry : LogReader → LastEntry
-last_entry r = record { number = r.number; clock = r.clock; image = r.image; turn = r.turn.items }
+-- what was read of the house that was made
+abbrev pub told_of : Making → LogReader → Told
+told_of m r =
+    record {
+      house = m.house;
+      node = m.node;
+      image = r.image;
+      entries = r.entries.items;
+      number = r.number;
+      clock = r.clock;
+      turn = r.turn.items;
+    }
 
--- a house that was made by the record with this body, which is entry 1
-pub record BeginsAs (body : List ℕ) (m : Making) (last : LastEntry) : Type 0 where
-  pub line : List ℕ
-  pub says : said_in (words_of line) ≡ Ok (Some (asks.House m.house m.node))
-  pub body_is : IsBody body 1 0 (making_text line) (Some m.image)
-  pub last_is : last ≡ record { number = 1; clock = 0; image = m.image; turn = making_text line }
-
--- the bodies of records are those of the house that was made, and of these entries
-pub record HasMade (bodies : List (List ℕ)) (m : Making) (es : List LogEntry) (last : LastEntry)
-    : Type 0 where
-  pub news : List (List ℕ)
-  pub first : List ℕ
-  pub others : List (List ℕ)
-  pub begun : LastEntry
-  pub parts : bodies ≡ news ++ first ∷ others
-  pub are_new : All IsNew news
-  pub begins : BeginsAs first m begun
-  pub records : AreRecords begun others es last
-
--- the bodies of records are those of the house that was made, if one was, and of these entries
-abbrev pub HasReadOf : Option Making → LastEntry → List LogEntry → (bodies : List (List ℕ)) → Type 0
-HasReadOf None last es bodies = All IsNew bodies × (last.number ≡ 0) × (es ≡ [])
-HasReadOf (Some m) last es bodies = HasMade bodies m es last
+-- the bodies of records are those of the house that was made, if one was
+abbrev pub HasReadOf : Option Making → LogReader → (bodies : List (List ℕ)) → Type 0
+HasReadOf None r bodies = All IsNew bodies × (r.number ≡ 0) × (r.entries.items ≡ [])
+HasReadOf (Some m) r bodies = IsLogOf bodies (told_of m r)
 
 -- the records with these bodies were read, and are those of the house
 pub record HasRead (r : LogReader) (bodies : List (List ℕ)) : Type 0 where
-  pub is : HasReadOf r.made (last_entry r) r.entries.items bodies
+  pub is : HasReadOf r.made r bodies
 
 -- after records with these bodies the octets of the next segment were read
 pub record ReadsOn (bodies : List (List ℕ)) (octets : List ℕ) (old new : LogReader) : Type 0 where
@@ -62,21 +55,57 @@ pub record ReadsRecords (bodies : List (List ℕ)) (octets before : List ℕ) (n
   pub follows : before_in head ≡ before
   pub read : HasRead new (bodies ++ map body_in others)
 
+-- the first records of the segment with this number after its head were read, and are those of the
+-- house; the next one has this fault, or the head
+pub record ReadsFront (number : ℕ) (bodies : List (List ℕ)) (octets : List ℕ) (fault : LogFault)
+    (new : LogReader) : Type 0 where
+  pub front : List (List ℕ)
+  pub others : List (List ℕ)
+  pub parts : map body_in (drop 1 (images octets)) ≡ front ++ others
+  pub read : HasRead new (bodies ++ front)
+  pub why : IsFaultOf number octets (length front) fault
+
+-- some records at the front of octets were read, and are those of the house; the next one has this
+-- place in their segment
+pub record HasReadPart (octets : List ℕ) (bodies : List (List ℕ)) (place : ℕ) (new : LogReader)
+    : Type 0 where
+  pub front : List (List ℕ)
+  pub others : List (List ℕ)
+  pub parts : map body_in (images octets) ≡ front ++ others
+  pub read : HasRead new (bodies ++ front)
+  pub next : place ≡ length front + 2
+
+-- some records at the front of octets were read, and the next one has this fault
+pub record StopsAt (number : ℕ) (octets : List ℕ) (bodies : List (List ℕ)) (fault : LogFault)
+    (new : LogReader) : Type 0 where
+  pub place : ℕ
+  pub part : HasReadPart octets bodies place new
+  pub of : IsOfRecord number place fault
+
+-- this holds of the fault, if it is one
+abbrev pub OfFault : {F : Type 0} → AllocOr F → (holds : F → Type 0) → Type 0
+OfFault (Fault fault) holds = holds fault
+OfFault OutOfMemory holds = Unit {0}
+
+-- of a call that ended by a fault
+abbrev pub IfFault : {T F : Type 0} → Result T (AllocOr F) → (holds : F → Type 0) → Type 0
+IfFault (Ok x) holds = Unit {0}
+IfFault (Err e) holds = OfFault e holds
+
 -- the octets of a record are these fields
 abbrev pub IsDue : List ℕ → Body → Type 0
 IsDue octets body = IsBody octets body.number body.clock body.text.now (option_copied body.image)
 
--- a turn with the parts of a text, at a clock, and with this image
-pub record IsTurnBy (parts : TurnText) (clock : ℕ) (image : List ℕ) (t : LoggedTurn) : Type 0 where
+-- a turn with the parts of a text, at a clock
+pub record IsTurnBy (parts : TurnText) (clock : ℕ) (t : LoggedTurn) : Type 0 where
   pub says : said_in (words_of parts.line.now) ≡ Ok (Some (line_of t.order))
   pub clock_is : t.clock ≡ clock
   pub posts : t.posts ≡ parts.posts
   pub answer : t.answer ≡ parts.answer.now
-  pub image_is : t.image ≡ image
+  pub bare : t.image ≡ None
 
--- a house that the parts of a text make, with this image
-pub record IsMadeBy (parts : TurnText) (image : List ℕ) (m : Making) : Type 0 where
+-- a house that the parts of a text make
+pub record IsMadeBy (parts : TurnText) (m : Making) : Type 0 where
   pub says : said_in (words_of parts.line.now) ≡ Ok (Some (asks.House m.house m.node))
   pub posts : parts.posts.items ≡ []
   pub answer : parts.answer.now ≡ codes "ok"
-  pub image_is : m.image ≡ image

@@ -1,38 +1,42 @@
 // The journal of a house, read segment by segment.
-ghost use Rattle.std.specs.Prelude.{◌≡◌, ◌+◌, ◌++◌, ◌∷◌, [], ℕ, List, false, Ok, Some, None, All, replicate, IfOk, IfSome, OnOk, MatchOption, codes, decimal, is_none, map};
-ghost use Rattle.std.specs.Bool.{OnTrue};
+ghost use Rattle.std.specs.Prelude.{◌≡◌, ◌<◌, ◌+◌, ◌^◌, ◌++◌, ◌∷◌, [], ℕ, List, false, Ok, Some, None, All, replicate, IfOk, IfSome, OnOk, MatchOption, codes, decimal, is_none, map, option_copied};
+ghost use Rattle.std.specs.Bool.{OnFalse, OnTrue};
 ghost use Rattle.cell_script.specs.Words.{words_of};
-ghost use Rattle.house_entries.specs.Bodies.{IsBody};
+ghost use Rattle.house_entries.specs.Bodies.{IsBody, head_of};
 ghost use Rattle.house_journal.specs.JournalRecords.{images};
 ghost use Rattle.house_lines.specs.LineRows.{said_in};
+ghost use Rattle.house_segments.specs.Reading.{IsSegment};
+ghost use Rattle.house_logs.specs.Faults.{IsOfRecord};
 ghost use Rattle.house_logs.specs.Logs.{IsJournalOf, IsNew, before_in, body_in};
-ghost use Rattle.house_logs.specs.Reads.{HasRead, IsDue, IsMadeBy, IsTurnBy, ReadsOn, ReadsRecords};
+ghost use Rattle.house_logs.specs.declared.log.Making.{Making as Making'};
+ghost use Rattle.house_logs.specs.Reads.{HasRead, HasReadPart, IfFault, IsDue, IsMadeBy, IsTurnBy, OfFault, ReadsFront, ReadsOn, ReadsRecords, StopsAt, told_of};
+ghost use Rattle.house_logs.specs.Records.{CanBe, Shows};
 ghost use Rattle.house_logs.specs.TurnTexts.{turn_text};
 
 use crate::fault::LogFault;
 use crate::log::{HouseLog, LogEntry, LoggedTurn, Making};
 use crate::order::{LoggedOrder, order_in};
-use crate::text::{TurnText, turn_in};
+use crate::text::{TurnText, after_running, turn_in, without};
 use cds_stamps::AllocOr;
 use cell_script::Octets;
 use house_entries::{Body, head_octets, read_body};
 use house_lines::{HouseLine, parse_house_line};
-use house_segments::{DIGEST, first_record, last_record};
+use house_segments::{DIGEST, first_record, last_record, unsealed};
 use script_answers::push_number;
 use std::alloc::{AllocError, Global};
 
 /// The journal of a house as far as it was read: how many segments, and the digest of the last
-/// record; who the house is, if it was made, and its entries after that; the number, the clock and
-/// the image of the last entry, and the text of the last turn.
+/// record; who the house is, if it was made, the image with which it was, and its entries after
+/// that; the number and the clock of the last entry, and the text of the last turn.
 #[derive(Drop)]
 pub struct LogReader {
     segments: u64,
     digest: [u8; DIGEST],
     made: Option<Making>,
+    image: Option<Octets>,
     entries: Vec<LogEntry>,
     number: u64,
     clock: u64,
-    image: Octets,
     turn: Vec<u8>,
 }
 
@@ -41,6 +45,16 @@ fn octets_of(alloc: Global, octets: &[u8]) -> Result<Octets, AllocError>
     ensures { IfOk result (λ o. o ≡ octets.now) }
 {
     Ok(Octets::of(Vec::from_slice(alloc, octets)?))
+}
+
+// Whether no image is known, or this one.
+fn can_be(known: Option<&Octets>, image: &[u8]) -> bool
+    ensures { OnTrue result (CanBe (option_copied known.entry) image.now) }
+{
+    match known {
+        Some(other) => other.list() == image,
+        None => true,
+    }
 }
 
 // What a line says, if it says something.
@@ -63,28 +77,33 @@ fn kept_line(alloc: Global, line: &[u8], order: &LoggedOrder) -> Result<Octets, 
     }
 }
 
-// What a text is after these octets, if it begins with them.
-fn without<'a>(front: &[u8], text: &'a [u8]) -> Option<&'a [u8]>
-    ensures { IfSome result (λ rest. text.now ≡ front.now ++ rest.now) }
-{
-    if text.len() < front.len() {
+// The first octets of each head, and how many these and a version are.
+const HEAD: &[u8] = b"cdshouse journal ";
+
+const VERSION_END: usize = 19;
+
+// Whether a head begins as one does, and not as this title.
+fn is_of_other_version(head: &[u8], title: &[u8]) -> bool {
+    head.starts_with(HEAD) && !title.starts_with(&head[..head.len().min(VERSION_END)])
+}
+
+// The digest of a head: this title, a digest before it, and the sum of both.
+fn head_digest(title: &[u8], head: &[u8]) -> Option<[u8; DIGEST]> {
+    if head.len() < 2 * DIGEST {
         return None;
     }
-    let (begin, rest) = text.split_at(front.len());
-    if begin != front {
+    let (text, ends) = head.split_at(head.len() - 2 * DIGEST);
+    if text != title {
         return None;
     }
-    Some(rest)
+    let (before, _) = ends.split_at(DIGEST);
+    let first = unsealed(before, head)?;
+    Some(first.digest)
 }
 
 // The turn of these parts, if its line is one of a turn.
-fn turn_of(
-    alloc: Global,
-    clock: u64,
-    parts: TurnText<'_>,
-    image: &[u8],
-) -> Result<Option<LoggedTurn>, AllocError>
-    ensures { IfOk result (λ o. IfSome o (IsTurnBy parts.entry clock image.now)) }
+fn turn_of(alloc: Global, clock: u64, parts: TurnText<'_>) -> Result<Option<LoggedTurn>, AllocError>
+    ensures { IfOk result (λ o. IfSome o (IsTurnBy parts.entry clock)) }
 {
     let TurnText {
         line,
@@ -103,13 +122,13 @@ fn turn_of(
         order,
         posts,
         answer: octets_of(alloc, answer)?,
-        image: octets_of(alloc, image)?,
+        image: None,
     }))
 }
 
 // The house that is made by a turn of these parts.
-fn made_by(alloc: Global, parts: &TurnText<'_>, image: &[u8]) -> Result<Option<Making>, AllocError>
-    ensures { IfOk result (λ o. IfSome o (IsMadeBy parts.now image.now)) }
+fn made_by(alloc: Global, parts: &TurnText<'_>) -> Result<Option<Making>, AllocError>
+    ensures { IfOk result (λ o. IfSome o (IsMadeBy parts.now)) }
 {
     if !parts.posts.is_empty() {
         return Ok(None);
@@ -124,7 +143,6 @@ fn made_by(alloc: Global, parts: &TurnText<'_>, image: &[u8]) -> Result<Option<M
         HouseLine::House(house, node) => Ok(Some(Making {
             house: *house,
             node: *node,
-            image: octets_of(alloc, image)?,
         })),
         _ => Ok(None),
     }
@@ -141,19 +159,12 @@ impl LogReader {
             segments: 0,
             digest: [0; DIGEST],
             made: None,
+            image: None,
             entries: Vec::new(alloc),
             number: 0,
             clock: 0,
-            image: Octets::new(alloc),
             turn: Vec::new(alloc),
         }
-    }
-
-    /// How many segments were read.
-    pub fn segments(&self) -> u64
-        ensures { result ≡ self.now.segments }
-    {
-        self.segments
     }
 
     /// The journal; none, if no house was made yet.
@@ -161,8 +172,13 @@ impl LogReader {
         ensures { (bodies : List (List ℕ)) → HasRead self bodies
             → MatchOption result (All IsNew bodies) (IsJournalOf bodies) }
     {
-        let LogReader { made, entries, .. } = self;
-        let Making { house, node, image } = made?;
+        let LogReader {
+            made,
+            image,
+            entries,
+            ..
+        } = self;
+        let Making { house, node } = made?;
         Some(HouseLog {
             house,
             node,
@@ -171,18 +187,22 @@ impl LogReader {
         })
     }
 
-    /// Reads the octets of the next segment.
+    /// Reads the octets of the next segment. Where they are none, the records before the first
+    /// fault are read.
     pub fn read(&mut self, alloc: Global, octets: &[u8]) -> Result<(), AllocOr<LogFault>>
         ensures segments { OnOk result (self.new.segments ≡ self.old.segments + 1) }
         ensures read { (bodies : List (List ℕ)) → HasRead self.old bodies
             → OnOk result (ReadsOn bodies octets.now self.old self.new) }
+        ensures stopped { (bodies : List (List ℕ)) → HasRead self.old bodies
+            → self.old.segments + 1 < 2 ^ 64 → IfFault result (λ fault.
+            ReadsFront (self.old.segments + 1) bodies octets.now fault self.new) }
     {
         let Some(number) = self.segments.checked_add(1) else {
-            return Err(AllocOr::Fault(LogFault::Damaged(self.segments)));
+            return Err(AllocOr::Fault(LogFault::NotNext(self.segments)));
         };
         let title = head_octets(alloc, number, b"")?;
         let Some(last) = last_record(&title, octets) else {
-            return Err(AllocOr::Fault(LogFault::Damaged(number)));
+            return Err(self.read_front(alloc, number, &title, octets));
         };
         self.read_records(alloc, number, octets)?;
         self.digest = last.digest;
@@ -191,6 +211,7 @@ impl LogReader {
     }
 
     // Reads the records of a segment of this number.
+    #[tactic(auto, using(crate::proofs::ReadingLemmas::head_next))]
     fn read_records(
         &mut self,
         alloc: Global,
@@ -201,9 +222,11 @@ impl LogReader {
         ensures segments { self.new.segments ≡ self.old.segments }
         ensures read { (bodies : List (List ℕ)) → HasRead self.old bodies
             → OnOk result (ReadsRecords bodies octets.now self.old.digest self.new) }
+        ensures stopped { (bodies : List (List ℕ)) → HasRead self.old bodies
+            → IfFault result (λ fault. ReadsFront number bodies octets.now fault self.new) }
     {
         let Some((head, rest)) = first_record(octets) else {
-            return Err(AllocOr::Fault(LogFault::Damaged(number)));
+            return Err(AllocOr::Fault(LogFault::NotNext(number)));
         };
         if !self.is_next(head) {
             return Err(AllocOr::Fault(LogFault::NotNext(number)));
@@ -212,6 +235,7 @@ impl LogReader {
     }
 
     // Reads the records at the front of octets.
+    #[tactic(auto, using(crate::proofs::ReadingLemmas::read_none, crate::proofs::ReadingLemmas::read_one))]
     fn read_all(
         &mut self,
         alloc: Global,
@@ -222,15 +246,83 @@ impl LogReader {
         ensures segments { self.new.segments ≡ self.old.segments }
         ensures read { (bodies : List (List ℕ)) → HasRead self.old bodies
             → OnOk result (HasRead self.new (bodies ++ map body_in (images octets.now))) }
+        ensures stopped { (bodies : List (List ℕ)) → HasRead self.old bodies
+            → IfFault result (λ fault. StopsAt number octets.now bodies fault self.new) }
     {
         let mut rest = octets;
         let mut place: u64 = 1;
         'records: while let Some((record, behind)) = first_record(rest) {
-            place = place.saturating_add(1);
+            place += 1;
             self.read_record(alloc, number, place, record)?;
             rest = behind;
         }
         Ok(())
+    }
+
+    // Reads the records at the front of a segment that is damaged. The fault of the first one that
+    // is none, or that does not follow.
+    #[tactic(auto, using(crate::proofs::ReadingLemmas::head_damaged, crate::proofs::ReadingLemmas::head_other, crate::proofs::ReadingLemmas::head_next))]
+    fn read_front(
+        &mut self,
+        alloc: Global,
+        number: u64,
+        title: &[u8],
+        octets: &[u8],
+    ) -> AllocOr<LogFault>
+        ensures digest { self.new.digest ≡ self.old.digest }
+        ensures segments { self.new.segments ≡ self.old.segments }
+        ensures read { (bodies : List (List ℕ)) → HasRead self.old bodies
+            → (IsSegment title.now octets.now → ⊥) → title.now ≡ head_of number []
+            → OfFault result (λ fault. ReadsFront number bodies octets.now fault self.new) }
+    {
+        let Some((head, rest)) = first_record(octets) else {
+            return AllocOr::Fault(LogFault::Damaged(number, 1));
+        };
+        if is_of_other_version(head, title) {
+            return AllocOr::Fault(LogFault::OtherVersion(number));
+        }
+        let Some(digest) = head_digest(title, head) else {
+            return AllocOr::Fault(LogFault::Damaged(number, 1));
+        };
+        if !self.is_next(head) {
+            return AllocOr::Fault(LogFault::NotNext(number));
+        }
+        match self.read_chain(alloc, number, digest, rest) {
+            Ok(place) => AllocOr::Fault(LogFault::Damaged(number, place)),
+            Err(fault) => fault,
+        }
+    }
+
+    // Reads the records at the front of octets that are a chain after this digest. The place of the
+    // first one that is none.
+    #[tactic(auto, using(crate::proofs::ReadingLemmas::read_none, crate::proofs::ReadingLemmas::read_one, crate::proofs::ReadingLemmas::read_some))]
+    fn read_chain(
+        &mut self,
+        alloc: Global,
+        number: u64,
+        before: [u8; DIGEST],
+        octets: &[u8],
+    ) -> Result<u64, AllocOr<LogFault>>
+        ensures digest { self.new.digest ≡ self.old.digest }
+        ensures segments { self.new.segments ≡ self.old.segments }
+        ensures read { (bodies : List (List ℕ)) → HasRead self.old bodies
+            → IfOk result (λ place. HasReadPart octets.now bodies place self.new) }
+        ensures stopped { (bodies : List (List ℕ)) → HasRead self.old bodies
+            → IfFault result (λ fault. StopsAt number octets.now bodies fault self.new) }
+    {
+        let mut rest = octets;
+        let mut digest = before;
+        let mut place: u64 = 1;
+        'records: while let Some((sealed, behind)) = first_record(rest) {
+            place += 1;
+            let Some(next) = unsealed(&digest, sealed) else {
+                return Ok(place);
+            };
+            self.read_record(alloc, number, place, sealed)?;
+            digest = next.digest;
+            rest = behind;
+        }
+        Ok(place + 1)
     }
 
     // Whether the head of a segment names the digest of the last record that was read.
@@ -257,6 +349,9 @@ impl LogReader {
         ensures segments { self.new.segments ≡ self.old.segments }
         ensures read { (bodies : List (List ℕ)) → HasRead self.old bodies
             → OnOk result (HasRead self.new (bodies ++ body_in sealed.now ∷ [])) }
+        ensures stopped { (bodies : List (List ℕ)) → HasRead self.old bodies
+            → IfFault result (λ fault. HasRead self.new bodies) }
+        ensures names { IfFault result (IsOfRecord segment place) }
     {
         if sealed.len() < DIGEST {
             return Err(AllocOr::Fault(LogFault::BadRecord(segment, place)));
@@ -266,7 +361,7 @@ impl LogReader {
             return Err(AllocOr::Fault(LogFault::BadRecord(segment, place)));
         };
         if let Some(due) = self.other_number(&body) {
-            return Err(AllocOr::Fault(LogFault::NotDue(segment, body.number, due)));
+            return Err(AllocOr::Fault(LogFault::NotDue(segment, place, body.number, due)));
         }
         if self.take_body(alloc, &body)? {
             Ok(())
@@ -300,17 +395,19 @@ impl LogReader {
         ensures read { (bodies : List (List ℕ)) (octets : List ℕ) → HasRead self.old bodies
             → IsDue octets body.now → IfOk result
             (λ takes. OnTrue takes (HasRead self.new (bodies ++ octets ∷ []))) }
+        ensures kept { (bodies : List (List ℕ)) → HasRead self.old bodies
+            → IfOk result (λ takes. OnFalse takes (HasRead self.new bodies)) }
     {
         let Some(image) = body.image else {
-            return Ok(self.is_new(body));
+            if body.text == b"new\n".as_slice() {
+                return Ok(self.is_new(body));
+            }
+            return self.take_turn(alloc, body);
         };
         if let Some(turn) = without(b"start\n", body.text) {
             return self.take_start(alloc, body, turn, image);
         }
-        if body.text.starts_with(b"segment ") {
-            return self.goes_on(alloc, body, image);
-        }
-        self.take_turn(alloc, body, image)
+        self.goes_on(alloc, body, image)
     }
 
     // Whether a record without an image is the first one of a process without a house.
@@ -350,67 +447,96 @@ impl LogReader {
             → IsBody octets body.now.number body.now.clock (codes "start" ++ (10 ∷ turn.now))
             (Some image.now)
             → IfOk result (λ takes. OnTrue takes (HasRead self.new (bodies ++ octets ∷ []))) }
+        ensures kept { (bodies : List (List ℕ)) → HasRead self.old bodies
+            → IfOk result (λ takes. OnFalse takes (HasRead self.new bodies)) }
     {
         if !self.is_start(body, turn) {
             return Ok(false);
         }
         let started = octets_of(alloc, image)?;
-        self.image = octets_of(alloc, image)?;
         self.entries.push(LogEntry::Started(started))?;
         self.number = body.number;
         self.clock = 0;
         Ok(true)
     }
 
-    // The text of the first record of a segment in the middle of a process.
-    fn segment_text(&self, alloc: Global) -> Result<Vec<u8>, AllocError>
-        ensures { IfOk result (λ v. v.items
-            ≡ codes "segment " ++ (decimal self.now.number ++ (10 ∷ self.now.turn.items))) }
+    // The line of the first record of a segment in the middle of a process.
+    fn segment_line(&self, alloc: Global) -> Result<Vec<u8>, AllocError>
+        ensures { IfOk result
+            (λ v. v.items ≡ codes "segment " ++ (decimal self.now.number ++ 10 ∷ [])) }
     {
-        let mut text = Vec::from_slice(alloc, b"segment ")?;
-        push_number(&mut text, self.number)?;
-        text.push(b'\n')?;
-        text.extend_from_slice(&self.turn)?;
-        Ok(text)
+        let mut line = Vec::from_slice(alloc, b"segment ")?;
+        push_number(&mut line, self.number)?;
+        line.push(b'\n')?;
+        Ok(line)
     }
 
-    // Whether a record has the number, the clock and the image of the last entry.
-    fn is_last(&self, body: &Body<'_>, image: &[u8]) -> bool
+    // Whether a record has the number and the clock of the last entry.
+    fn is_last(&self, body: &Body<'_>) -> bool
         ensures { OnTrue result ((is_none self.now.made ≡ false)
-            × ((body.now.number ≡ self.now.number) × ((body.now.clock ≡ self.now.clock)
-            × (image.now ≡ self.now.image)))) }
+            × ((body.now.number ≡ self.now.number) × (body.now.clock ≡ self.now.clock))) }
     {
-        self.made.is_some()
-            && body.number == self.number
-            && body.clock == self.clock
-            && image == self.image.list()
+        self.made.is_some() && body.number == self.number && body.clock == self.clock
     }
 
-    // Whether this is the first record of a segment in the middle of a process.
-    fn goes_on(&self, alloc: Global, body: &Body<'_>, image: &[u8]) -> Result<bool, AllocError>
-        ensures read { (bodies : List (List ℕ)) (octets : List ℕ) → HasRead self.now bodies
-            → IsBody octets body.now.number body.now.clock body.now.text.now (Some image.now)
-            → IfOk result (λ goes. OnTrue goes (HasRead self.now (bodies ++ octets ∷ []))) }
+    // Gives an image to the last entry. Whether that has none yet, or this one.
+    fn show(&mut self, alloc: Global, image: &[u8]) -> Result<bool, AllocError>
+        ensures digest { self.new.digest ≡ self.old.digest }
+        ensures segments { self.new.segments ≡ self.old.segments }
+        ensures made { self.new.made ≡ self.old.made }
+        ensures shows { (m : Making') → IfOk result
+            (λ has. OnTrue has (Shows (told_of m self.old) image.now (told_of m self.new))) }
+        ensures kept { (bodies : List (List ℕ)) → HasRead self.old bodies
+            → IfOk result (λ has. OnFalse has (HasRead self.new bodies)) }
     {
-        if !self.is_last(body, image) {
+        let shown = octets_of(alloc, image)?;
+        let Some(last) = self.entries.pop() else {
+            if !can_be(self.image.as_ref(), image) {
+                return Ok(false);
+            }
+            self.image = Some(shown);
+            return Ok(true);
+        };
+        if !can_be(last.image(), image) {
+            self.entries.push(last)?;
             return Ok(false);
         }
-        let text = self.segment_text(alloc)?;
-        Ok(text.as_slice() == body.text)
+        self.entries.push(last.with_image(shown))?;
+        Ok(true)
     }
 
-    // Takes the record of a turn: the first one makes the house.
-    fn take_turn(
-        &mut self,
-        alloc: Global,
-        body: &Body<'_>,
-        image: &[u8],
-    ) -> Result<bool, AllocError>
+    // Takes the first record of a segment in the middle of a process.
+    fn goes_on(&mut self, alloc: Global, body: &Body<'_>, image: &[u8]) -> Result<bool, AllocError>
         ensures digest { self.new.digest ≡ self.old.digest }
         ensures segments { self.new.segments ≡ self.old.segments }
         ensures read { (bodies : List (List ℕ)) (octets : List ℕ) → HasRead self.old bodies
             → IsBody octets body.now.number body.now.clock body.now.text.now (Some image.now)
+            → IfOk result (λ goes. OnTrue goes (HasRead self.new (bodies ++ octets ∷ []))) }
+        ensures kept { (bodies : List (List ℕ)) → HasRead self.old bodies
+            → IfOk result (λ goes. OnFalse goes (HasRead self.new bodies)) }
+    {
+        if !self.is_last(body) {
+            return Ok(false);
+        }
+        let line = self.segment_line(alloc)?;
+        let Some(rest) = without(&line, body.text) else {
+            return Ok(false);
+        };
+        if after_running(rest) != self.turn.as_slice() {
+            return Ok(false);
+        }
+        self.show(alloc, image)
+    }
+
+    // Takes a record of a turn, which shows no image: the first one makes the house.
+    fn take_turn(&mut self, alloc: Global, body: &Body<'_>) -> Result<bool, AllocError>
+        ensures digest { self.new.digest ≡ self.old.digest }
+        ensures segments { self.new.segments ≡ self.old.segments }
+        ensures read { (bodies : List (List ℕ)) (octets : List ℕ) → HasRead self.old bodies
+            → IsBody octets body.now.number body.now.clock body.now.text.now None
             → IfOk result (λ takes. OnTrue takes (HasRead self.new (bodies ++ octets ∷ []))) }
+        ensures kept { (bodies : List (List ℕ)) → HasRead self.old bodies
+            → IfOk result (λ takes. OnFalse takes (HasRead self.new bodies)) }
     {
         if !self.is_due(body.number) {
             return Ok(false);
@@ -419,9 +545,9 @@ impl LogReader {
             return Ok(false);
         };
         if self.made.is_none() {
-            return self.take_making(alloc, body, &parts, image);
+            return self.take_making(alloc, body, &parts);
         }
-        self.push_turn(alloc, body, parts, image)
+        self.push_turn(alloc, body, parts)
     }
 
     // The house is made by a turn of these parts.
@@ -430,7 +556,6 @@ impl LogReader {
         alloc: Global,
         body: &Body<'_>,
         parts: &TurnText<'_>,
-        image: &[u8],
     ) -> Result<bool, AllocError>
         requires none { self.old.made ≡ None }
         requires due { body.now.number ≡ self.old.number + 1 }
@@ -439,17 +564,19 @@ impl LogReader {
         ensures digest { self.new.digest ≡ self.old.digest }
         ensures segments { self.new.segments ≡ self.old.segments }
         ensures read { (bodies : List (List ℕ)) (octets : List ℕ) → HasRead self.old bodies
-            → IsBody octets body.now.number body.now.clock body.now.text.now (Some image.now)
+            → IsBody octets body.now.number body.now.clock body.now.text.now None
             → IfOk result (λ takes. OnTrue takes (HasRead self.new (bodies ++ octets ∷ []))) }
+        ensures kept { (bodies : List (List ℕ)) → HasRead self.old bodies
+            → IfOk result (λ takes. OnFalse takes (HasRead self.new bodies)) }
     {
         if body.clock != 0 {
             return Ok(false);
         }
-        let Some(made) = made_by(alloc, parts, image)? else {
+        let Some(made) = made_by(alloc, parts)? else {
             return Ok(false);
         };
         self.turn = Vec::from_slice(alloc, body.text)?;
-        self.image = octets_of(alloc, image)?;
+        self.image = None;
         self.made = Some(made);
         self.number = body.number;
         self.clock = 0;
@@ -462,7 +589,6 @@ impl LogReader {
         alloc: Global,
         body: &Body<'_>,
         parts: TurnText<'_>,
-        image: &[u8],
     ) -> Result<bool, AllocError>
         requires some { is_none self.old.made ≡ false }
         requires due { body.now.number ≡ self.old.number + 1 }
@@ -471,14 +597,15 @@ impl LogReader {
         ensures digest { self.new.digest ≡ self.old.digest }
         ensures segments { self.new.segments ≡ self.old.segments }
         ensures read { (bodies : List (List ℕ)) (octets : List ℕ) → HasRead self.old bodies
-            → IsBody octets body.now.number body.now.clock body.now.text.now (Some image.now)
+            → IsBody octets body.now.number body.now.clock body.now.text.now None
             → IfOk result (λ takes. OnTrue takes (HasRead self.new (bodies ++ octets ∷ []))) }
+        ensures kept { (bodies : List (List ℕ)) → HasRead self.old bodies
+            → IfOk result (λ takes. OnFalse takes (HasRead self.new bodies)) }
     {
-        let Some(turn) = turn_of(alloc, body.clock, parts, image)? else {
+        let Some(turn) = turn_of(alloc, body.clock, parts)? else {
             return Ok(false);
         };
         self.turn = Vec::from_slice(alloc, body.text)?;
-        self.image = octets_of(alloc, image)?;
         self.entries.push(LogEntry::Turned(turn))?;
         self.number = body.number;
         self.clock = body.clock;

@@ -1,5 +1,6 @@
 // The text of a record: of a turn its line, its messages and its answer.
-ghost use Rattle.std.specs.Prelude.{◌≡◌, ◌<◌, ◌++◌, length, IfOk, IfSome, OnOk};
+ghost use Rattle.std.specs.Prelude.{◌≡◌, ◌<◌, ◌≤◌, ◌++◌, ◌∷◌, ℕ, List, length, IfOk, IfSome, OnOk};
+ghost use Rattle.house_logs.specs.Records.{running_text};
 ghost use Rattle.house_logs.specs.TurnTexts.{post_text, posts_text, turn_text};
 
 use crate::log::PostedOctets;
@@ -18,12 +19,42 @@ pub(crate) struct TurnText<'a> {
 
 // The first line of a text, and what comes after its end.
 fn first_line(text: &[u8]) -> Option<(&[u8], &[u8])>
-    ensures { IfSome result (λ r. length r.1.now < length text.now) }
+    ensures shorter { IfSome result (λ r. length r.1.now < length text.now) }
+    ensures parts { IfSome result (λ r. text.now ≡ r.0.now ++ (10 ∷ r.1.now)) }
 {
     let end = text.iter().position(|octet| *octet == b'\n')?;
     let (line, rest) = text.split_at(end);
     let (_, behind) = rest.split_at(1);
     Some((line, behind))
+}
+
+/// What a text is after these octets, if it begins with them.
+pub(crate) fn without<'a>(front: &[u8], text: &'a [u8]) -> Option<&'a [u8]>
+    ensures shorter { IfSome result (λ rest. length rest.now ≤ length text.now) }
+    ensures parts { IfSome result (λ rest. text.now ≡ front.now ++ rest.now) }
+{
+    if text.len() < front.len() {
+        return None;
+    }
+    let (begin, rest) = text.split_at(front.len());
+    if begin != front {
+        return None;
+    }
+    Some(rest)
+}
+
+/// What a text is after the lines of skulks that run.
+pub(crate) fn after_running(text: &[u8]) -> &[u8]
+    ensures { (lines : List (List ℕ)) × (text.now ≡ running_text lines ++ result.now) }
+{
+    let mut rest = text;
+    'lines: while let Some(words) = without(b"running ", rest) {
+        let Some((_, behind)) = first_line(words) else {
+            return rest;
+        };
+        rest = behind;
+    }
+    rest
 }
 
 // The message of a line, after its first word.

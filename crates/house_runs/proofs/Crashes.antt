@@ -17,11 +17,11 @@ use Rattle.house_turns.specs.HouseReplies.{Responds}
 use Rattle.house_runs.specs.Folders.{HasLines}
 
 -- lines whose records have these bodies
-record Done {H : Type 0} (responds : H → ℕ → List ℕ → Said → H → Type 0) (number : ℕ) (house : H) (bodies : List (List ℕ)) : Type 0 where
-  turns : List Turn
-  at : H
-  talk : Dialogue responds number house turns at
-  are : bodies_of turns ≡ bodies
+pub record Done {H : Type 0} (responds : H → ℕ → List ℕ → Said → H → Type 0) (number : ℕ) (house : H) (bodies : List (List ℕ)) : Type 0 where
+  pub turns : List Turn
+  pub at : H
+  pub talk : Dialogue responds number house turns at
+  pub are : bodies_of turns ≡ bodies
 
 -- a front of the bodies of a line and of those after it has none of them, or begins with that
 -- line's
@@ -54,7 +54,7 @@ module _ {H : Type 0} (responds : H → ℕ → List ℕ → Said → H → Type
   of_none number house (body ∷ front) rest split = absurd (cc (split))
 
   -- a front of the body that is over
-  of_over : (number : ℕ) (house : H) (over front rest : List (List ℕ)) → IsOver responds number house over → over ≡ front ++ rest
+  pub of_over : (number : ℕ) (house : H) (over front rest : List (List ℕ)) → IsOver responds number house over → over ≡ front ++ rest
       → Done responds number house front
   of_over number house over front rest (inl none) split = of_none number house front rest (sym none ∙ split)
   of_over number house over front rest (inr next) split =
@@ -64,7 +64,7 @@ module _ {H : Type 0} (responds : H → ℕ → List ℕ → Said → H → Type
       (λ more left is. line_first number house next.next t more next.does (of_none (number + 1) next.next more left is))
 
   -- a front of the bodies of lines, and of the one that is over, is that of the first of the lines
-  front_done : (turns : List Turn) (number : ℕ) (house at : H) (over front rest : List (List ℕ)) → Dialogue responds number house turns at
+  pub front_done : (turns : List Turn) (number : ℕ) (house at : H) (over front rest : List (List ℕ)) → Dialogue responds number house turns at
       → IsOver responds (number + length turns) at over → bodies_of turns ++ over ≡ front ++ rest → Done responds number house front
   front_done [] number house at over front rest talk is split =
       let same : number + 0 ≡ number = omega arith in

@@ -1,8 +1,8 @@
--- A folder as it may be: a process makes a house and dies, and another one starts of its record.
+-- A folder as it may be: a process makes a house and dies, and another one does its lines again and
+-- starts.
 use Rattle.std.proofs.Common.{◌≡◌, ℕ, ◌<◌, ◌^◌, List, [], ◌∷◌, ◌++◌, length, refl, sym, ap, subst, ◌∙◌, arith}
 use Rattle.std.specs.Prelude.{Option, Some, None, Result, Ok, codes, map}
 use Rattle.std.specs.FinMap.{FinMap, empty, entries, from_entries, len, len-empty, len-entries}
-use Rattle.cds_records.specs.RecordOctets.{image_octets}
 use Rattle.cds_records.specs.RecordRanges.{FitsDir, FitsImage}
 use Rattle.record_fields.specs.FieldRanges.{FitsMap, ItemsFit}
 use Rattle.cds_messages.specs.Dirs.{dir_cmp}
@@ -27,8 +27,8 @@ use Rattle.house_lines.specs.declared.line.HouseLine.TheVariants as asks
 use Rattle.house_serving.specs.Turns.{Said}
 use Rattle.house_turns.specs.declared.house.House.{House}
 use Rattle.house_turns.specs.HouseReplies.{RepliesIf, Responds, new_clearinghouse, turn_lines, turn_text}
-use Rattle.house_turns.specs.Openings.{From, new_house, start_text, turn_in}
-use Rattle.house_turns.specs.Records.{IsRecord, image_in}
+use Rattle.house_turns.specs.Openings.{Anew, OpensBy, Restarts, new_house, start_text}
+use Rattle.house_turns.specs.Records.{IsRecord, IsTurnRecord, image_in}
 use Rattle.house_runs.specs.Folders.{FolderSegment, IsFolder, ProcessBegins}
 use Rattle.house_runs.proofs.Waits.{new_lawful}
 
@@ -87,27 +87,24 @@ abbrev text : List ℕ
 text = turn_text line [] (answer_line answer.Done)
 
 abbrev made_body : List ℕ
-made_body = body_of 1 0 text (image_in (Some c))
+made_body = body_of 1 0 text None
 
-abbrev said : Said
-said = record { text = lines_text 1 (turn_lines [] (answer_line answer.Done)); body = Some made_body }
+abbrev said : ℕ → Said
+said number = record { text = lines_text number (turn_lines [] (answer_line answer.Done)); body = Some made_body }
 
 abbrev made : House
 made = record { home = Some c; node = 10; clock = 0; entry = 1; last = text; more = [] }
 
-made_record : IsRecord made text made_body
-made_record = record {
-  body = record { numbered = omega arith; timed = omega arith; short = omega arith; octets_are = refl };
-  fits = c_fits;
-}
+made_record : IsTurnRecord made text made_body
+made_record = record { body = record { numbered = omega arith; timed = omega arith; short = omega arith; octets_are = refl } }
 
 line_is : said_in (words_of line) ≡ Ok (Some (asks.House one 10))
 unfolding said_by check_count take_words number_of decode_pairs
 line_is = refl
 
-responds : Responds new_house 1 line said made
-responds =
-    subst (λ (r : Result (Option HouseLine) ParseFault). RepliesIf new_house 1 (words_of line) r said made) (sym line_is)
+responds : (number : ℕ) → Responds new_house number line (said number) made
+responds number =
+    subst (λ (r : Result (Option HouseLine) ParseFault). RepliesIf new_house number (words_of line) r (said number) made) (sym line_is)
     (record { text = refl; octets = made_body; body = refl; record_is = made_record; after = refl })
 
 -- ---- the second process
@@ -115,26 +112,39 @@ responds =
 abbrev again : Clearinghouse
 again = house_after_restart c
 
-abbrev last : List ℕ
-last = turn_in text
-
 abbrev started : House
-started = record { home = Some again; node = again.node; clock = 0; entry = 2; last = last; more = [] }
+started = record { home = Some again; node = again.node; clock = 0; entry = 2; last = text; more = [] }
 
 abbrev start_body : List ℕ
-start_body = body_of 2 0 (start_text (Some again) last) (image_in (Some again))
+start_body = body_of 2 0 (start_text (Some again) text) (image_in (Some again))
 
-start_record : IsRecord started (start_text (Some again) last) start_body
+start_record : IsRecord started (start_text (Some again) text) start_body
 start_record = record {
   body = record { numbered = omega arith; timed = omega arith; short = omega arith; octets_are = refl };
   fits = subst FitsImage (sym (image_again c (new_lawful one 10))) c_fits;
+}
+
+abbrev opened : House
+opened = record { home = Some again; node = again.node; clock = 0; entry = 1; last = text; more = [] }
+
+-- it does the line again that made the house, and the house restarts
+opens : OpensBy (first_body ∷ made_body ∷ []) opened
+opens = record {
+  first = first_body;
+  others = made_body ∷ [];
+  begun = new_house;
+  at = made;
+  split = refl;
+  resumes = Anew 0 first_record.body;
+  redone = (made, record { clock = 0; line = line; said = said 0; does = responds 0; same = refl }, refl);
+  ends = Restarts c again refl c_fits (image_starts c (new_lawful one 10) c_fits);
 }
 
 -- ---- the folder
 
 abbrev folder : List FolderSegment
 folder =
-    record { begins = ProcessBegins; first = first_body; number = 1; turns = record { line = line; said = said } ∷ [] }
+    record { begins = ProcessBegins; first = first_body; number = 1; turns = record { line = line; said = said 1 } ∷ [] }
     ∷ record { begins = ProcessBegins; first = start_body; number = 1; turns = [] }
     ∷ []
 
@@ -143,17 +153,6 @@ is-folder = (
   new_house,
   made,
   (new_house, refl, refl, first_record),
-  (made, responds, refl),
-  (
-    started,
-    started,
-    (
-      record { home = Some again; node = again.node; clock = 0; entry = 1; last = last; more = [] },
-      From 1 0 text (image_octets (image_of c)) again made_record.body (image_starts c (new_lawful one 10) c_fits),
-      refl,
-      start_record,
-    ),
-    refl,
-    tt,
-  ),
+  (made, responds 1, refl),
+  (started, started, (opened, opens, refl, start_record), refl, tt),
 )

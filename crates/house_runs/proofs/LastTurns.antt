@@ -1,97 +1,93 @@
 -- A house that starts has the last turn of its folder to say again.
-use Rattle.std.proofs.Common.{◌≡◌, ℕ, ◌+◌, List, [], ◌∷◌, ◌++◌, refl, sym, ap, subst, ◌∙◌}
+use Rattle.std.proofs.Common.{◌≡◌, ℕ, ◌+◌, List, [], ◌∷◌, refl, sym, ap, subst, ◌∙◌}
 use Rattle.std.specs.Prelude.{Option, Some, None}
 use Rattle.clearinghouse.specs.declared.house.Clearinghouse.{Clearinghouse}
-use Rattle.house_serving.specs.Turns.{Dialogue, Turn, bodies_in, bodies_of}
+use Rattle.house_serving.specs.Turns.{Dialogue, Turn, bodies_of}
 use Rattle.house_turns.specs.declared.house.House.{House}
 use Rattle.house_turns.specs.HouseReplies.{Responds}
-use Rattle.house_turns.specs.Openings.{HasTurn, IsTurnText, after_start, new_house, segment_text, start_text}
+use Rattle.house_turns.specs.Openings.{EndsLife, HasTurn, IsTurnText, NoneMade, RedoneBy, Restarts, Resumes, after_start, new_house, start_text}
 use Rattle.house_turns.specs.Records.{IsRecord}
-use Rattle.house_turns.proofs.LastTurns.{HasLast, LineKept, NoTurn, OneTurn, has_turn, line_kept, segment_goes_on, start_goes_on}
-use Rattle.house_runs.specs.Folders.{AreSegments, Beginning, BeginsWith, FolderSegment, IsFolder, OpensFrom, ProcessBegins, ProcessGoesOn, last_body, last_record}
-use Rattle.house_runs.proofs.Segments.{MaybeNew, begins_new, opens_new, start_home}
+use Rattle.house_turns.proofs.LastTurns.{has_turn, turn_after}
+use Rattle.house_turns.proofs.Resumptions.{last_of_segment, last_of_start}
+use Rattle.house_runs.specs.Folders.{AreSegments, Beginning, BeginsWith, FolderSegment, IsFolder, OpensFrom, ProcessBegins, ProcessGoesOn, last_bodies, segment_bodies}
+use Rattle.house_runs.proofs.Segments.{first_of_split, new_segment, new_start, none_resumed, start_home, start_last}
 
--- no house was made yet; or the house has a last turn, and one that is opened from the last record
--- has it too
-data Holds (h : House) (last : Option (List ℕ)) : Type 0 where
-  NotMade : h.home ≡ None → MaybeNew last → Holds h last
-  Made : (c : Clearinghouse) → h.home ≡ Some c → IsTurnText h.last → ((o : House) → OpensFrom last o → HasLast h.last o) → Holds h last
+-- a house that was made has a last turn
+abbrev Has : House → Type 0
+Has h = HasTurn h.home h.last
 
--- a start leaves the last turn
-start_last : (h : House) (o : Option Clearinghouse) → (after_start h o).last ≡ h.last
-start_last h None = refl
-start_last h (Some c) = refl
+none_has : (h : House) → h.home ≡ None → Has h
+none_has h none = subst (λ (o : Option Clearinghouse). HasTurn o h.last) (sym none) tt
+
+started_has : (h : House) → Has h → Has (after_start h h.home)
+started_has h has =
+    subst (λ (o : Option Clearinghouse). HasTurn o (after_start h h.home).last) (sym (start_home h h.home))
+    (subst (λ (l : List ℕ). HasTurn h.home l) (sym (start_last h h.home)) has)
 
 -- ---- lines
 
-stays : (h mid : House) (last : Option (List ℕ)) → Holds h last → mid.home ≡ h.home → mid.last ≡ h.last → Holds mid last
-stays h mid last (NotMade none new) home kept = NotMade (home ∙ none) new
-stays h mid last (Made c some turn keeps) home kept =
-    Made c (home ∙ some) (subst IsTurnText (sym kept) turn) (λ o goes. subst (λ (l : List ℕ). HasLast l o) (sym kept) (keeps o goes))
+turns_have : (turns : List Turn) (number : ℕ) (h at : House) → Has h → Dialogue Responds number h turns at → Has at
+turns_have [] number h at has talk = subst Has (sym talk) has
+turns_have (t ∷ ts) number h at has talk =
+    turns_have ts (number + 1) talk.0 at (turn_after h talk.0 number t.line t.said talk.1 has) talk.2
 
--- what is to say of a line that gives this record, or none, and of those after it
-abbrev Then : (at : House) → (last : List ℕ) → (ts : List Turn) → Option (List ℕ) → Type 0
-Then at last ts body = Holds at (Some (last_body last (bodies_in body ++ bodies_of ts)))
+redone_have : (bodies : List (List ℕ)) (h at : House) → Has h → RedoneBy h bodies at → Has at
+redone_have [] h at has done = subst Has (sym done) has
+redone_have (body ∷ bodies) h at has done =
+    let r = done.1 in
+    redone_have bodies done.0 at (turn_after (record h { clock = r.clock; more = [] }) done.0 0 r.line r.said r.does has) done.2
 
-turns_hold : (turns : List Turn) (number : ℕ) (h at : House) (last : List ℕ) → Holds h (Some last) → Dialogue Responds number h turns at
-    → Holds at (Some (last_body last (bodies_of turns)))
-turns_hold [] number h at last holds talk = subst (λ (k : House). Holds k (Some last)) (sym talk) holds
-turns_hold (t ∷ ts) number h at last holds talk =
-    by (line_kept h number t.said talk.0 t.line talk.1) (λ last' holds'. turns_hold ts (number + 1) talk.0 at last' holds' talk.2)
-  where
-    by : LineKept h t.said talk.0 → ((last' : List ℕ) → Holds talk.0 (Some last') → Holds at (Some (last_body last' (bodies_of ts)))) → Then at last ts t.said.body
-    by (NoTurn none home kept) later = subst (Then at last ts) (sym none) (later last (stays h talk.0 (Some last) holds home kept))
-    by (OneTurn octets c some home turn keeps) later = subst (Then at last ts) (sym some) (later octets (Made c home turn keeps))
+ended_has : (h opened : House) → Has h → EndsLife h opened → Has opened
+ended_has h _ has (NoneMade none) = tt
+ended_has h _ has (Restarts c c' home fits starts) = subst (λ (o : Option Clearinghouse). HasTurn o h.last) home has
 
 -- ---- segments
 
-begins_hold : (b : Beginning) (last : Option (List ℕ)) (h : House) (first : List ℕ) (begun : House) → Holds h last → BeginsWith b last h first begun
-    → Holds begun (Some first)
-begins_hold b last h first begun (NotMade none new) is =
-    let begins = begins_new b last h first begun none new is in
-    NotMade begins.0 begins.1
-begins_hold ProcessBegins last h first begun (Made c some turn keeps) is =
-    let opened : House = is.0 in
-    let has = keeps opened is.1 in
-    let home : begun.home ≡ Some has.home = ap (λ (k : House). k.home) is.2 ∙ start_home opened opened.home ∙ has.made in
-    let kept : begun.last ≡ opened.last = ap (λ (k : House). k.last) is.2 ∙ start_last opened opened.home in
-    Made has.home home (subst IsTurnText (sym (kept ∙ has.last_is)) turn)
-    (λ o goes.
-    subst (λ (l : List ℕ). HasLast l o) (sym kept)
-    (start_goes_on begun o has.home opened.last first home
-    (subst (λ (o : Option Clearinghouse). IsRecord begun (start_text o opened.last) first) has.made is.3) goes))
-begins_hold ProcessGoesOn last h first begun (Made c some turn keeps) is =
-    let home : begun.home ≡ Some c = ap (λ (k : House). k.home) is.0 ∙ some in
-    Made c home (subst IsTurnText (sym (ap (λ (k : House). k.last) is.0)) turn)
-    (λ o goes.
-    segment_goes_on begun o c first home (subst (λ (o : Option Clearinghouse). IsRecord begun (segment_text begun o) first) home is.1) goes)
+-- a process that goes on from these records has a last turn
+abbrev Opens : Option (List (List ℕ)) → Type 0
+Opens last = (opened : House) → OpensFrom last opened → Has opened
 
--- the house after the last segment
-record HoldsLast (last : Option (List ℕ)) : Type 0 where
-  house : House
-  holds : Holds house last
+-- what resumes with the first record of a segment has the last turn that it repeats
+module _ (last : Option (List (List ℕ))) (h : House) (first : List ℕ) (begun : House) (has : Has h) (opens : Opens last) where
+  begins_have : (b : Beginning) → BeginsWith b last h first begun → Has begun
+  begins_have ProcessGoesOn is = subst Has (sym is.0) has
+  begins_have ProcessBegins is = subst Has (sym is.2) (started_has is.0 (opens is.0 is.1))
 
-segments_hold : (ss : List FolderSegment) (last : Option (List ℕ)) (h : House) → Holds h last → AreSegments last h ss → HoldsLast (last_record last ss)
-segments_hold [] last h holds are = record { house = h; holds = holds }
-segments_hold (s ∷ ss) last h holds are =
-    segments_hold ss (Some (last_body s.first (bodies_of s.turns))) are.1
-    (turns_hold s.turns s.number are.0 are.1 s.first (begins_hold s.begins last h s.first are.0 holds are.2) are.3) are.4
+  resumed_has : (b : Beginning) → BeginsWith b last h first begun → (again : House) → Resumes first again → Has again
+  resumed_has ProcessGoesOn is again resumes = by begun.home refl
+    where
+      by : (o : Option Clearinghouse) → begun.home ≡ o → Has again
+      by None none = none_has again (none_resumed first again (new_segment begun first none is.1) resumes)
+      by (Some c) made =
+          let own : Has begun = begins_have ProcessGoesOn is in
+          let turn : IsTurnText begun.last = subst (λ (o : Option Clearinghouse). HasTurn o begun.last) made own in
+          has_turn again.home again.last (subst IsTurnText (sym (last_of_segment begun again c first made own is.1 resumes)) turn)
+  resumed_has ProcessBegins is again resumes = by is.0.home refl
+    where
+      home : begun.home ≡ is.0.home
+      home = ap (λ (k : House). k.home) is.2 ∙ start_home is.0 is.0.home
+
+      by : (o : Option Clearinghouse) → is.0.home ≡ o → Has again
+      by None none = none_has again (none_resumed first again (new_start begun is.0 first (home ∙ none) none is.3) resumes)
+      by (Some c) made =
+          let turn : IsTurnText is.0.last = subst (λ (o : Option Clearinghouse). HasTurn o is.0.last) made (opens is.0 is.1) in
+          let own : IsRecord begun (start_text (Some c) is.0.last) first = subst (λ (o : Option Clearinghouse). IsRecord begun (start_text o is.0.last) first) made is.3 in
+          has_turn again.home again.last (subst IsTurnText (sym (last_of_start begun again c is.0.last first (home ∙ made) own resumes)) turn)
+
+  segment_opens : (s : FolderSegment) → s.first ≡ first → BeginsWith s.begins last h first begun → Opens (Some (segment_bodies s))
+  segment_opens s same is opened o =
+      let resumes : Resumes first o.begun = subst (λ b. Resumes b o.begun) (sym (first_of_split s.first o.first (bodies_of s.turns) o.others o.split) ∙ same) o.resumes in
+      ended_has o.at opened (redone_have o.others o.begun o.at (resumed_has s.begins is o.begun resumes) o.redone) o.ends
+
+segments_open : (ss : List FolderSegment) (last : Option (List (List ℕ))) (h : House) → Has h → Opens last → AreSegments last h ss → Opens (last_bodies last ss)
+segments_open [] last h has opens are = opens
+segments_open (s ∷ ss) last h has opens are =
+    segments_open ss (Some (segment_bodies s)) are.1
+    (turns_have s.turns s.number are.0 are.1 (begins_have last h s.first are.0 has opens s.begins are.2) are.3)
+    (segment_opens last h s.first are.0 has opens s refl are.2) are.4
 
 -- the law
-pub start_has_turn : (segments : List FolderSegment) (opened : House) → IsFolder segments → OpensFrom (last_record None segments) opened
+pub start_has_turn : (segments : List FolderSegment) (opened : House) → IsFolder segments → OpensFrom (last_bodies None segments) opened
     → HasTurn (after_start opened opened.home).home (after_start opened opened.home).last
-start_has_turn segments opened is opens = by end.house end.holds
-  where
-    end : HoldsLast (last_record None segments)
-    end = segments_hold segments None new_house (NotMade refl tt) is
-
-    begun : House
-    begun = after_start opened opened.home
-
-    by : (h : House) → Holds h (last_record None segments) → HasTurn begun.home begun.last
-    by h (NotMade none new) =
-        let unmade : begun.home ≡ None = start_home opened opened.home ∙ opens_new (last_record None segments) opened new opens in
-        subst (λ (o : Option Clearinghouse). HasTurn o begun.last) (sym unmade) tt
-    by h (Made c some turn keeps) =
-        let has = keeps opened opens in
-        has_turn begun.home begun.last (subst IsTurnText (sym (start_last opened opened.home ∙ has.last_is)) turn)
+start_has_turn segments opened is opens =
+    started_has opened (segments_open segments None new_house tt (λ o new. none_has o (ap (λ (k : House). k.home) new)) is opened opens)

@@ -1,9 +1,10 @@
 mod JoinedWords
 mod Turns
+mod Readings
 mod Lines
 mod Waits
 mod Segments
 mod LastTurns
 mod Cells
-mod Crashes
+pub mod Crashes
 mod Examples

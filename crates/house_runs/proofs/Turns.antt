@@ -100,9 +100,7 @@ good_by_line c (line.Take octets) none = tt
 good_by_line c (line.House x n) none = tt
 good_by_line c (line.Clock t) none = tt
 good_by_line c (line.More octets) none = tt
-good_by_line c (line.Dump d) none = tt
-good_by_line c (line.Look d n a) none = tt
-good_by_line c line.Image none = tt
+good_by_line c (line.Ask q) none = tt
 
 -- a line that is not refused early gives a good list
 pub has_good_list : (c : Clearinghouse) (says : HouseLine) (order : Order) → order_of says ≡ Some order → early_refusal c says ≡ None

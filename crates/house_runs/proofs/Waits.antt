@@ -1,22 +1,17 @@
 -- What one line comes to where no house was made yet.
-use Rattle.std.proofs.Common.{◌≡◌, ℕ, Bool, true, false, List, [], ◌++◌, length, refl, sym, ap, subst, ◌∙◌}
+use Rattle.std.proofs.Common.{◌≡◌, ℕ, Bool, true, false, List, ◌++◌, length, refl, sym, ap, subst, ◌∙◌}
 use Rattle.std.specs.Prelude.{Option, Some, None, Result, Ok, Err, nat_lt}
 use Rattle.std.specs.FinMap.{get-empty}
-use Rattle.cds_records.specs.RecordOctets.{image_octets}
 use Rattle.cds_stamps.specs.declared.numbers.HouseNo.{HouseNo}
 use Rattle.cell_model.specs.Cells as model
 use Rattle.cell_script.specs.Words.{words_of}
 use Rattle.cell_script.specs.declared.fault.ParseFault.{ParseFault}
-use Rattle.script_answers.specs.Texts.{answer_line}
-use Rattle.script_answers.specs.declared.answer.Answer.TheVariants as answer
 use Rattle.house_directory.specs.ModelReplicas.{StandsSlot}
 use Rattle.house_directory.specs.declared.states.DirState.TheVariants as state
 use Rattle.house_directory.specs.declared.states.Held.{Held}
-use Rattle.clearinghouse.specs.HouseImages.{image_of}
 use Rattle.clearinghouse.specs.LawfulHouses.{IsLawful}
 use Rattle.clearinghouse.specs.ModelHouses.{StandsHouse}
 use Rattle.clearinghouse.specs.declared.house.Clearinghouse.{Clearinghouse}
-use Rattle.house_entries.specs.Bodies.{IsBody}
 use Rattle.house_lines.specs.LineRows.{said_in}
 use Rattle.house_lines.specs.declared.line.HouseLine.{HouseLine}
 use Rattle.house_lines.specs.declared.line.HouseLine.TheVariants as asks
@@ -24,11 +19,11 @@ use Rattle.house_serving.specs.Turns.{Said}
 use Rattle.cell_runs.specs.Orders.{new_house}
 use Rattle.house_turns.specs.declared.house.House.{House}
 use Rattle.house_turns.specs.declared.house.TheConstants.{MOST_MESSAGE}
-use Rattle.house_turns.specs.HouseReplies.{RepliesAnew, RepliesBy, RepliesIf, RepliesMoreIf, RepliesTake, RepliesTo, Responds, TellsLines, with_spaces, new_clearinghouse, turn_text}
-use Rattle.house_turns.specs.Records.{image_in}
+use Rattle.house_turns.specs.HouseReplies.{RepliesAnew, RepliesBy, RepliesIf, RepliesMoreIf, RepliesTake, RepliesTo, Responds, TellsLines, with_spaces, new_clearinghouse}
+use Rattle.house_turns.proofs.PlainLines.{line_begins}
 use Rattle.house_runs.specs.Tales.{IsMakingBody, LineSays}
 use Rattle.house_runs.proofs.JoinedWords.{words_again}
-use Rattle.house_runs.proofs.Lines.{Runs, record_runs}
+use Rattle.house_runs.proofs.Lines.{Runs}
 
 -- a new clearinghouse is for the new house of the model
 pub new_stands : (x : HouseNo) (node : ℕ) → StandsHouse (new_clearinghouse x node) (new_house node)
@@ -49,7 +44,7 @@ pub record Makes (body : List ℕ) (mid : House) : Type 0 where
   pub number : HouseNo
   pub node : ℕ
   pub makes : IsMakingBody body (record { house = number.0; node = node })
-  pub runs : Runs number.0 mid body (new_clearinghouse number node)
+  pub runs : Runs number.0 mid (new_clearinghouse number node)
 
 -- a line gives no record, and there is no house yet; or it makes one
 pub data LineWaits (said : Said) (mid : House) : Type 0 where
@@ -67,9 +62,9 @@ module _ (h : House) (home : h.home ≡ None) (number : ℕ) (said : Said) (mid 
     anew : (says : HouseLine) → RepliesBy h.home h number (with_spaces words) says said mid → RepliesAnew h number (with_spaces words) says said mid
     anew says reply = subst (λ (o : Option Clearinghouse). RepliesBy o h number (with_spaces words) says said mid) home reply
 
-    makes : (x : HouseNo) (node : ℕ) → LineSays (with_spaces words) (asks.House x node) → RepliesAnew h number (with_spaces words) (asks.House x node) said mid
+    makes : (x : HouseNo) (node : ℕ) → said_in words ≡ Ok (Some (asks.House x node)) → LineSays (with_spaces words) (asks.House x node) → RepliesAnew h number (with_spaces words) (asks.House x node) said mid
         → LineWaits said mid
-    makes x node is reply =
+    makes x node read is reply =
         let c : Clearinghouse = new_clearinghouse x node in
         let made : mid.home ≡ Some c = ap (λ (k : House). k.home) reply.after in
         MadeNow reply.octets reply.body (record {
@@ -79,56 +74,48 @@ module _ (h : House) (home : h.home ≡ None) (number : ℕ) (said : Said) (mid 
             number = mid.entry;
             clock = mid.clock;
             line = with_spaces words;
-            image = image_octets (image_of c);
+            line_ends_nowhere = (line_begins words (asks.House x node) read).plain;
             house = x;
             says = is;
             numbered = refl;
-            is = subst
-                (λ (o : Option Clearinghouse). IsBody reply.octets mid.entry mid.clock (turn_text (with_spaces words) [] (answer_line answer.Done)) (image_in o))
-                made reply.record_is.body;
+            is = reply.record_is.body;
           };
-          runs = record_runs x.0 mid (turn_text (with_spaces words) [] (answer_line answer.Done)) reply.octets c made refl (new_lawful x node) reply.record_is;
+          runs = record { home = made; number = refl; lawful = new_lawful x node };
         })
 
     more_kept : (many : Bool) (octets : List ℕ) → RepliesMoreIf many h number octets said mid → LineWaits said mid
     more_kept true octets reply = not_made (ap (λ (s : Said). s.body) reply.0) (ap (λ (k : House). k.home) reply.1)
     more_kept false octets reply = not_made (ap (λ (s : Said). s.body) reply.0) (ap (λ (k : House). k.home) reply.1)
 
-    by_line : (says : HouseLine) → LineSays (with_spaces words) says → RepliesTo h number words says said mid → LineWaits said mid
-    by_line (asks.More octets) is reply = more_kept (nat_lt MOST_MESSAGE (length (h.more ++ octets))) (h.more ++ octets) reply
-    by_line (asks.Take octets) is reply =
+    by_line : (says : HouseLine) → said_in words ≡ Ok (Some says) → LineSays (with_spaces words) says → RepliesTo h number words says said mid → LineWaits said mid
+    by_line (asks.More octets) read is reply = more_kept (nat_lt MOST_MESSAGE (length (h.more ++ octets))) (h.more ++ octets) reply
+    by_line (asks.Take octets) read is reply =
         let reply' = subst (λ (o : Option Clearinghouse). RepliesTake o h number (h.more ++ octets) said mid) home reply in
         not_made (ap (λ (s : Said). s.body) reply'.0) (ap (λ (k : House). k.home) reply'.1)
-    by_line (asks.House x n) is reply = makes x n is (anew (asks.House x n) reply)
-    by_line (asks.Clock t) is reply =
+    by_line (asks.House x n) read is reply = makes x n read is (anew (asks.House x n) reply)
+    by_line (asks.Clock t) read is reply =
         let reply' = anew (asks.Clock t) reply in
         not_made (ap (λ (s : Said). s.body) reply'.0) (ap (λ (k : House). k.home) reply'.1)
-    by_line (asks.Root ls) is reply =
+    by_line (asks.Root ls) read is reply =
         let reply' = anew (asks.Root ls) reply in
         not_made (ap (λ (s : Said). s.body) reply'.0) (ap (λ (k : House). k.home) reply'.1)
-    by_line (asks.Mkdir d n made ls) is reply =
+    by_line (asks.Mkdir d n made ls) read is reply =
         let reply' = anew (asks.Mkdir d n made ls) reply in
         not_made (ap (λ (s : Said). s.body) reply'.0) (ap (λ (k : House). k.home) reply'.1)
-    by_line (asks.Repoint d n y rs) is reply =
+    by_line (asks.Repoint d n y rs) read is reply =
         let reply' = anew (asks.Repoint d n y rs) reply in
         not_made (ap (λ (s : Said). s.body) reply'.0) (ap (λ (k : House). k.home) reply'.1)
-    by_line (asks.Update d u) is reply =
+    by_line (asks.Update d u) read is reply =
         let reply' = anew (asks.Update d u) reply in
         not_made (ap (λ (s : Said). s.body) reply'.0) (ap (λ (k : House). k.home) reply'.1)
-    by_line (asks.Skulk d) is reply =
+    by_line (asks.Skulk d) read is reply =
         let reply' = anew (asks.Skulk d) reply in
         not_made (ap (λ (s : Said). s.body) reply'.0) (ap (λ (k : House). k.home) reply'.1)
-    by_line (asks.Epoch d k list) is reply =
+    by_line (asks.Epoch d k list) read is reply =
         let reply' = anew (asks.Epoch d k list) reply in
         not_made (ap (λ (s : Said). s.body) reply'.0) (ap (λ (k : House). k.home) reply'.1)
-    by_line (asks.Dump d) is reply =
-        let reply' = anew (asks.Dump d) reply in
-        not_made (ap (λ (s : Said). s.body) reply'.0) (ap (λ (k : House). k.home) reply'.1)
-    by_line (asks.Look d n a) is reply =
-        let reply' = anew (asks.Look d n a) reply in
-        not_made (ap (λ (s : Said). s.body) reply'.0) (ap (λ (k : House). k.home) reply'.1)
-    by_line asks.Image is reply =
-        let reply' = anew asks.Image reply in
+    by_line (asks.Ask q) read is reply =
+        let reply' = anew (asks.Ask q) reply in
         not_made (ap (λ (s : Said). s.body) reply'.0) (ap (λ (k : House). k.home) reply'.1)
 
   -- a line where no house was made yet
@@ -137,5 +124,5 @@ module _ (h : House) (home : h.home ≡ None) (number : ℕ) (said : Said) (mid 
     where
       by : (r : Result (Option HouseLine) ParseFault) → said_in (words_of line) ≡ r → RepliesIf h number (words_of line) r said mid → LineWaits said mid
       by (Ok None) is reply = not_made (ap (λ (s : Said). s.body) reply.0) (ap (λ (k : House). k.home) reply.1)
-      by (Ok (Some says)) is reply = by_line (words_of line) says (ap said_in (words_again line) ∙ is) reply
+      by (Ok (Some says)) is reply = by_line (words_of line) says is (ap said_in (words_again line) ∙ is) reply
       by (Err fault) is reply = not_made (ap (λ (s : Said). s.body) reply.0) (ap (λ (k : House). k.home) reply.1)

@@ -4,7 +4,7 @@ use Rattle.house_segments.specs.Segments.{HasBodies}
 use Rattle.house_serving.specs.Turns.{Dialogue, Turn, bodies_of}
 use Rattle.house_turns.specs.declared.house.House.{House}
 use Rattle.house_turns.specs.HouseReplies.{Responds}
-use Rattle.house_turns.specs.Openings.{GoesOn, after_start, new_house, segment_text, start_text}
+use Rattle.house_turns.specs.Openings.{IsSegmentRecord, OpensBy, after_start, new_house, start_text}
 use Rattle.house_turns.specs.Records.{IsRecord}
 
 -- a process begins with a segment; or the one of the segment before goes on there
@@ -29,38 +29,34 @@ abbrev pub folder_bodies : List FolderSegment → List (List ℕ)
 folder_bodies [] = []
 folder_bodies (s ∷ ss) = segment_bodies s ++ folder_bodies ss
 
--- the last one of these, if this one comes before them
-abbrev pub last_body : (before : List ℕ) → List (List ℕ) → List ℕ
-last_body before [] = before
-last_body before (body ∷ bodies) = last_body body bodies
-
--- a process goes on from the last record of its folder, if that has one
-abbrev pub OpensFrom : Option (List ℕ) → House → Type 0
+-- a process goes on from the records of the last segment of its folder, if there is one
+abbrev pub OpensFrom : Option (List (List ℕ)) → House → Type 0
 OpensFrom None house = house ≡ new_house
-OpensFrom (Some body) house = GoesOn body house
+OpensFrom (Some bodies) house = OpensBy bodies house
 
--- a segment that follows this last record begins with this one, and the house is so then: it is
--- opened and started; or it is as it was
-abbrev pub BeginsWith : Beginning → (last : Option (List ℕ)) → (house : House)
+-- a segment that follows these records begins with this one, and the house is so then: it is opened
+-- and started; or it is as it was
+abbrev pub BeginsWith : Beginning → (last : Option (List (List ℕ))) → (house : House)
     → (first : List ℕ) → (begun : House) → Type 0
 BeginsWith ProcessBegins last house first begun =
     (opened : House) × OpensFrom last opened × (begun ≡ after_start opened opened.home)
     × IsRecord begun (start_text opened.home opened.last) first
 BeginsWith ProcessGoesOn last house first begun =
-    (begun ≡ house) × IsRecord begun (segment_text begun begun.home) first
+    (begun ≡ house) × IsSegmentRecord begun first
 
--- segments that follow this last record, where the house is so
-abbrev pub AreSegments : (last : Option (List ℕ)) → House → List FolderSegment → Type 0
+-- segments that follow one with these records, where the house is so
+abbrev pub AreSegments : (last : Option (List (List ℕ))) → House → List FolderSegment → Type 0
 AreSegments last house [] = Unit {0}
 AreSegments last house (s ∷ ss) =
     (begun : House) × (at : House) × BeginsWith s.begins last house s.first begun
     × Dialogue Responds s.number begun s.turns at
-    × AreSegments (Some (last_body s.first (bodies_of s.turns))) at ss
+    × AreSegments (Some (segment_bodies s)) at ss
 
--- the last record of segments that follow this one, if there is one
-abbrev pub last_record : (last : Option (List ℕ)) → List FolderSegment → Option (List ℕ)
-last_record last [] = last
-last_record last (s ∷ ss) = last_record (Some (last_body s.first (bodies_of s.turns))) ss
+-- the records of the last of segments that follow these, if there is one
+abbrev pub last_bodies : (last : Option (List (List ℕ))) → List FolderSegment
+    → Option (List (List ℕ))
+last_bodies last [] = last
+last_bodies last (s ∷ ss) = last_bodies (Some (segment_bodies s)) ss
 
 -- the segments of a folder, from its first one on
 abbrev pub IsFolder : List FolderSegment → Type 0

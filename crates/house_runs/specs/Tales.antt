@@ -1,5 +1,5 @@
 -- What the records of a folder tell: which house was made, and its entries.
-use Rattle.std.specs.Prelude.{◌≡◌, ℕ, List, [], ◌∷◌, ◌++◌, None, Some, Ok, codes}
+use Rattle.std.specs.Prelude.{◌≡◌, ℕ, List, [], ◌∷◌, ◌++◌, None, Some, Ok, codes, map}
 use Rattle.cell_script.specs.Words.{words_of}
 use Rattle.script_answers.specs.Texts.{answer_line}
 use Rattle.script_answers.specs.declared.answer.Answer.TheVariants as answer
@@ -8,12 +8,13 @@ use Rattle.house_lines.specs.LineRows.{said_in}
 use Rattle.house_lines.specs.declared.line.HouseLine.{HouseLine}
 use Rattle.house_lines.specs.declared.line.HouseLine.TheVariants as asks
 use Rattle.cds_stamps.specs.declared.numbers.HouseNo.{HouseNo}
-use Rattle.cell_runs.specs.Entries.{Order, Take, Entry, Started, Turned, TurnEntry}
+use Rattle.cell_runs.specs.Entries.{Order, Take, Entry, Post, Started, Turned, TurnEntry}
 use Rattle.cell_runs.specs.HonestRuns.{IsHonest}
 use Rattle.cell_runs.specs.Orders.{MadeHouse, new_house}
 use Rattle.house_turns.specs.HouseReplies.{take_line, turn_text}
 use Rattle.house_turns.specs.LineOutcomes.{HasNoEnd}
 use Rattle.house_turns.specs.LineSteps.{order_of}
+use Rattle.house_turns.specs.PostTexts.{post_line}
 
 -- the line of a record says this
 abbrev pub LineSays : (line : List ℕ) → HouseLine → Type 0
@@ -26,13 +27,15 @@ pub data SaysOrder : (line : List ℕ) → Order → Type 0 where
   SaysOther : (line : List ℕ) (says : HouseLine) (order : Order)
       → LineSays line says → order_of says ≡ Some order → SaysOrder line order
 
--- the body of the record of a turn, whose answer is one line
+-- the body of the record of a turn: its line and its answer are one line each, and it does not show
+-- the entry's image
 pub record IsTurnBody (body : List ℕ) (e : TurnEntry) : Type 0 where
   pub number : ℕ
   pub line : List ℕ
   pub says : SaysOrder line e.order
+  pub line_ends_nowhere : HasNoEnd line
   pub answer_ends_nowhere : HasNoEnd e.answer
-  pub is : IsBody body number e.clock (turn_text line e.posts e.answer) (Some e.image)
+  pub is : IsBody body number e.clock (turn_text line e.posts e.answer) None
 
 -- that of a start: a line says so, and the text of the last turn follows
 pub record IsStartBody (body image : List ℕ) : Type 0 where
@@ -65,11 +68,11 @@ pub record IsMakingBody (body : List ℕ) (made : MadeHouse) : Type 0 where
   pub number : ℕ
   pub clock : ℕ
   pub line : List ℕ
-  pub image : List ℕ
+  pub line_ends_nowhere : HasNoEnd line
   pub house : HouseNo
   pub says : LineSays line (asks.House house made.node)
   pub numbered : made.house ≡ house.0
-  pub is : IsBody body number clock (turn_text line [] (answer_line answer.Done)) (Some image)
+  pub is : IsBody body number clock (turn_text line [] (answer_line answer.Done)) None
 
 -- bodies tell entries, each one but for those of segments
 pub data TellEntries : (bodies : List (List ℕ)) → List Entry → Type 0 where
@@ -98,3 +101,31 @@ pub record TellHonestHouse (bodies : List (List ℕ)) : Type 0 where
   pub entries : List Entry
   pub tell : TellHouse bodies made entries
   pub honest : IsHonest made.house (new_house made.node) entries
+
+-- ---- what two readings have in common
+
+-- the line of a message in a record
+abbrev pub post_kept : Post → List ℕ
+post_kept p = post_line (codes "post ") p.to p.octets
+
+-- two turns have one clock and one answer, their messages are kept in the same lines, and one line
+-- says the orders of both
+pub record AreAlikeTurns (e f : TurnEntry) : Type 0 where
+  pub clock : e.clock ≡ f.clock
+  pub line : List ℕ
+  pub says : SaysOrder line e.order
+  pub says_too : SaysOrder line f.order
+  pub posts : map post_kept e.posts ≡ map post_kept f.posts
+  pub answer : e.answer ≡ f.answer
+
+-- two entries are starts with one image, or turns that are alike
+abbrev pub AreAlike : Entry → Entry → Type 0
+AreAlike (Started image) (Started other) = image ≡ other
+AreAlike (Turned e) (Turned f) = AreAlikeTurns e f
+AreAlike _ _ = ⊥
+
+-- so it is of the entries of two lists, one by one
+abbrev pub AllAlike : List Entry → List Entry → Type 0
+AllAlike [] [] = Unit {0}
+AllAlike (e ∷ es) (f ∷ fs) = AreAlike e f × AllAlike es fs
+AllAlike _ _ = ⊥

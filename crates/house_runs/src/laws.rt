@@ -1,5 +1,5 @@
 // What holds of the folders of houses that run: the contracts of functions that do nothing.
-ghost use Rattle.std.specs.Prelude.{◌+◌, ◌⊎◌, ℕ, List, None};
+ghost use Rattle.std.specs.Prelude.{◌≡◌, ◌+◌, ◌⊎◌, ℕ, List, None};
 ghost use Rattle.cds_base.specs.Lines.{lines_so_far};
 ghost use Rattle.cds_base.specs.declared.lines.Lines.{Lines};
 ghost use Rattle.house_journal.specs.Journals.{LeavesOnly};
@@ -10,9 +10,11 @@ ghost use Rattle.house_serving.specs.declared.ending.Ending.{Ending};
 ghost use Rattle.house_turns.specs.HouseReplies.{Responds};
 ghost use Rattle.house_turns.specs.Openings.{HasTurn, after_start};
 ghost use Rattle.house_turns.specs.declared.house.House.{House};
-ghost use Rattle.house_runs.specs.Folders.{FolderSegment, HasLines, IsFolder, OpensFrom, folder_bodies, last_record};
+ghost use Rattle.house_runs.specs.Folders.{FolderSegment, HasLines, IsFolder, OpensFrom, folder_bodies, last_bodies};
 ghost use Rattle.house_runs.specs.Runs.{AreFolders, AreOfCell};
-ghost use Rattle.house_runs.specs.Tales.{TellHonestHouse, TellNoHouse};
+ghost use Rattle.cell_runs.specs.Entries.{Entry};
+ghost use Rattle.cell_runs.specs.Orders.{MadeHouse};
+ghost use Rattle.house_runs.specs.Tales.{AllAlike, TellHonestHouse, TellHouse, TellNoHouse};
 
 use cell_runs::runs_are_cells;
 use house_journal::Disk;
@@ -41,12 +43,22 @@ pub fn running_houses_are_honest()
         → TellNoHouse (folder_bodies segments) ⊎ TellHonestHouse (folder_bodies segments) }
 {}
 
+/// Records tell one tale. Take two readings of the records of a folder: they have the same house,
+/// and as many entries. Of two turns the clock, the messages and the answer are the same, and one
+/// line says the orders of both. Two starts have the same image.
+pub fn records_tell_one_tale()
+    ensures { (bodies : List (List ℕ)) (made other : MadeHouse) (es fs : List Entry)
+        → TellHouse bodies made es → TellHouse bodies other fs
+        → (made ≡ other) × AllAlike es fs }
+{}
+
 /// A house that starts can say its last turn again. Take a folder as the processes of a house leave
-/// it, with any crashes between, and a process that goes on from its last record: if a house was
-/// made, it has a last turn then, and the line and the answer of that are one line each.
+/// it, with any crashes between, and a process that goes on from the records of its last segment.
+/// If a house was made, it has a last turn then, and the line and the answer of that are one line
+/// each.
 pub fn each_start_has_a_turn()
     ensures { (segments : List FolderSegment) (opened : House)
-        → IsFolder segments → OpensFrom (last_record None segments) opened
+        → IsFolder segments → OpensFrom (last_bodies None segments) opened
         → HasTurn (after_start opened opened.home).home (after_start opened opened.home).last }
 {}
 

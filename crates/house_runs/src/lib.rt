@@ -4,4 +4,7 @@
 
 mod laws;
 
-pub use laws::{crashes_leave_lines, running_houses_are_cells, running_houses_are_honest};
+pub use laws::{
+    crashes_leave_lines, each_start_has_a_turn, records_tell_one_tale, running_houses_are_cells,
+    running_houses_are_honest,
+};

@@ -7,5 +7,5 @@ mod reading;
 mod segment;
 
 pub use chain::DIGEST;
-pub use reading::{LastRecord, first_record, last_record};
+pub use reading::{LastRecord, first_record, last_record, unsealed};
 pub use segment::Segment;

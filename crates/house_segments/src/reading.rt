@@ -56,9 +56,9 @@ pub fn first_record(octets: &[u8]) -> Option<(&[u8], &[u8])>
     }
 }
 
-// The body and the digest of a record, if it comes after a record with this digest.
+/// The body and the digest of a record, if it comes after a record with this digest.
 #[tactic(auto, using(crate::proofs::ReadLemmas::few_unsealed))]
-fn unsealed<'a>(before: &[u8], octets: &'a [u8]) -> Option<LastRecord<'a>>
+pub fn unsealed<'a>(before: &[u8], octets: &'a [u8]) -> Option<LastRecord<'a>>
     ensures is { IfSome result (λ r. octets.now ≡ sealed before.now r.body.now) }
     ensures digest { IfSome result (λ r. r.digest ≡ digest_after before.now r.body.now) }
     ensures none { IfNone result ((body : List ℕ) → octets.now ≢ sealed before.now body) }

@@ -1,16 +1,13 @@
--- The last turn: out of a record that a house goes on from, and after each line.
-use Rattle.std.proofs.Common.{◌≡◌, ◌≢◌, ℕ, Bool, true, false, List, [], ◌∷◌, ◌++◌, length, refl, sym, ap, subst, ◌∙◌}
-use Rattle.std.specs.Prelude.{Option, Some, None, Result, Ok, Err, codes, decimal, nat_lt, if◌then◌else◌}
-use Rattle.std.proofs.lemmas.List.Elements.{All-append}
-use Rattle.cds_records.specs.RecordOctets.{image_octets}
+-- The last turn, after each line.
+use Rattle.std.proofs.Common.{◌≡◌, ℕ, Bool, true, false, List, [], ◌∷◌, ◌++◌, length, refl, sym, ap, subst, ◌∙◌}
+use Rattle.std.specs.Prelude.{Option, Some, None, Result, Ok, Err, codes, nat_lt}
 use Rattle.cell_script.specs.Words.{words_of}
 use Rattle.cell_script.specs.declared.fault.ParseFault.{ParseFault}
 use Rattle.script_answers.specs.Texts.{answer_line}
 use Rattle.script_answers.specs.declared.answer.Answer.TheVariants as answer
 use Rattle.script_answers.specs.declared.answer.ScriptRefusal.TheVariants as why
-use Rattle.clearinghouse.specs.HouseImages.{image_of}
 use Rattle.clearinghouse.specs.declared.house.Clearinghouse.{Clearinghouse}
-use Rattle.house_entries.proofs.BodyLemmas.{one_record}
+use Rattle.house_entries.specs.Bodies.{IsBody}
 use Rattle.house_lines.specs.LineRows.{said_in}
 use Rattle.house_lines.specs.declared.line.HouseLine.{HouseLine}
 use Rattle.house_lines.specs.declared.line.HouseLine.TheVariants as asks
@@ -23,73 +20,10 @@ use Rattle.house_turns.specs.LineOutcomes.{ComesTo, HasNoEnd, Outcome, Posts, Te
 use Rattle.house_turns.specs.HouseReplies.{IsReply, IsTurnReply, RepliesAnew, RepliesAt, RepliesBy, RepliesIf, RepliesMoreIf, RepliesTake, RepliesTakeIf, RepliesTo}
 use Rattle.house_turns.specs.HouseReplies.{Responds, TellsLines, UnlessAsked, UnlessRefused, new_clearinghouse, posts_text, take_line, turn_text, with_spaces}
 use Rattle.house_turns.specs.HouseAnswers.{early_refusal, question_said}
-use Rattle.house_turns.specs.Openings.{Anew, From, GoesOn, HasTurn, IsTurnText, after_line, is_start, segment_text, start_text, turn_in}
-use Rattle.house_turns.specs.Records.{IsRecord, image_in}
-use Rattle.house_turns.proofs.Cuts.{cut_after}
-use Rattle.house_turns.proofs.SaidAgain.{decimal_ends_nowhere}
-use Rattle.house_turns.proofs.PlainTexts.{done_ends_nowhere, text_ends_nowhere}
+use Rattle.house_turns.specs.Openings.{HasTurn, IsTurnText, Redoes, is_skulk}
+use Rattle.house_turns.specs.Records.{IsTurnRecord}
+use Rattle.house_turns.proofs.PlainTexts.{done_ends_nowhere}
 use Rattle.house_turns.proofs.PlainLines.{BeginsTurn, line_begins, take_begins}
-
--- ---- records
-
--- a house was made, and has this last turn
-pub record HasLast (last : List ℕ) (o : House) : Type 0 where
-  pub last_is : o.last ≡ last
-  pub home : Clearinghouse
-  pub made : o.home ≡ Some home
-
--- the turn that is in the record of a house that was made
-last_in : (h o : House) (c : Clearinghouse) (text octets : List ℕ) → h.home ≡ Some c → IsRecord h text octets → GoesOn octets o → HasLast (turn_in text) o
-last_in h _ c text octets made is (Anew clock body) =
-    let none = (one_record octets h.entry h.clock text (image_in h.home) 0 clock (codes "new" ++ 10 ∷ []) None is.body body).3 in
-    let some : image_in h.home ≡ Some (image_octets (image_of c)) = ap image_in made in
-    absurd (cc (none, some))
-last_in h _ c text octets made is (From entry clock text' image c' body starts) =
-    record {
-      last_is = ap turn_in (sym (one_record octets h.entry h.clock text (image_in h.home) entry clock text' (Some image) is.body body).2);
-      home = c';
-      made = refl;
-    }
-
-last_with : (h o : House) (c : Clearinghouse) (text last octets : List ℕ) → h.home ≡ Some c → IsRecord h text octets → turn_in text ≡ last
-    → GoesOn octets o → HasLast last o
-last_with h o c text last octets made is turn goes =
-    let has = last_in h o c text octets made is goes in
-    record { last_is = has.last_is ∙ turn; home = has.home; made = has.made }
-
--- that of a turn
-pub turn_goes_on : (h o : House) (c : Clearinghouse) (text octets : List ℕ) → h.home ≡ Some c → is_start text ≡ false → IsRecord h text octets
-    → GoesOn octets o → HasLast text o
-turn_goes_on h o c text octets made none is goes =
-    last_with h o c text text octets made is (ap (λ b. if b then after_line text else text) none) goes
-
-pub last_of_turn : (h o : House) (c : Clearinghouse) (text octets : List ℕ) → h.home ≡ Some c → is_start text ≡ false → IsRecord h text octets
-    → GoesOn octets o → o.last ≡ text
-last_of_turn h o c text octets made none is goes = (turn_goes_on h o c text octets made none is goes).last_is
-
--- the one before a start
-pub start_goes_on : (h o : House) (c : Clearinghouse) (last octets : List ℕ) → h.home ≡ Some c → IsRecord h (start_text (Some c) last) octets
-    → GoesOn octets o → HasLast last o
-start_goes_on h o c last octets made is goes = last_with h o c (start_text (Some c) last) last octets made is refl goes
-
-pub last_of_start : (h o : House) (c : Clearinghouse) (last octets : List ℕ) → h.home ≡ Some c → IsRecord h (start_text (Some c) last) octets
-    → GoesOn octets o → o.last ≡ last
-last_of_start h o c last octets made is goes = (start_goes_on h o c last octets made is goes).last_is
-
--- the one before a next segment
-after_segment : (h : House) (c : Clearinghouse) → after_line (segment_text h (Some c)) ≡ h.last
-after_segment h c =
-    cut_after 10 (segment_text h (Some c)) (codes "segment " ++ decimal h.entry) h.last (after_line (segment_text h (Some c))) refl
-    (All-append (λ (b : ℕ). b ≢ 10) (codes "segment ") (decimal h.entry) (text_ends_nowhere (codes "segment ") refl) (decimal_ends_nowhere h.entry))
-    refl
-
-pub segment_goes_on : (h o : House) (c : Clearinghouse) (octets : List ℕ) → h.home ≡ Some c → IsRecord h (segment_text h (Some c)) octets
-    → GoesOn octets o → HasLast h.last o
-segment_goes_on h o c octets made is goes = last_with h o c (segment_text h (Some c)) h.last octets made is (after_segment h c) goes
-
-pub last_of_segment : (h o : House) (c : Clearinghouse) (octets : List ℕ) → h.home ≡ Some c → IsRecord h (segment_text h (Some c)) octets
-    → GoesOn octets o → o.last ≡ h.last
-last_of_segment h o c octets made is goes = (segment_goes_on h o c octets made is goes).last_is
 
 -- ---- lines
 
@@ -98,7 +32,7 @@ last_of_segment h o c octets made is goes = (segment_goes_on h o c octets made i
 pub data LineKept (h : House) (said : Said) (h' : House) : Type 0 where
   NoTurn : said.body ≡ None → h'.home ≡ h.home → h'.last ≡ h.last → LineKept h said h'
   OneTurn : (octets : List ℕ) (c : Clearinghouse) → said.body ≡ Some octets → h'.home ≡ Some c → IsTurnText h'.last
-      → ((o : House) → GoesOn octets o → HasLast h'.last o) → LineKept h said h'
+      → IsTurnRecord h' h'.last octets → LineKept h said h'
 
 module _ (h : House) (number : ℕ) (said : Said) (h' : House) where
   lines_kept : (lines : List (List ℕ)) → TellsLines h number lines said h' → LineKept h said h'
@@ -113,10 +47,16 @@ module _ (h : House) (number : ℕ) (said : Said) (h' : House) where
       let home : h'.home ≡ Some c' = ap (λ (k : House). k.home) reply.after in
       let last : h'.last ≡ text = ap (λ (k : House). k.last) reply.after in
       OneTurn reply.octets c' reply.body home
-      (record { line = line; posts = posts; answer = answer; is = last; line_ends_nowhere = begins.plain; answer_ends_nowhere = one_line })
-      (λ o goes.
-      subst (λ (l : List ℕ). HasLast l o) (sym last)
-      (turn_goes_on h' o c' text reply.octets home (begins.no_start (10 ∷ (posts_text posts ++ (answer ++ 10 ∷ [])))) reply.record_is goes))
+      (record {
+        line = line;
+        posts = posts;
+        answer = answer;
+        is = last;
+        line_ends_nowhere = begins.plain;
+        answer_ends_nowhere = one_line;
+        no_skulk = ap is_skulk last ∙ begins.no_skulk (10 ∷ (posts_text posts ++ (answer ++ 10 ∷ [])));
+      })
+      (subst (λ (l : List ℕ). IsTurnRecord h' l reply.octets) (sym last) reply.record_is)
 
   module _ (c : Clearinghouse) (home : h.home ≡ Some c) (line : List ℕ) (begins : BeginsTurn line) where
     outcome_kept : (says : HouseLine) (o : Outcome) (c' : Clearinghouse) → ComesTo c h.clock says o c' → IsReply h number line o c' said h'
@@ -180,15 +120,18 @@ module _ (h : House) (number : ℕ) (said : Said) (h' : House) where
           NoTurn (ap (λ (s : Said). s.body) reply.0) (ap (λ (k : House). k.home) reply.1) (ap (λ (k : House). k.last) reply.1)
 
 -- a record that a line gives is that of the last turn
-pub last_of_reply : (h h' o : House) (number : ℕ) (line octets : List ℕ) (said : Said) → Responds h number line said h' → said.body ≡ Some octets
-    → GoesOn octets o → o.last ≡ h'.last
-last_of_reply h h' o number line octets said reply some goes = by (line_kept h number said h' line reply)
+pub last_of_reply : (h h' : House) (number : ℕ) (line octets : List ℕ) (said : Said) → Responds h number line said h' → said.body ≡ Some octets
+    → IsTurnRecord h' h'.last octets
+last_of_reply h h' number line octets said reply some = by (line_kept h number said h' line reply)
   where
-    by : LineKept h said h' → o.last ≡ h'.last
+    by : LineKept h said h' → IsTurnRecord h' h'.last octets
     by (NoTurn none home last) = absurd (cc (none, some))
-    by (OneTurn others c is home turn keeps) =
-        let same : octets ≡ others = cc (some, is) in
-        (keeps o (subst (λ (b : List ℕ). GoesOn b o) same goes)).last_is
+    by (OneTurn others c is home turn record_is) =
+        let same : others ≡ octets = cc (some, is) in
+        subst (IsTurnRecord h' h'.last) same record_is
+
+pub last_redone : (h h' : House) (body : List ℕ) → Redoes h body h' → IsBody body h'.entry h'.clock h'.last None
+last_redone h h' body redoes = (last_of_reply (record h { clock = redoes.clock; more = [] }) h' 0 redoes.line body redoes.said redoes.does redoes.same).body
 
 -- ---- what can be said again
 
@@ -204,4 +147,4 @@ turn_after h h' number line said reply turn = by (line_kept h number said h' lin
     by : LineKept h said h' → HasTurn h'.home h'.last
     by (NoTurn none home last) =
         subst (λ (o : Option Clearinghouse). HasTurn o h'.last) (sym home) (subst (λ (l : List ℕ). HasTurn h.home l) (sym last) turn)
-    by (OneTurn octets c is home text keeps) = has_turn h'.home h'.last text
+    by (OneTurn octets c is home text record_is) = has_turn h'.home h'.last text

@@ -1,15 +1,19 @@
 mod Pieces
 mod Cuts
-mod SaidAgain
-mod PlainTexts
+pub mod SaidAgain
+pub mod PlainTexts
 mod PlainWords
-mod PlainLines
+pub mod PlainLines
 pub mod LastTurns
+pub mod RunningLines
+mod SkulkWords
+pub mod Resumptions
+mod Redoing
 mod Letters
 mod Outcomes
 mod Comes
 mod Replies
 mod Recorded
 mod Joining
-mod Starts
 mod Asked
+mod Shows

@@ -10,7 +10,7 @@ use Rattle.directory.specs.Updates.{Change}
 use Rattle.cell_model.specs.Cells as model
 use Rattle.cell_model.specs.Commands as command
 use Rattle.cell_model.specs.Turns as turns
-use Rattle.cell_model.specs.Turns.{HouseStep, Stays, Turns, Turn}
+use Rattle.cell_model.specs.Turns.{HouseStep, Stays, Turns}
 use Rattle.script_answers.specs.Texts.{answer_line}
 use Rattle.script_answers.specs.declared.answer.Answer.TheVariants as answer
 use Rattle.house_directory.specs.declared.posted.Posted.{Posted}

@@ -1,5 +1,5 @@
--- Lines that say something: no line ends in them, and they begin otherwise than the text of a
--- start.
+-- Lines that say something: no line ends in them, and they begin otherwise than the line of a skulk
+-- that runs.
 use Rattle.std.proofs.Common.{◌≡◌, ℕ, ◌+◌, Bool, true, false, List, [], ◌∷◌, ◌++◌, length, refl, sym, ap, subst, ◌∙◌, append_assoc, arith}
 use Rattle.std.specs.Prelude.{◌==◌, nat_eq, not, if◌then◌else◌, codes, Option, Some, None, Result, Ok, Err}
 use Rattle.std.specs.List.{list_all, starts_with}
@@ -9,8 +9,8 @@ use Rattle.std.specs.Str.{bytes_eq}
 use Rattle.std.proofs.lemmas.Slice.Eq.{bytes_eq-Decides}
 use Rattle.cell_script.specs.declared.fault.ParseFault.{ParseFault}
 use Rattle.cell_script.specs.declared.fault.ParseFault.TheVariants.{WrongCount}
-use Rattle.cell_script.specs.Words.{attr_name_of, directory_of, full_name_of, house_of, listed_of, node_of, number_of, octets_of, octets_value_of, serial_of, simple_name_of}
-use Rattle.cell_script.specs.WordForms.{Form, House, Directory, Serial, Time, Node, SimpleName, FullName, AttrName, Value, Octets, Houses, Listeds}
+use Rattle.cell_script.specs.Words.{attr_name_of, confidence_of, directory_of, full_name_of, house_of, listed_of, node_of, number_of, octets_of, octets_value_of, serial_of, simple_name_of}
+use Rattle.cell_script.specs.WordForms.{Form, House, Directory, Serial, Time, Node, SimpleName, FullName, AttrName, Value, Octets, Houses, Listeds, Confidence}
 use Rattle.cell_script.specs.WordForms.{◌>>=◌, Builds, Said, Words, all_words, build_words, check_count, each_word, is_open, least_of, next_word, read_as, said_at, take_words}
 use Rattle.cell_script.specs.CommandRows.{RowOf, no_command, said_among, some_line}
 use Rattle.house_lines.specs.Listings.{after_dash, before_dash, leaving_said, list_said, members_said}
@@ -20,10 +20,10 @@ use Rattle.house_lines.specs.declared.line.EpochList.{EpochList}
 use Rattle.house_lines.specs.declared.line.HouseLine.{HouseLine}
 use Rattle.house_turns.specs.HouseReplies.{take_line, with_spaces}
 use Rattle.house_turns.specs.LineOutcomes.{HasNoEnd}
-use Rattle.house_turns.specs.Openings.{is_start}
+use Rattle.house_turns.specs.Openings.{is_skulk}
 use Rattle.house_turns.proofs.PlainTexts.{both_end_nowhere, more_end_nowhere, none_end_nowhere, text_ends_nowhere}
 use Rattle.house_turns.proofs.SaidAgain.{hex_ends_nowhere}
-use Rattle.house_turns.proofs.PlainWords.{ArePlain, plain_attr, plain_directory, plain_full_name, plain_house, plain_listed, plain_member, plain_name, plain_node, plain_number, plain_octets, plain_serial, plain_value, same_word}
+use Rattle.house_turns.proofs.PlainWords.{ArePlain, plain_attr, plain_confidence, plain_directory, plain_full_name, plain_house, plain_listed, plain_member, plain_name, plain_node, plain_number, plain_octets, plain_serial, plain_value, same_word}
 
 -- ---- words that are read
 
@@ -91,6 +91,7 @@ IsWord FullName = Unit {0}
 IsWord AttrName = Unit {0}
 IsWord Value = Unit {0}
 IsWord Octets = Unit {0}
+IsWord Confidence = Unit {0}
 IsWord other = ⊥
 
 -- forms of one word each; the last one may stand for any number of words
@@ -112,6 +113,7 @@ word_taken FullName one s t is = next_said full_name_of plain_full_name s.read s
 word_taken AttrName one s t is = next_said attr_name_of plain_attr s.read s.rest t is
 word_taken Value one s t is = next_said octets_value_of plain_value s.read s.rest t is
 word_taken Octets one s t is = next_said octets_of plain_octets s.read s.rest t is
+word_taken Confidence one s t is = next_said confidence_of plain_confidence s.read s.rest t is
 word_taken other one s t is = absurd one
 
 -- a form of one word counts as one
@@ -126,6 +128,7 @@ word_counts FullName one fs = (refl, refl)
 word_counts AttrName one fs = (refl, refl)
 word_counts Value one fs = (refl, refl)
 word_counts Octets one fs = (refl, refl)
+word_counts Confidence one fs = (refl, refl)
 word_counts other one fs = absurd one
 
 -- as many words are left as these forms stand for
@@ -173,13 +176,13 @@ module _ {L : Type 0} where
 
 -- ---- first words
 
--- no line ends in octets, and no text that they begin is that of a start
+-- no line ends in octets, and no text that they begin is that of a skulk
 pub record BeginsTurn (octets : List ℕ) : Type 0 where
   pub plain : HasNoEnd octets
-  pub no_start : (rest : List ℕ) → is_start (octets ++ rest) ≡ false
+  pub no_skulk : (rest : List ℕ) → is_skulk (octets ++ rest) ≡ false
 
-begins : (octets : List ℕ) → list_all (λ b. not (b == 10)) octets ≡ true → ((rest : List ℕ) → is_start (octets ++ rest) ≡ false) → BeginsTurn octets
-begins octets plain no_start = record { plain = text_ends_nowhere octets plain; no_start = no_start }
+begins : (octets : List ℕ) → list_all (λ b. not (b == 10)) octets ≡ true → ((rest : List ℕ) → is_skulk (octets ++ rest) ≡ false) → BeginsTurn octets
+begins octets plain no_skulk = record { plain = text_ends_nowhere octets plain; no_skulk = no_skulk }
 
 same_begins : (w text : List ℕ) → bytes_eq w text ≡ true → BeginsTurn text → BeginsTurn w
 same_begins w text is begins = subst BeginsTurn (sym ((bytes_eq-Decides w text).0 is)) begins
@@ -280,7 +283,19 @@ questions = (
   (
     directory_attr,
     begins (codes "look") refl (λ rest. refl),
-    (NoWord, begins (codes "image") refl (λ rest. refl), tt),
+    (
+      OneWord Confidence (Directory ∷ SimpleName ∷ []) tt (directory_name [] NoWord),
+      begins (codes "show") refl (λ rest. refl),
+      (
+        OneWord Directory [] tt NoWord,
+        begins (codes "status") refl (λ rest. refl),
+        (
+          NoWord,
+          begins (codes "directories") refl (λ rest. refl),
+          (NoWord, begins (codes "image") refl (λ rest. refl), tt),
+        ),
+      ),
+    ),
   ),
 )
 
@@ -372,12 +387,12 @@ line_begins (w ∷ ws) l is =
     let read = words_read w ws l is in
     record {
       plain = joined_end_nowhere (w ∷ ws) (read.0.plain, read.1);
-      no_start = λ rest. let first = joined_first w ws rest in ap is_start first.1 ∙ read.0.no_start first.0;
+      no_skulk = λ rest. let first = joined_first w ws rest in ap is_skulk first.1 ∙ read.0.no_skulk first.0;
     }
 
 -- and so does that of a message that is taken
 pub take_begins : (octets : List ℕ) → BeginsTurn (take_line octets)
 take_begins octets = record {
   plain = both_end_nowhere (codes "take ") (encode_lower octets) (text_ends_nowhere (codes "take ") refl) (hex_ends_nowhere octets);
-  no_start = λ rest. refl;
+  no_skulk = λ rest. refl;
 }

@@ -25,7 +25,7 @@ use Rattle.cell_names.specs.FullNames.{behind_slashes, cell_root, components_of,
 use Rattle.cell_names.proofs.FullNameLaws.{spelling-components}
 use Rattle.cell_model.proofs.Lists.{and_right}
 use Rattle.cell_script.specs.declared.lists.Listed.{Listed}
-use Rattle.cell_script.specs.Words.{attr_name_of, directory_of, full_name_of, house_of, is_decimal, listed_as, listed_of, most_directory, most_house, most_serial, node_of, number_end, number_of, number_to, octets_of, octets_value_of, serial_of, simple_name_of, value_in, value_of}
+use Rattle.cell_script.specs.Words.{attr_name_of, confidence_of, directory_of, full_name_of, house_of, is_decimal, listed_as, listed_of, most_directory, most_house, most_serial, node_of, number_end, number_of, number_to, octets_of, octets_value_of, serial_of, simple_name_of, value_in, value_of}
 use Rattle.tower_codec.specs.BindingReading.{cut_at_mark}
 use Rattle.tower_codec.proofs.Cuts.{cut_found}
 use Rattle.house_lines.specs.MemberWords.{kind_of, member_of}
@@ -160,6 +160,15 @@ plain_kind w k is = by (bytes_eq w (codes "m")) refl (bytes_eq w (codes "s")) re
     by false off true on r third is = same_word w (codes "s") on (text_ends_nowhere (codes "s") refl)
     by false off false other true on is = same_word w (codes "r") on (text_ends_nowhere (codes "r") refl)
     by false off false other false none is = absurd (cc (is))
+
+pub plain_confidence : ArePlain confidence_of
+plain_confidence w x is = by (bytes_eq w (codes "low")) refl (bytes_eq w (codes "high")) refl is
+  where
+    by : (l : Bool) → bytes_eq w (codes "low") ≡ l → (h : Bool) → bytes_eq w (codes "high") ≡ h
+        → (if l then Some false else (if h then Some true else None)) ≡ Some x → HasNoEnd w
+    by true on h second is = same_word w (codes "low") on (text_ends_nowhere (codes "low") refl)
+    by false off true on is = same_word w (codes "high") on (text_ends_nowhere (codes "high") refl)
+    by false off false none is = absurd (cc (is))
 
 -- a word of two parts
 parts_end_nowhere : (w : List ℕ) (p : List ℕ × List ℕ) → cut_at_mark 58 w ≡ Some p → HasNoEnd p.0 → HasNoEnd p.1 → HasNoEnd w

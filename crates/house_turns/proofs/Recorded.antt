@@ -4,7 +4,7 @@ use Rattle.std.specs.Prelude.{Option, Some, None, Result, Ok, Err, IfOk, SomeIff
 use Rattle.std.specs.declared.alloc.AllocError.{AllocError}
 use Rattle.house_entries.specs.Bodies.{body_of}
 use Rattle.house_turns.specs.declared.house.House.{House}
-use Rattle.house_turns.specs.Records.{HomeFits, IsRecord, image_in}
+use Rattle.house_turns.specs.Records.{HomeFits, IsRecord, IsTurnRecord, image_in}
 
 -- the octets of a house as it is, with a text
 pub record_body : {T : Type 0} (items : T → List ℕ) (r : Result T AllocError) (h : House) (text : List ℕ) (image : Option (List ℕ)) → h.entry < 2 ^ 64
@@ -16,11 +16,18 @@ record_body items (Ok v) h text image numbered timed short same fits are = recor
   fits = fits;
 }
 
+-- those of a turn
+pub turn_body : {T : Type 0} (items : T → List ℕ) (r : Result T AllocError) (h : House) (text : List ℕ) → h.entry < 2 ^ 64 → h.clock < 2 ^ 64
+    → length text < 2 ^ 32 → IfOk r (λ v. items v ≡ body_of h.entry h.clock text None) → IfOk r (λ v. IsTurnRecord h text (items v))
+turn_body items (Err e) h text numbered timed short are = tt
+turn_body items (Ok v) h text numbered timed short are =
+    record { body = record { numbered = numbered; timed = timed; short = short; octets_are = are } }
+
 -- the record of a turn is that of the house that keeps its text
-pub turn_record : (h : House) (n : ℕ) (last kept text octets : List ℕ) → kept ≡ text → IsRecord (record h { entry = n }) kept octets
-    → IsRecord (record h { entry = n; last = last }) text octets
+pub turn_record : (h : House) (n : ℕ) (last kept text octets : List ℕ) → kept ≡ text → IsTurnRecord (record h { entry = n }) kept octets
+    → IsTurnRecord (record h { entry = n; last = last }) text octets
 turn_record h n last kept text octets same is =
-    subst (λ (t : List ℕ). IsRecord (record h { entry = n; last = last }) t octets) same (record { body = is.body; fits = is.fits })
+    subst (λ (t : List ℕ). IsTurnRecord (record h { entry = n; last = last }) t octets) same (record { body = is.body })
 
 -- the entry after a turn is the next one
 pub counted_on : (o : Option ℕ) (entry n : ℕ) → SomeIff o (entry + 1 < 2 ^ 64) (entry + 1) → o ≡ Some n → n ≡ entry + 1

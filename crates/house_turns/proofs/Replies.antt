@@ -46,9 +46,7 @@ module _ (number : ℕ) (old new : House) (s : Said) where
   anew_other (line.Epoch d k list) other asks = asks
   anew_other (line.More octets) other asks = asks
   anew_other (line.Take octets) other asks = asks
-  anew_other (line.Dump d) other asks = asks
-  anew_other (line.Look d n a) other asks = asks
-  anew_other line.Image other asks = asks
+  anew_other (line.Ask q) other asks = asks
 
   at_other : (c : Clearinghouse) (l : HouseLine) → ((x : HouseNo) (n : ℕ) → l ≡ line.House x n → ⊥) → ((t : ℕ) → l ≡ line.Clock t → ⊥)
       → AsksHome (Some c) number old new l s → DoesAt c number old new l s
@@ -62,9 +60,7 @@ module _ (number : ℕ) (old new : House) (s : Said) where
   at_other c (line.Epoch d k list) other none asks = asks
   at_other c (line.More octets) other none asks = asks
   at_other c (line.Take octets) other none asks = asks
-  at_other c (line.Dump d) other none asks = asks
-  at_other c (line.Look d n a) other none asks = asks
-  at_other c line.Image other none asks = asks
+  at_other c (line.Ask q) other none asks = asks
 
   -- a line that neither makes the house nor sets its clock is what the clearinghouse is asked
   pub does_other : (o : Option Clearinghouse) (l : HouseLine) → ((x : HouseNo) (n : ℕ) → l ≡ line.House x n → ⊥)
@@ -181,9 +177,7 @@ module _ (h : House) (number : ℕ) (words : List ℕ) (s : Said) (said : servin
   anew_reply (line.Epoch d k list) does = none_reply does
   anew_reply (line.More octets) does = none_reply does
   anew_reply (line.Take octets) does = none_reply does
-  anew_reply (line.Dump d) does = none_reply does
-  anew_reply (line.Look d n a) does = none_reply does
-  anew_reply line.Image does = none_reply does
+  anew_reply (line.Ask q) does = none_reply does
 
   module _ (c : Clearinghouse) (home : h.home ≡ Some c) where
     asked : (l : HouseLine) → (c' : Clearinghouse) × DoesOrTells (question_said c l) number c c' h.clock l s × (mid ≡ record (without_more h) { home = Some c' })
@@ -206,9 +200,7 @@ module _ (h : House) (number : ℕ) (words : List ℕ) (s : Said) (said : servin
     at_reply (line.Epoch d k list) does = asked (line.Epoch d k list) does
     at_reply (line.More octets) does = asked (line.More octets) does
     at_reply (line.Take octets) does = asked (line.Take octets) does
-    at_reply (line.Dump d) does = asked (line.Dump d) does
-    at_reply (line.Look d n a) does = asked (line.Look d n a) does
-    at_reply line.Image does = asked line.Image does
+    at_reply (line.Ask q) does = asked (line.Ask q) does
 
   by_home : (o : Option Clearinghouse) (l : HouseLine) → h.home ≡ o → DoesBy o number (without_more h) mid l s → RepliesBy o h number words l said h'
   by_home None l home does = anew_reply l does
@@ -232,9 +224,7 @@ words_reply h number ws l s said mid h' other none does reply = go l other none 
     go (line.Update d u) other none replies = replies
     go (line.Skulk d) other none replies = replies
     go (line.Epoch d k list) other none replies = replies
-    go (line.Dump d) other none replies = replies
-    go (line.Look d n a) other none replies = replies
-    go line.Image other none replies = replies
+    go (line.Ask q) other none replies = replies
 
 -- the same of a call that may run out of memory
 pub words_replied : (r : Result Reply AllocError) (h : House) (number : ℕ) (ws : List (List ℕ)) (l : HouseLine) (s : Said) (mid h' : House)

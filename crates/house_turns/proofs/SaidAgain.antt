@@ -21,7 +21,7 @@ use Rattle.house_turns.proofs.Pieces.{last_lines, more_lines, written_more}
 -- ---- digits are no separators
 
 -- neither a line end nor a space
-abbrev IsDigit : ℕ → Type 0
+abbrev pub IsDigit : ℕ → Type 0
 IsDigit b = (b ≢ 10) × (b ≢ 32)
 
 -- a decimal digit
@@ -178,7 +178,7 @@ pieces_written p to digits text before after left is few wrote =
 post_word : All IsDigit (codes "post")
 post_word = All-from_recursion IsDigit (codes "post") ((omega arith, omega arith), ((omega arith, omega arith), ((omega arith, omega arith), ((omega arith, omega arith), tt))))
 
-no_space : (b : ℕ) → IsDigit b → b ≢ 32
+pub no_space : (b : ℕ) → IsDigit b → b ≢ 32
 no_space b is = is.1
 
 no_end : (b : ℕ) → IsDigit b → b ≢ 10

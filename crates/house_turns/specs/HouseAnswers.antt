@@ -1,7 +1,7 @@
 -- What a house answers to a line by what it holds: refusals that come before all others, and
 -- questions.
 use Rattle.std.specs.Prelude.{ℕ, ◌+◌, Bool, true, not, ◌&&◌, ◌==◌, nat_le, nat_lt, if◌then◌else◌, List, [], ◌∷◌, ◌++◌, length, map, Option, Some, None, Result, Ok, Err, codes, decimal, is_some, is_none}
-use Rattle.std.specs.FinMap.{get}
+use Rattle.std.specs.FinMap.{entries, get}
 use Rattle.std.specs.List.{list_all}
 use Rattle.cds_stamps.specs.Members.{members_fault, members_of, master_of, is_listed}
 use Rattle.cds_stamps.specs.Numbers.{root_dir}
@@ -26,9 +26,12 @@ use Rattle.clearinghouse.specs.declared.house.Clearinghouse.{Clearinghouse}
 use Rattle.house_lines.specs.declared.line.EpochList.{EpochList}
 use Rattle.house_lines.specs.declared.line.HouseLine.{HouseLine}
 use Rattle.house_lines.specs.declared.line.HouseLine.TheVariants as line
+use Rattle.house_lines.specs.declared.line.HouseQuestion.{HouseQuestion}
+use Rattle.house_lines.specs.declared.line.HouseQuestion.TheVariants as ask
 use Rattle.cell_runs.specs.LineAnswers.{refused}
 use Rattle.house_turns.specs.LineSteps.{listed_houses}
 use Rattle.house_turns.specs.PostTexts.{end_line, octets_line, octets_lines}
+use Rattle.house_turns.specs.Showings.{directories_said, show_said, status_said}
 
 -- ---- refusals that come before those of the model
 
@@ -120,9 +123,16 @@ look_said name attr None = refused why.NoReplica ∷ []
 look_said name attr (Some (state.Gone e)) = refused why.NoReplica ∷ []
 look_said name attr (Some (state.Held h)) = values_said attr (shown_in h.replica.table name)
 
--- what a house answers to a question; nothing, if the line is none
+-- what a house answers to a question
+abbrev pub asked_said : Clearinghouse → HouseQuestion → List (List ℕ)
+asked_said c (ask.Dump d) = dump_said (get c.dirs d)
+asked_said c (ask.Look d n a) = look_said n a (get c.dirs d)
+asked_said c (ask.Show high d n) = show_said c.house.0 high n (get c.dirs d)
+asked_said c (ask.Status d) = status_said (get c.dirs d)
+asked_said c ask.Directories = directories_said (entries c.dirs)
+asked_said c ask.Image = octets_lines (image_octets (image_of c))
+
+-- what a house answers to a line that is a question; nothing, if it is none
 abbrev pub question_said : Clearinghouse → HouseLine → Option (List (List ℕ))
-question_said c (line.Dump d) = Some (dump_said (get c.dirs d))
-question_said c (line.Look d n a) = Some (look_said n a (get c.dirs d))
-question_said c line.Image = Some (octets_lines (image_octets (image_of c)))
+question_said c (line.Ask q) = Some (asked_said c q)
 question_said c other = None

@@ -20,7 +20,7 @@ use Rattle.house_turns.specs.declared.house.House.{House}
 use Rattle.house_turns.specs.declared.house.TheConstants.{MOST_MESSAGE}
 use Rattle.house_turns.specs.HouseAnswers.{early_refusal, question_said}
 use Rattle.house_turns.specs.LineOutcomes.{ComesTo, Outcome, Posts, Tells}
-use Rattle.house_turns.specs.Records.{IsRecord}
+use Rattle.house_turns.specs.Records.{IsTurnRecord}
 use Rattle.house_turns.specs.PostTexts.{octets_line, piece_lines, pieces_of, post_line}
 
 -- ---- messages that are posted, and texts
@@ -77,7 +77,7 @@ pub record IsTurnReply (h : House) (number : ℕ) (line : List ℕ) (posts : Lis
   pub text : said.text ≡ lines_text number (turn_lines posts answer)
   pub octets : List ℕ
   pub body : said.body ≡ Some octets
-  pub record_is : IsRecord h' (turn_text line posts answer) octets
+  pub record_is : IsTurnRecord h' (turn_text line posts answer) octets
   pub after : h' ≡ after_turn h c' (turn_text line posts answer)
 
 -- the reply that what a line comes to gives (own)

@@ -1,8 +1,10 @@
 pub mod PostTexts
 pub mod LineSteps
+pub mod Showings
 pub mod HouseAnswers
 pub mod Records
 pub mod LineOutcomes
 pub mod HouseReplies
+pub mod RunningSkulks
 pub mod Openings
 pub mod PrivateTurns

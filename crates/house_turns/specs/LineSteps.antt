@@ -48,7 +48,7 @@ abbrev pub step_of : (x : ℕ) → model.House → Option Order → model.Messag
 step_of x now None m = Stays Done
 step_of x now (Some o) m = order_step x now o m
 
--- the same of a line (own)
+-- the step of the house x at a line (own)
 abbrev pub step_at : (x : ℕ) → model.House → HouseLine → model.Message → HouseStep
 step_at x now says m = step_of x now (order_of says) m
 

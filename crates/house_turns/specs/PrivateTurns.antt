@@ -1,5 +1,5 @@
 -- Words of private functions alone: what they come to, by the types that they answer with.
-use Rattle.std.specs.Prelude.{◌≡◌, ℕ, ◌+◌, All, List, [], ◌∷◌, ◌++◌, map, Option, None, Some, Ok, codes, if◌then◌else◌}
+use Rattle.std.specs.Prelude.{◌≡◌, ◌≢◌, ℕ, ◌+◌, All, false, List, [], ◌∷◌, ◌++◌, map, Option, None, Some, Ok, codes, if◌then◌else◌}
 use Rattle.script_answers.specs.Texts.{answer_line, lines_text}
 use Rattle.script_answers.specs.declared.answer.Answer.TheVariants as answer
 use Rattle.script_answers.specs.declared.answer.ScriptRefusal.{ScriptRefusal}
@@ -39,14 +39,17 @@ use Rattle.cell_model.specs.Taking.{CanTake}
 use Rattle.cell_model.specs.Turns.{accept, take}
 use Rattle.house_directory.specs.DirectorySteps.{is_taken}
 use Rattle.house_directory.specs.HouseMessages.{StandsMessage}
-use Rattle.clearinghouse.specs.HouseImages.{start_of_octets}
+use Rattle.clearinghouse.specs.HouseImages.{start_of_octets, with_skulks}
 use Rattle.clearinghouse.specs.LawfulHouses.{IsLawful}
 use Rattle.clearinghouse.specs.ModelHouses.{StandsHouse}
 use Rattle.house_turns.specs.declared.house.House.{House}
 use Rattle.house_turns.specs.LineOutcomes.{ComesTo, IsOneLine, IsOutcome, Outcome, Posts, StaysAt, Tells}
 use Rattle.house_turns.specs.HouseReplies.{new_clearinghouse, turn_lines, turn_text}
-use Rattle.house_turns.specs.Openings.{started_with}
-use Rattle.house_turns.specs.Records.{IsRecord}
+use Rattle.house_turns.specs.Openings.{house_with, is_skulk, segment_line}
+use Rattle.house_turns.specs.RunningSkulks.{AllFit, running_lines}
+use Rattle.house_turns.specs.declared.running.RunningLines.{RunningLines}
+use Rattle.clearinghouse.specs.declared.running.RunningSkulk.{RunningSkulk}
+use Rattle.house_turns.specs.Records.{IsTurnRecord}
 use Rattle.house_turns.specs.HouseAnswers.{early_refusal, question_said}
 
 -- a message to each of its receivers, if there is one
@@ -211,7 +214,7 @@ pub record TurnReply (h : House) (number : ℕ) (line : List ℕ) (posts : List 
   pub text : reply.text ≡ lines_text number (turn_lines posts answer)
   pub octets : List ℕ
   pub body : reply.body ≡ Some octets
-  pub record_is : IsRecord h' (turn_text line posts answer) octets
+  pub record_is : IsTurnRecord h' (turn_text line posts answer) octets
   pub after : h' ≡ record h { entry = h.entry + 1; last = turn_text line posts answer }
 
 -- the reply that what is said gives, and the house after it
@@ -222,10 +225,50 @@ ReplyOf h number line (Told text) reply h' =
 ReplyOf h number line (Turned ps octets) reply h' =
     TurnReply h number line (posts_in ps) octets.items reply h'
 
--- ---- starts
+-- ---- the first records of segments
 
--- a house that starts of an image, after so many entries, the last turn of which has this text
-pub record StartsFrom (entry : ℕ) (turn image : List ℕ) (h : House) : Type 0 where
+-- the clearinghouse that starts of an image; none, if none does
+abbrev pub StartsOf : (image : List ℕ) → Option Clearinghouse → Type 0
+StartsOf image None = (c : Clearinghouse) → start_of_octets image ≢ Ok c
+StartsOf image (Some c) = start_of_octets image ≡ Ok c
+
+-- the lines of these skulks are in front of a text, and this comes after them
+pub record SkulksFirst (text : List ℕ) (skulks : List RunningSkulk) (rest : List ℕ) : Type 0 where
+  pub whole : text ≡ running_lines skulks ++ rest
+  pub fit : AllFit skulks
+  pub ends : is_skulk rest ≡ false
+
+-- what is read of the front of a text
+abbrev pub ReadsSkulks : (text : List ℕ) → Option RunningLines → Type 0
+ReadsSkulks text None =
+    (skulks : List RunningSkulk) (rest : List ℕ) → ¬ SkulksFirst text skulks rest
+ReadsSkulks text (Some lines) = SkulksFirst text lines.skulks.items lines.rest.now
+
+-- the text of a first record, after so many entries, says that these skulks run, and repeats this
+-- last turn
+pub data IsFirstText (entry : ℕ) (text : List ℕ) : List RunningSkulk → (last : List ℕ)
+    → Type 0 where
+  OfStart : (last : List ℕ) → text ≡ codes "start" ++ (10 ∷ last) → IsFirstText entry text [] last
+  OfSegment : (rest : List ℕ) (skulks : List RunningSkulk) (last : List ℕ)
+      → text ≡ segment_line entry ++ rest → SkulksFirst rest skulks last
+      → IsFirstText entry text skulks last
+
+-- what is read of such a text
+abbrev pub ReadsFirst : (entry : ℕ) → (text : List ℕ) → Option RunningLines → Type 0
+ReadsFirst entry text None =
+    (skulks : List RunningSkulk) (last : List ℕ) → ¬ IsFirstText entry text skulks last
+ReadsFirst entry text (Some lines) = IsFirstText entry text lines.skulks.items lines.rest.now
+
+-- a house resumes with this text and this image
+pub record ResumesAs (entry clock : ℕ) (text image : List ℕ) (h : House) : Type 0 where
+  pub skulks : List RunningSkulk
+  pub last : List ℕ
   pub home : Clearinghouse
+  pub says : IsFirstText entry text skulks last
   pub starts : start_of_octets image ≡ Ok home
-  pub is : h ≡ started_with home entry turn
+  pub is : h ≡ house_with (with_skulks skulks home) entry clock last
+
+-- the house that resumes so; none, if none does
+abbrev pub ResumesBy : (entry clock : ℕ) → (text image : List ℕ) → Option House → Type 0
+ResumesBy entry clock text image None = (h : House) → ¬ ResumesAs entry clock text image h
+ResumesBy entry clock text image (Some h) = ResumesAs entry clock text image h

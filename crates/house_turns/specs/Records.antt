@@ -17,7 +17,11 @@ abbrev pub HomeFits : Option Clearinghouse → Type 0
 HomeFits None = Unit {0}
 HomeFits (Some c) = FitsImage (image_of c)
 
--- octets are the body of a record of a house as it is, with this text (own)
+-- octets are the body of the first record of a segment, of a house as it is, with this text (own)
 pub record IsRecord (h : House) (text octets : List ℕ) : Type 0 where
   pub body : IsBody octets h.entry h.clock text (image_in h.home)
   pub fits : HomeFits h.home
+
+-- octets are the body of the record of a turn, after which the house is so: no image follows (own)
+pub record IsTurnRecord (h : House) (text octets : List ℕ) : Type 0 where
+  pub body : IsBody octets h.entry h.clock text None

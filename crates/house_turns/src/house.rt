@@ -9,12 +9,12 @@ ghost use Rattle.clearinghouse.specs.declared.house.Clearinghouse.{Clearinghouse
 ghost use Rattle.house_lines.specs.declared.line.HouseLine.TheVariants as lines;
 ghost use Rattle.house_turns.specs.HouseReplies.{RepliesAt, RepliesMore, RepliesTake, RepliesTo, Responds, with_spaces, turn_lines};
 ghost use Rattle.house_turns.specs.Openings.{new_house};
-ghost use Rattle.house_turns.specs.Records.{HomeFits, IsRecord, image_in};
+ghost use Rattle.house_turns.specs.Records.{HomeFits, IsRecord, IsTurnRecord, image_in};
 ghost use Rattle.house_turns.specs.PrivateTurns.{AsksHome, DoesBy, DoesOrTells, ReplyOf, TurnReply, posts_in};
 ghost use Rattle.house_turns.specs.HouseAnswers.{question_said};
 ghost use Rattle.house_turns.specs.PostTexts.{octets_line};
 
-use crate::asking::{dump, image, look};
+use crate::asking::ask;
 use crate::founding::{mkdir, root};
 use crate::octets::OctetBuffer;
 use crate::posts::{push_kept, push_posts};
@@ -156,7 +156,7 @@ impl House {
         }
     }
 
-    /// The body of a record with this text, in the house as it is.
+    /// The body of the first record of a segment, with this text, in the house as it is.
     pub(crate) fn body(&self, alloc: Global, text: &[u8]) -> Result<Vec<u8>, AllocError>
         ensures { IfOk result (λ v. IsRecord self.now text.now v.items) }
     {
@@ -165,6 +165,16 @@ impl House {
         }
         let image = self.image(alloc)?;
         body_octets(alloc, self.entry, self.clock, text, image.as_deref())
+    }
+
+    // The body of the record of a turn with this text, after which the house is as it is.
+    fn turn_body(&self, alloc: Global, text: &[u8]) -> Result<Vec<u8>, AllocError>
+        ensures { IfOk result (λ v. IsTurnRecord self.now text.now v.items) }
+    {
+        if text.len() > u32::MAX as usize {
+            return Err(AllocError);
+        }
+        body_octets(alloc, self.entry, self.clock, text, None)
     }
 
     // The reply to a line that was a turn.
@@ -181,7 +191,7 @@ impl House {
     {
         let kept = turn_text(alloc, line, posts, answer)?;
         self.entry = self.entry.checked_add(1).ok_or(AllocError)?;
-        let body = self.body(alloc, &kept)?;
+        let body = self.turn_body(alloc, &kept)?;
         self.last = OctetBuffer::of(kept);
         Ok(Reply {
             text: turn_told(alloc, number, posts, answer)?,
@@ -370,9 +380,7 @@ fn come_to(
         HouseLine::Update(dir, change) => update(alloc, home, clock, number, dir, &change),
         HouseLine::Skulk(dir) => skulk(alloc, home, clock, number, dir),
         HouseLine::Epoch(dir, k, list) => epoch(alloc, home, number, dir, k, &list),
-        HouseLine::Dump(dir) => dump(alloc, home, number, dir),
-        HouseLine::Look(dir, name, attr) => look(alloc, home, number, dir, &name, &attr),
-        HouseLine::Image => image(alloc, home, number),
+        HouseLine::Ask(question) => ask(alloc, home, number, &question),
         HouseLine::Take(octets) => take(alloc, home, number, octets.list()),
         HouseLine::House(_, _) => told(alloc, number, &Answer::Done),
         HouseLine::Clock(_) => told(alloc, number, &Answer::Done),

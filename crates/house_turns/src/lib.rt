@@ -10,11 +10,14 @@ mod lists;
 mod octets;
 mod opening;
 mod posts;
+mod resuming;
+mod running;
 mod said;
+mod showing;
 mod taking;
 mod texts;
 mod turns;
 
 pub use house::{House, MOST_MESSAGE};
 pub use octets::OctetBuffer;
-pub use opening::open;
+pub use resuming::resume;

@@ -9,7 +9,7 @@ use std::test::Fail;
 const LONGEST: usize = 4080;
 
 // A line of each command.
-const LINES: [&[u8]; 19] = [
+const LINES: [&[u8]; 22] = [
     b"house 1 00000000000a",
     b"clock 18446744073709551615",
     b"root s2 3",
@@ -28,6 +28,9 @@ const LINES: [&[u8]; 19] = [
     b"take 0207",
     b"dump 4294967295",
     b"look 1 lpr A",
+    b"show high 1 lpr",
+    b"status 1",
+    b"directories",
     b"image",
 ];
 

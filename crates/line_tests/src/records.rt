@@ -30,6 +30,6 @@ fn a_record_without_an_image_ends_in_its_text(rt: HostRuntime) -> Result<(), Fai
 #[test]
 fn the_head_of_a_segment_names_it(rt: HostRuntime) -> Result<(), Fail> {
     let octets = head_octets(rt.alloc(), 12, b"\x01\x02")?;
-    assert!(rt; octets.as_slice() == b"cdshouse journal 1 12\n\x01\x02".as_slice());
+    assert!(rt; octets.as_slice() == b"cdshouse journal 2 12\n\x01\x02".as_slice());
     Ok(())
 }

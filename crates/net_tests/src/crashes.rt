@@ -1,8 +1,9 @@
 // A house that dies in each call of its disk keeps each turn that it answered, and at most one
 // more.
-use crate::lives::{Death, Folder};
+use crate::lives::Folder;
 use cell_script::Words;
 use house_journal::Leave;
+use house_program::Death;
 use std::alloc::Global;
 use std::test::Fail;
 

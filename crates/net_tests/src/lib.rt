@@ -1,5 +1,6 @@
 //! Houses over disks in memory, in one process: what they keep through a crash in each call of
-//! their disks, and that five of them agree over a net that loses, repeats and reorders.
+//! their disks, that five of them agree over a net that loses, repeats and reorders, and that each
+//! question is answered.
 #![tactic(auto)]
 
 #[cfg(test)]
@@ -8,3 +9,7 @@ mod crashes;
 mod lives;
 #[cfg(test)]
 mod net;
+#[cfg(test)]
+mod questions;
+#[cfg(test)]
+mod redoing;

@@ -2,31 +2,35 @@
 from __future__ import annotations
 
 import os
+import shlex
 import signal
 import subprocess
 import sys
 
 from doors.trials.clients import Client
 from doors.trials.nets import Carriers, Loopback, Namespaces
+from doors.trials.transports import Place, Tcp
 
 HERE = os.path.dirname(os.path.realpath(__file__))
-DOOR, CARRY = f"{HERE}/../../door", f"{HERE}/carry.py"
+DOOR = f"{HERE}/../../door"
 MACHINES = [1, 2, 3]
 # The machine whose door is the console.
 CONSOLE = 1
 
 
 class Machines:
-    """`folder` gets a folder mN of each machine, and a folder hN of its house."""
+    """`folder` gets a folder mN of each machine, and a folder hN of its house. `kind` is what carries lines between them."""
 
-    def __init__(self, folder: str, house: str, clerk: str, skulk_every: float, is_local: bool) -> None:
+    def __init__(self, folder: str, house: str, clerk: str, skulk_every: float, is_local: bool, kind: type[Tcp] = Tcp) -> None:
         self.folder, self.house, self.clerk, self.skulk_every = folder, house, clerk, skulk_every
         self.doors: dict[int, subprocess.Popen[bytes]] = {}
         self.carriers: Carriers = {machine: [] for machine in MACHINES}
         self.net = (Loopback if is_local else Namespaces)(MACHINES, self.carriers)
+        self.transport = kind(folder, MACHINES)
 
     def begin(self) -> None:
         self.net.begin()
+        self.transport.prepare()
         for machine in MACHINES:
             self.begin_machine(machine)
 
@@ -48,9 +52,14 @@ class Machines:
         self.begin_door(machine)
         for other in MACHINES:
             if other != machine:
-                address = [*self.net.address(machine, other), f"{folder}/peer{other}"]
-                words = [*self.net.inside(machine), sys.executable, CARRY, "--listen", *address]
-                self.carriers[machine].append(subprocess.Popen(words, start_new_session=True))
+                listens = self.transport.listener(machine, other, self.place(machine, other), f"{folder}/peer{other}")
+                with open(f"{folder}/listener{other}", "ab") as errors:
+                    words = [*self.net.inside(machine), *listens]
+                    self.carriers[machine].append(subprocess.Popen(words, start_new_session=True, stderr=errors))
+
+    def place(self, machine: int, other: int) -> Place:
+        """Where a machine listens to the door of another one."""
+        return Place(*self.net.address(machine, other))
 
     def cell_file(self, machine: int) -> list[str]:
         lines = [f"near = {machine}", f"console = {CONSOLE}", f'program = "{self.house}"', f'clerk = "{self.clerk}"']
@@ -59,7 +68,7 @@ class Machines:
             if other == machine:
                 lines += [f"[house.{other}]", f'folder = "../h{other}"']
                 continue
-            via = " ".join([sys.executable, CARRY, *self.net.address(other, machine)])
+            via = shlex.join(self.transport.via(machine, other, self.place(other, machine)))
             lines += [f"[house.{other}]", f'via = "{via}"']
             lines += [f"[peer.{other}]", f'socket = "peer{other}"', f"houses = [{other}]"]
             if CONSOLE in (other, machine):

@@ -4,7 +4,15 @@ const HELP = [
   ["→ ←, j k", "one line on, or back"], ["Home, End", "the first line, the last one"], ["h H", "the next command at this house, or the one before"],
   ["s S", "the next complete skulk, or the one before"], ["e E", "the next line that changed the chosen entry (of a stamp or message: that has to do with it)"],
   ["r R", "the next refused line"], ["g", "to a line by its number"], ["/", "find an entry, a stamp as 3@1 (time and house), a message as 17, or any text"],
-  ["Esc", "nothing is chosen any more"], ["?", "these keys"],
+  ["Esc", "nothing is chosen any more"], ["?", "these keys, and what the marks are"],
+];
+
+// What the marks of the time pane are.
+const MARKS = [
+  ["mark with corners", "a command; light: a question; dashed: refused"], ["round mark", "a delivery, in the colour of its message; hollow: it changed nothing"],
+  ["cross, ring", "the message was lost; it was never delivered"], ["thick line, with gaps", "the house is the master; it is secondary"],
+  ["thin line, dotted", "it holds a replica and is read-only; it holds none"], ["no line", "the house is down, or not made yet"],
+  ["yellow, dashed box", "a skulk that is complete; one that is not"], ["> <", "the arrow goes on at that line, or comes from it"],
 ];
 
 // Shows the present line in all panes, once for all that happens up to the next frame.
@@ -70,6 +78,9 @@ function onSought(event) {
     return choose(null);
   }
   choose(meantBy(text), true);
+  if (event.type === "submit") {
+    byId("sought").blur();
+  }
   const first = choice.life.size && !choice.life.has(present.index) ? steps[Math.min(...choice.life)] : null;
   return first ? go(first) : undefined;
 }
@@ -81,6 +92,7 @@ function begin() {
   const about = [`form ${data.form}`, plural(steps.length, "step"), plural(Object.keys(data.nodes).length, "house"), plural(messages.size, "message")];
   byId("about").textContent = about.join(", ");
   byId("help").append(make("dl", {}, HELP.map(([keys, words]) => [make("dt", {}, make("kbd", {}, keys)), make("dd", {}, words)])),
+    make("dl", {}, MARKS.map(([mark, words]) => [make("dt", {}, mark), make("dd", {}, words)])),
     make("p", {}, "A stamp 3@1 is the time 3 at the node of house 1; point at it for the whole. In tables “missed” is what the master has and this house lacks, ",
       "“only here” what the master lacks, “purged” what one of the two has forgotten up to its AllUpTo. ● marks what the present line changed."));
   const known = entriesKnown().slice(0, 400).map(({ dir, name }) => make("option", { value: `${name} (directory ${dir})` }));

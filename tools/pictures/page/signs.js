@@ -92,7 +92,7 @@ function signOf(key, { houses, replica }, master) {
   if (own === undefined) {
     return signOfMissing(key, due, head, replica, master);
   }
-  return due === undefined ? signOfOwn(key, own, head, master) : signOfOther(key, own, due);
+  return due === undefined ? signOfOwn(key, own, head, master) : signOfOther(key, own, due, head, master);
 }
 
 // A fact that the master alone has: purged here, or overtaken by what is later here, or missed.
@@ -131,14 +131,17 @@ function isOvertaken(key, stamp, replica) {
 }
 
 // A fact that both have, and not the same.
-function signOfOther(key, own, due) {
+function signOfOther(key, own, due, head, master) {
   const [one, other] = [data.words[own].split(" "), data.words[due].split(" ")];
   if (key.attribute === undefined && one[1] === other[1]) {
     return one[2] === "live" || (other[2] !== "live" && compareStamps(one[2], other[2]) < 0) ? "missed" : "ahead";
   }
   const [first, second] = [strength(key, own), strength(key, due)];
-  if (first === null || second === null) {
-    return first === null ? "missed" : "ahead";
+  if (first === null) {
+    return isUpTo(second, head) ? "purged" : "missed";
+  }
+  if (second === null) {
+    return isUpTo(first, master.head) ? "kept" : "ahead";
   }
   return compareStamps(first, second) < 0 ? "missed" : "ahead";
 }

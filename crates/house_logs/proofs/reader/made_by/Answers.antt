@@ -8,5 +8,4 @@ returns-in-House c = record {
   says = (rw c.in-Some.is at c.in_ok-says.ensures) ∙ ap (λ (s : HouseLine). Ok (Some s)) c.in-House.is;
   posts = first_of (search rules, grind (arith, common_steps));
   answer = first_of (search rules, grind (arith, common_steps));
-  image_is = c.in_ok-octets_of-in-House.ensures;
 }

@@ -1,4 +1,4 @@
-use Rattle.std.proofs.Common.{◌++◌}
+use Rattle.std.proofs.Common.{◌<◌, ◌++◌, ℕ, inl, inr, refl, subst}
 use Rattle.house_serving.specs.Turns.{bodies_of}
 use Rattle.house_serving.proofs.Runs.{begins_between, goes_on, grown, input_ends, line_ends, stops_at}
 use Rattle.house_serving.proofs.serving.serve.Goals as goal
@@ -8,6 +8,7 @@ lines-init g c = record {
   between = λ before bodies at.
       begins_between g.R.Responder.responds g.D.Disk before bodies g.met.D.Disk.only_now c.args.house.now c.args.segment.now c.args.lines.now _ _ _ _ at;
   unbroken = c.requires.unbroken;
+  small = inl refl;
 }
 
 pub answer_line-requires : goal.answer_line-requires
@@ -29,18 +30,19 @@ lines-preserved g c =
           (moved.next c.lines.invariant.unbroken) (moved.cause c.lines.invariant.unbroken) _ _ _ _ _
           (c.answer_line.ensures before (bodies ++ bodies_of b.turns) b.synced) c.in-Ok.is;
       unbroken = next.fault;
+      small = inr (subst (λ (n : ℕ). n < c.args.most) c.size.ensures c.if-size-most.false);
     }
 
-pub returns-in-Err-answer_line : goal.returns-in-Err-answer_line
-returns-in-Err-answer_line g c before bodies at =
+pub returns-in-Err-answer_line-clause-served : goal.returns-in-Err-answer_line-clause-served
+returns-in-Err-answer_line-clause-served g c before bodies at =
     let moved = rw (c.in-Ok-Some.is, c.in-Ok-Some.field-0-is) at c.next.follows.holds-at-none in
     let b = c.lines.invariant.between before bodies at in
     line_ends g.R.Responder.responds g.D.Disk before bodies g.met.D.Disk.only_now _ _ _ _ _ _ _ _ _ _ _ _ _ _ b _ _ _ _ _
     (moved.next c.lines.invariant.unbroken) (moved.cause c.lines.invariant.unbroken) _ _ _ _ _
     (c.answer_line.ensures before (bodies ++ bodies_of b.turns) b.synced) c.in-Err-answer_line.ending c.in-Err-answer_line.is
 
-pub returns-then-size-most : goal.returns-then-size-most
-returns-then-size-most g c before bodies at =
+pub returns-then-size-most-clause-served : goal.returns-then-size-most-clause-served
+returns-then-size-most-clause-served g c before bodies at =
     let moved = rw (c.in-Ok-Some.is, c.in-Ok-Some.field-0-is) at c.next.follows.holds-at-none in
     let next = moved.next c.lines.invariant.unbroken in
     let b = c.lines.invariant.between before bodies at in
@@ -50,15 +52,15 @@ returns-then-size-most g c before bodies at =
     (c.answer_line.ensures before (bodies ++ bodies_of b.turns) b.synced) c.in-Ok.is)
     next.fault
 
-pub returns-in-Err : goal.returns-in-Err
-returns-in-Err g c before bodies at =
+pub returns-in-Err-clause-served : goal.returns-in-Err-clause-served
+returns-in-Err-clause-served g c before bodies at =
     let moved = rw (c.in-Err.is) at c.next.follows.holds-at-none in
     let b = c.lines.invariant.between before bodies at in
     stops_at g.R.Responder.responds g.D.Disk before bodies g.met.D.Disk.only_now _ _ _ _ _ _ _ _ _ _ _ _ _ _ b _ _ _ c.in-Err.fault
     (moved.next c.lines.invariant.unbroken) _ _ c.stop_at.result c.stop_at.ensures (moved.cause c.lines.invariant.unbroken)
 
-pub returns-in-Ok-None : goal.returns-in-Ok-None
-returns-in-Ok-None g c before bodies at =
+pub returns-in-Ok-None-clause-served : goal.returns-in-Ok-None-clause-served
+returns-in-Ok-None-clause-served g c before bodies at =
     let moved = rw (c.in-Ok-None.is, c.in-Ok-None.field-0-is) at c.next.follows.holds-at-none in
     let b = c.lines.invariant.between before bodies at in
     input_ends g.R.Responder.responds g.D.Disk before bodies g.met.D.Disk.only_now _ _ _ _ _ _ _ _ _ _ _ _ _ _ b _ _ _

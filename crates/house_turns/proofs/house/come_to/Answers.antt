@@ -1,10 +1,6 @@
 use Rattle.std.proofs.Common.{refl}
-use Rattle.std.specs.FinMap.{get}
-use Rattle.cds_records.specs.RecordOctets.{image_octets}
-use Rattle.clearinghouse.specs.HouseImages.{image_of}
 use Rattle.house_lines.specs.declared.line.HouseLine.TheVariants as line
-use Rattle.house_turns.specs.HouseAnswers.{dump_said, look_said}
-use Rattle.house_turns.specs.PostTexts.{octets_lines}
+use Rattle.house_turns.specs.HouseAnswers.{asked_said}
 use Rattle.house_turns.proofs.Replies.{nothing_comes, told_only}
 use Rattle.house_turns.proofs.house.come_to.Goals as goal
 
@@ -29,18 +25,9 @@ returns-in-Epoch c = rw c.in-Epoch.is (c.epoch.ensures c.args.clock)
 pub returns-in-Take : goal.returns-in-Take
 returns-in-Take c = rw c.in-Take.is (rw c.list-in-Take.ensures at c.take.ensures c.args.clock)
 
-pub returns-in-Dump : goal.returns-in-Dump
-returns-in-Dump c =
-    rw c.in-Dump.is (told_only c.dump.result c.args.number (dump_said (get c.args.home.now.dirs c.in-Dump.dir)) c.args.home.now c.dump.ensures)
-
-pub returns-in-Look : goal.returns-in-Look
-returns-in-Look c =
-    rw c.in-Look.is
-    (told_only c.look.result c.args.number (look_said c.in-Look.name c.in-Look.attr (get c.args.home.now.dirs c.in-Look.dir)) c.args.home.now c.look.ensures)
-
-pub returns-in-Image : goal.returns-in-Image
-returns-in-Image c =
-    rw c.in-Image.is (told_only c.image.result c.args.number (octets_lines (image_octets (image_of c.args.home.now))) c.args.home.now c.image.ensures)
+pub returns-in-Ask : goal.returns-in-Ask
+returns-in-Ask c =
+    rw c.in-Ask.is (told_only c.ask.result c.args.number (asked_said c.args.home.now c.in-Ask.question) c.args.home.now c.ask.ensures)
 
 pub returns-in-House : goal.returns-in-House
 returns-in-House c =

@@ -1,4 +1,6 @@
-use Rattle.std.proofs.Common.{◌≡◌, ◌∷◌, ◌++◌, [], List, ℕ, subst, sym, ◌∙◌}
+use Rattle.std.proofs.Common.{◌≡◌, ◌∷◌, ◌++◌, [], List, ℕ, Option, subst, sym, ◌∙◌}
+use Rattle.std.specs.Prelude.{IfSome}
+use Rattle.cell_runs.specs.Views.{image_in}
 use Rattle.cds_stamps.specs.Members.{members_of}
 use Rattle.cell_model.specs.Cells as model
 use Rattle.cell_model.specs.Steps.{outcome, replay}
@@ -45,7 +47,10 @@ returns-clause-done c = λ cs has ready clock.
     (c.if-not-are_posted.ensures after (told _ mid.replayer.cell after c.cell-4.ensures stands))
     in
     let posts = subst (λ (n : ℕ). ArePostedAfter after n t.posts.items) first posted in
-    let image = c.in_ok-compare_image.ensures after stands ∙ c.list-2.ensures in
+    let image =
+    subst (λ (o : Option (List ℕ)). IfSome o (λ i. image_in after h.0 ≡ i)) c.as_ref.ensures.value
+    (c.in_ok-compare_shown.ensures after stands)
+    in
     let text : c.push.new.self.text.items ≡ mid.text.items ++ (c.deref-3.result.now ++ 10 ∷ []) = cc (c.in_ok-push.ensures.text, c.note.ensures.text) in
     turn_done old mid c.push.new.self cs said.command c.deref-3.result.now h t c.args.serial (members_of c.in_ok-before.before.items) c.in_ok-answer.answer
     answer.0 has stepped text (c.push.ensures.lines ∙ c.note.ensures.lines) (c.push.ensures.replayer ∙ c.note.ensures.replayer)

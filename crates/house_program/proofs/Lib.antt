@@ -1,0 +1,6 @@
+mod ReadLemmas
+mod FolderLemmas
+mod LifeLemmas
+mod ProcessLemmas
+mod CauseLemmas
+mod LeftHouses

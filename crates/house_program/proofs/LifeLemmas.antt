@@ -1,0 +1,342 @@
+-- What a process did, segment by segment.
+use Rattle.std.proofs.Common.{◌≡◌, ◌≢◌, ◌⊎◌, inl, inr, ⊎_elim, ℕ, ◌+◌, ◌<◌, List, [], ◌∷◌, ◌++◌, length, take, drop, refl, sym, ◌∙◌, ap, subst, append_assoc, append-nil, take-append-drop, arith}
+use Rattle.std.specs.Prelude.{Option, Some, None, Result, Ok, Err, IsErrAnd}
+use Rattle.std.specs.Io.KnownBytes.{Appends, IsAtEnd}
+use Rattle.cds_base.specs.Lines.{fault_of_lines, lines_so_far, octets_ahead}
+use Rattle.cds_base.specs.SourceReading.{GrowsByReading}
+use Rattle.cds_base.specs.declared.lines.Lines.{Lines}
+use Rattle.cds_base.proofs.KnownOctets.{appends_more, appends_none}
+use Rattle.house_journal.specs.declared.disk.Disk.{Ghosts}
+use Rattle.house_journal.specs.Journals.{LeavesOnly}
+use Rattle.house_segments.specs.Segments.{HasBodies, IsAt, disk_of}
+use Rattle.house_segments.specs.declared.segment.Segment.{Segment}
+use Rattle.house_serving.specs.Faults.{line_fault_text, shown, too_long}
+use Rattle.house_serving.specs.Serving.{EndsSo, HasFront, IsFaulty, IsOver, Run, Served}
+use Rattle.house_serving.specs.Turns.{Dialogue, Turn, bodies_of, lines_text, texts_of}
+use Rattle.house_serving.specs.declared.ending.Ending.{Ending}
+use Rattle.house_serving.specs.declared.ending.Ending.TheVariants.{BadInput, DiskFault, Full, Grown, InputEnds, OutOfMemory, ReadFault, WriteFault}
+use Rattle.house_serving.proofs.Fronts.{front_none, left_at, unmoved}
+use Rattle.house_turns.specs.HouseReplies.{Responds}
+use Rattle.house_turns.specs.declared.house.House.{House}
+use Rattle.house_segments.specs.Chains.{last_digest}
+use Rattle.house_program.specs.Beginnings.{first_bodies}
+use Rattle.house_program.specs.Files.{Files, NumberedFile, WithFile}
+use Rattle.house_program.specs.Lives.{IsFaultLine, IsSaid}
+use Rattle.house_program.specs.PrivateLives.{EndsDue, IsDue, IsPassed, IsWhole, SegmentDone, Spoken}
+use Rattle.house_program.specs.declared.segments.Left.{Left}
+use Rattle.house_program.specs.declared.segments.Next.{Next}
+use Rattle.house_program.specs.Statuses.{status_after, status_of_folder}
+use Rattle.house_program.specs.declared.folder.FolderFault.{FolderFault}
+use Rattle.house_program.specs.declared.folder.FolderFault.TheVariants as folders
+use Rattle.house_program.specs.declared.status.Status.{Status}
+use Rattle.house_program.specs.declared.status.Status.TheVariants as statuses
+
+-- ---- what is said first, and then lines
+
+-- the line of a fault
+fault_line : (number : ℕ) (one octets : List ℕ) (left : Option (List ℕ)) (last : List ℕ) → IsFaulty number one octets left last → IsFaultLine last
+fault_line number one octets left last (inl is) = inr (shown is.0, is.3)
+fault_line number one octets left last (inr is) = inr (too_long number, is.4)
+
+maybe_fault : (number : ℕ) (one octets : List ℕ) (left : Option (List ℕ)) (last : List ℕ) → (last ≡ []) ⊎ IsFaulty number one octets left last → IsFaultLine last
+maybe_fault number one octets left last (inl none) = inl none
+maybe_fault number one octets left last (inr is) = fault_line number one octets left last is
+
+-- the answers of lines, and what was written of them
+record Words (turns : List Turn) (text : List ℕ) : Type 0 where
+  last : List ℕ
+  unsaid : List ℕ
+  fault : IsFaultLine last
+  front : texts_of turns ++ last ≡ text ++ unsaid
+
+all_words : (turns : List Turn) (text last : List ℕ) → IsFaultLine last → text ≡ texts_of turns ++ last → Words turns text
+all_words turns text last fault all = record { last = last; unsaid = []; fault = fault; front = sym all ∙ sym (append-nil text) }
+
+exact_words : (turns : List Turn) (text : List ℕ) → text ≡ texts_of turns → Words turns text
+exact_words turns text all = all_words turns text [] (inl refl) (all ∙ sym (append-nil (texts_of turns)))
+
+module _ {D : Type 0} (g : Ghosts D) (before : List ℕ) (bodies : List (List ℕ)) (segment : Segment D) (turns : List Turn) (over : List (List ℕ)) (last text : List ℕ)
+    (at house : House) (one : List ℕ) (lines : Lines) (number : ℕ) (left : Option (List ℕ)) where
+  words : (ending : Ending) → EndsSo g before bodies segment turns over last text at house one lines number left ending → Words turns text
+  words InputEnds ends = all_words turns text last (inl ends.1) ends.0.all_written
+  words BadInput ends = all_words turns text last (fault_line number one (octets_ahead lines) left last ends.1) ends.0.all_written
+  words ReadFault ends = all_words turns text last (inl ends.1) ends.0.all_written
+  words WriteFault ends = record {
+    last = last;
+    unsaid = ends.0.0;
+    fault = maybe_fault number one (octets_ahead lines) left last ends.2;
+    front = ends.0.1;
+  }
+  words OutOfMemory ends = exact_words turns text ends
+  words Full ends = exact_words turns text ends.0
+  words DiskFault ends = exact_words turns text ends
+  words Grown ends = all_words turns text last (inl ends.1) ends.0.all_written
+
+  -- what holds where all that is due was done
+  record Due (lines0 : Lines) (left0 : Option (List ℕ)) : Type 0 where
+    here : at ≡ house
+    none_over : over ≡ []
+    synced : IsAt g segment before (bodies ++ bodies_of turns)
+    all : text ≡ texts_of turns
+    no_one : one ≡ []
+
+  due_at : (lines0 : Lines) (left0 : Option (List ℕ)) (ending : Ending) → IsDue ending
+      → EndsSo g before bodies segment turns over last text at house one lines number left ending → Due lines0 left0
+  due_at lines0 left0 ending (inl is) ends =
+      let so = subst (EndsSo g before bodies segment turns over last text at house one lines number left) is ends in
+      record {
+        here = so.0.here;
+        none_over = so.0.none_over;
+        synced = so.0.synced;
+        all = so.0.all_written ∙ ap (λ (l : List ℕ). texts_of turns ++ l) so.1 ∙ append-nil (texts_of turns);
+        no_one = so.2;
+      }
+  due_at lines0 left0 ending (inr is) ends =
+      let so = subst (EndsSo g before bodies segment turns over last text at house one lines number left) is ends in
+      record {
+        here = so.0.here;
+        none_over = so.0.none_over;
+        synced = so.0.synced;
+        all = so.0.all_written ∙ ap (λ (l : List ℕ). texts_of turns ++ l) so.1 ∙ append-nil (texts_of turns);
+        no_one = so.2;
+      }
+
+  unbroken_at : (ending : Ending) → ending ≡ Grown → EndsSo g before bodies segment turns over last text at house one lines number left ending
+      → fault_of_lines lines ≡ None
+  unbroken_at ending is ends = (subst (EndsSo g before bodies segment turns over last text at house one lines number left) is ends).3
+
+  ended_at : (ending : Ending) → ending ≡ InputEnds → EndsSo g before bodies segment turns over last text at house one lines number left ending
+      → (octets_ahead lines ≡ []) × IsAtEnd left
+  ended_at ending is ends =
+      let so = subst (EndsSo g before bodies segment turns over last text at house one lines number left) is ends in (so.3, so.4)
+
+module _ {D : Type 0} (g : Ghosts D) (before : List ℕ) (bodies : List (List ℕ)) (said : List ℕ) (house house' : House) (segment segment' : Segment D)
+    (lines lines' : Lines) where
+  -- it was said, and then lines were answered
+  pub spoke : (run : Run) (written0 : Option (List ℕ)) (writes0 : ℕ) (ending : Ending) → Appends written0 run.written said
+      → Served Responds g before bodies house house' segment segment' lines lines' run ending
+      → Spoken g before bodies said house house' segment segment' lines lines' (record run { written = written0; writes = writes0 }) ending
+  spoke run written0 writes0 ending wrote s =
+      let w = words g before bodies segment' s.turns s.over s.last s.text s.at house' s.one lines' (lines_so_far lines + length s.turns + 1) run.left' ending s.ends in
+      let same : lines_so_far lines + length s.turns + 1 ≡ lines_so_far lines + 1 + length s.turns = omega arith in
+      record {
+        turns = s.turns;
+        over = s.over;
+        text = said ++ s.text;
+        at = s.at;
+        talk = s.work.talk;
+        over_one = subst (λ (n : ℕ). IsOver Responds n s.at s.over) same s.over_one;
+        wrote = appends_more written0 run.written run.written' said s.text wrote s.work.wrote;
+        crash = s.work.crash;
+        acknowledged = s.work.acknowledged;
+        says = record {
+          last = w.last;
+          unsaid = w.unsaid;
+          fault = w.fault;
+          front = ap (λ (l : List ℕ). said ++ l) w.front ∙ sym (append_assoc said s.text w.unsaid);
+        };
+        whole = λ is.
+            let d = due_at g before bodies segment' s.turns s.over s.last s.text s.at house' s.one lines' (lines_so_far lines + length s.turns + 1) run.left'
+            lines run.left ending is s.ends in
+            record {
+              here = d.here;
+              none_over = d.none_over;
+              all = ap (λ (l : List ℕ). said ++ l) d.all;
+              synced = d.synced;
+              read =
+                  subst (λ (l : List ℕ). GrowsByReading run.left run.left' (octets_ahead lines) (lines_text s.turns ++ (l ++ octets_ahead lines')))
+                  d.no_one s.read;
+            };
+        due = record {
+          unbroken = λ is.
+              unbroken_at g before bodies segment' s.turns s.over s.last s.text s.at house' s.one lines' (lines_so_far lines + length s.turns + 1) run.left'
+              ending is s.ends;
+          input = λ is.
+              ended_at g before bodies segment' s.turns s.over s.last s.text s.at house' s.one lines' (lines_so_far lines + length s.turns + 1) run.left'
+              ending is s.ends;
+        };
+      }
+
+-- not all was said
+pub unspoken : {D : Type 0} (g : Ghosts D) (only : (d : D) (c : List ℕ) → g.left_since d (g.moment d) c → g.may_leave d c) (before : List ℕ)
+    (bodies : List (List ℕ)) (said : List ℕ) (house : House) (segment : Segment D) (lines : Lines) (run : Run) (k : ℕ)
+    → IsAt g segment before bodies → Appends run.written run.written' (take k said)
+    → Spoken g before bodies said house house segment segment lines lines run WriteFault
+unspoken g only before bodies said house segment lines run k at wrote = record {
+  turns = [];
+  over = [];
+  text = take k said;
+  at = house;
+  talk = refl;
+  over_one = inl refl;
+  wrote = wrote;
+  crash = unmoved g before bodies only [] segment at;
+  acknowledged = λ c left. subst (λ (l : List (List ℕ)). HasFront before l [] c) (sym (append-nil bodies))
+      (front_none before bodies [] c (left_at g before bodies segment at c left));
+  says = record { last = []; unsaid = drop k said; fault = inl refl; front = append-nil said ∙ sym (take-append-drop k said) };
+  whole = λ is. not_due is;
+  due = record { unbroken = λ is. absurd (cc (is)); input = λ is. absurd (cc (is)) };
+}
+  where
+    not_due : {P : Type 0} → IsDue WriteFault → P
+    not_due (inl is) = absurd (cc (is))
+    not_due (inr is) = absurd (cc (is))
+
+-- the same octets are said
+pub said_as : {D : Type 0} (g : Ghosts D) (before : List ℕ) (bodies : List (List ℕ)) (said other : List ℕ) (house house' : House)
+    (segment segment' : Segment D) (lines lines' : Lines) (run : Run) (ending : Ending) → said ≡ other
+    → Spoken g before bodies said house house' segment segment' lines lines' run ending
+    → Spoken g before bodies other house house' segment segment' lines lines' run ending
+said_as g before bodies said other house house' segment segment' lines lines' run ending same spoken =
+    subst (λ (l : List ℕ). Spoken g before bodies l house house' segment segment' lines lines' run ending) same spoken
+
+-- ---- a segment that is made, named and closed
+
+pub with_more : (kept kept1 : Files → Type 0) (number : ℕ) (L L1 : List ℕ → Type 0) (files : Files) → ((f : Files) → kept1 f → kept f)
+    → ((c : List ℕ) → L1 c → L c) → WithFile kept1 number L1 files → WithFile kept number L files
+with_more kept kept1 number L L1 files fewer weaker w = record {
+  front = w.front;
+  octets = w.octets;
+  before = fewer w.front w.before;
+  left = weaker w.octets w.left;
+  split = w.split;
+}
+
+-- a segment that was begun, whether it got its number or not
+pub unnamed : {D : Type 0} (g : Ghosts D) (segment : Segment D) (d : D) (next : Next) (base base1 kept kept1 X : Files → Type 0)
+    → d ≡ disk_of segment → IsAt g segment next.before (first_bodies next) → ((f : Files) → base1 f → base f) → ((f : Files) → kept1 f → kept f)
+    → ((f : Files) → X f → base1 f ⊎ WithFile kept1 next.number (g.may_leave d) f)
+    → (f : Files) → X f → base f ⊎ WithFile kept next.number (HasBodies next.before (first_bodies next)) f
+unnamed {D} g segment d next base base1 kept kept1 X same at fewer quiet either f is =
+    ⊎_elim (λ was. inl (fewer f was))
+    (λ w. inr (with_more kept kept1 next.number (HasBodies next.before (first_bodies next)) (g.may_leave d) f quiet
+    (λ c l. left_at g next.before (first_bodies next) segment at c (subst (λ (x : D). g.may_leave x c) same l)) w)) (either f is)
+
+module _ (kept ever : Files → Type 0) (next : Next) (house : House) (lines : Lines) (run : Run) where
+  abbrev AtFirst : List (List ℕ) → List ℕ → Type 0
+  AtFirst more = HasFront next.before (first_bodies next) more
+
+  -- nothing was said, and no line was done
+  pub unsaid : (kept' ever' : Files → Type 0) (status : Status) → status ≢ statuses.Ok → Appends run.written run.written' []
+      → ((files : Files) → kept' files → kept files ⊎ WithFile kept next.number (HasBodies next.before (first_bodies next)) files)
+      → ((files : Files) → ever' files → ever files ⊎ WithFile kept next.number (HasBodies next.before (first_bodies next)) files)
+      → SegmentDone kept ever kept' ever' next house house lines lines run (Err status)
+  unsaid kept' ever' status bad wrote at_end moments = record {
+    turns = [];
+    over = [];
+    text = [];
+    at = house;
+    talk = refl;
+    over_one = inl refl;
+    wrote = wrote;
+    any_moment = λ files left. ⊎_elim (λ was. inl was)
+        (λ w. inr (with_more kept kept next.number (AtFirst []) (HasBodies next.before (first_bodies next)) files (λ f k. k)
+        (λ c has. front_none next.before (first_bodies next) [] c has) w)) (moments files left);
+    at_the_end = λ files left. ⊎_elim (λ was. inl (was, refl, refl))
+        (λ w. inr (with_more kept kept next.number (HasFront next.before (first_bodies next ++ []) []) (HasBodies next.before (first_bodies next)) files (λ f k. k)
+        (λ c has. front_none next.before (first_bodies next ++ []) [] c
+        (subst (λ (l : List (List ℕ)). HasBodies next.before l c) (sym (append-nil (first_bodies next))) has)) w)) (at_end files left);
+    says = record { last = []; unsaid = next.said.items; fault = inl refl; front = append-nil next.said.items };
+    passed = λ left is due. absurd (cc (is));
+    due = λ left is. absurd (cc (is));
+    not_ok = λ s is. subst (λ (x : Status). x ≢ statuses.Ok) (err_is status s is) bad;
+  }
+    where
+      err_is : (a b : Status) → (let e : Result Left Status = Err a in e ≡ Err b) → a ≡ b
+      err_is a b same = cc (same)
+
+  -- a segment that is not made, by any error that is no success
+  pub refused : (kept' ever' : Files → Type 0) (Q : Status → Type 0) (r : Result Left Status) → IsErrAnd r Q → ((s : Status) → Q s → s ≢ statuses.Ok)
+      → Appends run.written run.written' []
+      → ((files : Files) → kept' files → kept files ⊎ WithFile kept next.number (HasBodies next.before (first_bodies next)) files)
+      → ((files : Files) → ever' files → ever files ⊎ WithFile kept next.number (HasBodies next.before (first_bodies next)) files)
+      → SegmentDone kept ever kept' ever' next house house lines lines run r
+  refused kept' ever' Q (Ok x) is bad wrote at_end moments = absurd is
+  refused kept' ever' Q (Err s) is bad wrote at_end moments = unsaid kept' ever' s (bad s is) wrote at_end moments
+
+  -- the segment was named, and lines were answered
+  module _ {D : Type 0} (g : Ghosts D) (segment segment' : Segment D) (house' : House) (lines' : Lines) (ending : Ending)
+      (s : Spoken g next.before (first_bodies next) next.said.items house house' segment segment' lines lines' run ending) where
+    abbrev All : List ℕ → Type 0
+    All = HasFront next.before (first_bodies next) (bodies_of s.turns ++ s.over)
+
+    pub named : (kept1 ever1 kept2 ever2 kept3 ever3 : Files → Type 0) (left : Left) (d d' : D) → left.ending ≡ ending → IsAt g segment next.before (first_bodies next)
+        → ((before : List ℕ) (bodies : List (List ℕ)) → IsAt g segment' before bodies → left.digest ≡ last_digest before bodies)
+        → d ≡ disk_of segment → d' ≡ disk_of segment'
+        → ((f : Files) → kept1 f → kept f) → ((f : Files) → ever1 f → ever f) → ((f : Files) → kept2 f → kept1 f)
+        → ((f : Files) → ever2 f → ever1 f ⊎ WithFile kept1 next.number (g.may_leave d) f)
+        → ((f : Files) → kept3 f → WithFile kept2 next.number (g.may_leave d') f)
+        → ((f : Files) → ever3 f → ever2 f ⊎ WithFile kept2 next.number (g.left_since d' (g.moment d)) f)
+        → SegmentDone kept ever kept3 ever3 next house house' lines lines' run (Ok left)
+    named kept1 ever1 kept2 ever2 kept3 ever3 left d d' so at digest same same' quiet calm others naming closing moments = record {
+      turns = s.turns;
+      over = s.over;
+      text = s.text;
+      at = s.at;
+      talk = s.talk;
+      over_one = s.over_one;
+      wrote = s.wrote;
+      any_moment = λ files is. ⊎_elim
+          (λ was. ⊎_elim (λ old. inl (calm files old))
+          (λ w. inr (with_more kept kept1 next.number All (g.may_leave d) files quiet
+          (λ c l. front_none next.before (first_bodies next) (bodies_of s.turns ++ s.over) c
+          (left_at g next.before (first_bodies next) segment at c (subst (λ (x : D). g.may_leave x c) same l))) w))
+          (naming files was))
+          (λ w. inr (with_more kept kept2 next.number All (g.left_since d' (g.moment d)) files (λ f k. quiet f (others f k))
+          (λ c l. s.crash.each c (subst (λ (x : D). g.left_since x (g.moment (disk_of segment)) c) same'
+          (subst (λ (x : D). g.left_since d' (g.moment x) c) same l))) w))
+          (moments files is);
+      at_the_end = λ files is. inr (with_more kept kept2 next.number (HasFront next.before (first_bodies next ++ bodies_of s.turns) s.over)
+          (g.may_leave d') files (λ f k. quiet f (others f k)) (λ c l. s.acknowledged c (subst (λ (x : D). g.may_leave x c) same' l)) (closing files is));
+      says = s.says;
+      passed = λ l is due.
+          let same : left ≡ l = cc (is) in
+          let w = s.whole (subst IsDue so (subst (λ (x : Left). IsDue x.ending) (sym same) due)) in
+          subst (λ (x : Left). IsPassed kept kept3 next s.turns s.over s.text s.at house' lines lines' run x) same record {
+            here = w.here;
+            none_over = w.none_over;
+            all = w.all;
+            digest = digest next.before (first_bodies next ++ bodies_of s.turns) w.synced;
+            leaves = λ files is. with_more kept kept2 next.number (HasBodies next.before (first_bodies next ++ bodies_of s.turns))
+                (g.may_leave d') files (λ f k. quiet f (others f k))
+                (λ c l. left_at g next.before (first_bodies next ++ bodies_of s.turns) segment' w.synced c (subst (λ (x : D). g.may_leave x c) same' l)) (closing files is);
+            read = w.read;
+          };
+      due = λ l is.
+          let same : left ≡ l = cc (is) in
+          subst (λ (x : Left). EndsDue lines' run x.ending) same (subst (EndsDue lines' run) (sym so) s.due);
+      not_ok = λ status is. absurd (cc (is));
+    }
+
+-- ---- statuses
+
+pub folder_not_ok : (f : FolderFault) (s : Status) → s ≡ status_of_folder f → s ≢ statuses.Ok
+folder_not_ok folders.Unreadable s is ok = absurd (cc (is, ok))
+folder_not_ok folders.Taken s is ok = absurd (cc (is, ok))
+folder_not_ok folders.Failed s is ok = absurd (cc (is, ok))
+folder_not_ok folders.OutOfMemory s is ok = absurd (cc (is, ok))
+
+pub same_not_ok : (e s : Status) → e ≢ statuses.Ok → s ≡ e → s ≢ statuses.Ok
+same_not_ok e s bad same ok = bad (sym same ∙ ok)
+
+-- the status after an ending is a success where the input ended
+pub ok_ends : (e : Ending) (s : Status) → Some s ≡ status_after e → s ≡ statuses.Ok → e ≡ InputEnds
+ok_ends InputEnds s is ok = refl
+ok_ends BadInput s is ok = absurd (cc (is, ok))
+ok_ends ReadFault s is ok = absurd (cc (is, ok))
+ok_ends WriteFault s is ok = absurd (cc (is, ok))
+ok_ends OutOfMemory s is ok = absurd (cc (is, ok))
+ok_ends Full s is ok = absurd (cc (is, ok))
+ok_ends DiskFault s is ok = absurd (cc (is, ok))
+ok_ends Grown s is ok = absurd (cc (is, ok))
+
+-- the process goes on after this ending alone
+pub goes_on : (e : Ending) → None ≡ status_after e → e ≡ Grown
+goes_on InputEnds is = absurd (cc)
+goes_on BadInput is = absurd (cc)
+goes_on ReadFault is = absurd (cc)
+goes_on WriteFault is = absurd (cc)
+goes_on OutOfMemory is = absurd (cc)
+goes_on Full is = absurd (cc)
+goes_on DiskFault is = absurd (cc)
+goes_on Grown is = refl

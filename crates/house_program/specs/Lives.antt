@@ -1,0 +1,88 @@
+-- What a process did, from its start on.
+use Rattle.std.specs.Prelude.{◌≡◌, ◌≢◌, ◌⊎◌, ℕ, ◌+◌, List, [], ◌∷◌, ◌++◌, Option, length}
+use Rattle.std.specs.Io.KnownBytes.{Appends, IsAtEnd}
+use Rattle.cds_base.specs.SourceReading.{GrowsByReading}
+use Rattle.cds_base.specs.declared.scan.LineFault.{LineFault}
+use Rattle.script_answers.specs.Texts as texts
+use Rattle.house_runs.specs.Folders.{FolderSegment, OpensFrom, folder_bodies}
+use Rattle.house_serving.specs.Faults.{line_fault_text}
+use Rattle.house_serving.specs.Serving.{Run}
+use Rattle.house_serving.specs.Turns.{Turn, lines_text, texts_of}
+use Rattle.house_turns.specs.Openings.{HasTurn, after_start, first_lines}
+use Rattle.house_turns.specs.declared.house.House.{House}
+use Rattle.house_program.specs.Files.{Files}
+use Rattle.house_program.specs.HouseFolders.{Found, IsFront}
+use Rattle.house_program.specs.declared.status.Status.{Status}
+use Rattle.house_program.specs.declared.status.Status.TheVariants.{Ok}
+
+-- the lines of segments, in order (own)
+abbrev pub turns_in : List FolderSegment → List Turn
+turns_in [] = []
+turns_in (s ∷ ss) = s.turns ++ turns_in ss
+
+-- what a house says first (own)
+abbrev pub IsFirstText : House → List ℕ → Type 0
+IsFirstText h said = (turn : HasTurn h.home h.last) → said ≡ texts.lines_text 0
+    (first_lines h h.home turn)
+
+-- nothing, or the line of a fault of octets (own)
+abbrev pub IsFaultLine : List ℕ → Type 0
+IsFaultLine last = (last ≡ []) ⊎ ((fault : LineFault) × (last ≡ line_fault_text fault))
+
+-- octets are a front of what is said first, of the answers of these lines, and of the line of a
+-- fault after them (own)
+pub record IsSaid (said : List ℕ) (turns : List Turn) (text : List ℕ) : Type 0 where
+  pub last : List ℕ
+  pub unsaid : List ℕ
+  pub fault : IsFaultLine last
+  pub front : said ++ (texts_of turns ++ last) ≡ text ++ unsaid
+
+-- A crash leaves a front of what was made, and of that all that was said: if anything was, the
+-- start; and the lines that were answered, and perhaps more (own)
+pub record IsKept (kept : Files → Type 0) (found : Found) (records : List (List ℕ))
+    (said text : List ℕ) (files : Files) : Type 0 where
+  pub front : IsFront kept found records files
+  pub started : front.segments ≡ [] → text ≡ []
+  pub answered : List Turn
+  pub more : List Turn
+  pub split : turns_in front.segments ≡ answered ++ more
+  pub says : IsSaid said answered text
+
+-- all lines of the input are these, and all is answered (own)
+pub record IsAnswered (run : Run) (said : List ℕ) (turns : List Turn) (text : List ℕ) : Type 0 where
+  pub all : text ≡ said ++ texts_of turns
+  pub read : GrowsByReading run.left run.left' [] (lines_text turns)
+  pub ends : IsAtEnd run.left'
+
+-- What a process did. It went on from the last segment, and put these records; it said this. A
+-- crash at any moment left the folder of before and a front of the records; one after it leaves all
+-- of which anything was said (own)
+pub record Life (kept ever kept' ever' : Files → Type 0) (run : Run)
+    (status : Status) : Type 0 where
+  pub found : Found
+  pub opened : House
+  pub segments : List FolderSegment
+  pub over : List (List ℕ)
+  pub said : List ℕ
+  pub text : List ℕ
+  pub opens : OpensFrom found.last opened
+  pub speaks : IsFirstText (after_start opened opened.home) said
+  pub wrote : Appends run.written run.written' text
+  pub any_moment : (files : Files) → ever' files → ever files ⊎ IsFront kept found
+      (folder_bodies segments ++ over) files
+  pub at_the_end : (files : Files) → kept' files → IsKept kept found
+      (folder_bodies segments ++ over) said text files
+  pub answers : status ≡ Ok → IsAnswered run said (turns_in segments) text
+
+-- nothing was said, and nothing done that a crash may leave (own)
+pub record IsIdle (kept ever kept' ever' : Files → Type 0) (run : Run)
+    (status : Status) : Type 0 where
+  pub wrote : Appends run.written run.written' []
+  pub calm : (files : Files) → ever' files → ever files
+  pub fewer : (files : Files) → kept' files → kept files
+  pub not_ok : status ≢ Ok
+
+-- a process did nothing, or it lived (own)
+abbrev pub Lived : (kept ever kept' ever' : Files → Type 0) → Run → Status → Type 0
+Lived kept ever kept' ever' run status = IsIdle kept ever kept' ever' run status
+    ⊎ Life kept ever kept' ever' run status

@@ -1,0 +1,25 @@
+//! What holds of houses that run, each over a folder of its own: the contracts of functions that do
+//! nothing.
+ghost use Rattle.std.specs.Prelude.{List};
+ghost use Rattle.house_runs.specs.Runs.{AreOfCell};
+ghost use Rattle.house_program.specs.Files.{Files};
+ghost use Rattle.house_program.specs.HouseCells.{AreHouseFolders, IsLeft, segments_of};
+ghost use Rattle.house_program.specs.HouseFolders.{IsHouseFolder};
+
+use crate::folder::Folder;
+use house_runs::running_houses_are_cells;
+
+/// Houses that run are a cell. Take a folder in which processes ran that did as `run` says, one
+/// after the other, each of them cut off by a crash at any moment, or not: its files are those of a
+/// house. Take such folders of any houses: their records tell entries of honest houses. If no two
+/// houses have one number or one node, take the entries in any order in which each message that was
+/// taken had been posted before, and the console numbered directories and epochs one after the
+/// other. Commands of the model do exactly that: each house sees its own entries, no command is
+/// refused, and the replicas converge.
+pub fn houses_that_run_are_cells<F: Folder>()
+    ensures left { (files : Files) → IsLeft F.kept F.left_ever files → IsHouseFolder files }
+    ensures cells { (folders : List Files) (are : AreHouseFolders folders)
+        → AreOfCell (segments_of folders are) }
+{
+    running_houses_are_cells();
+}
