@@ -9,6 +9,7 @@ import shutil
 import signal
 import stat
 import subprocess
+import time
 
 import building
 import cases
@@ -615,6 +616,13 @@ class Skulking:
         posts = self.does(self.master, *take_lines(self.waiting.pop(0)[1]))
         self.waiting += posts
 
+    def begins_a_segment(self):
+        """Waits for the next segment: a house begins it after its answer."""
+        last = time.monotonic() + 60
+        while journals.numbers(self.folders[0])[-1] == self.number:
+            assert time.monotonic() < last
+            time.sleep(0.001)
+
 
 def test_skulks_that_run_where_a_segment_begins(room, kit):
     """The next segment begins after each step of a skulk; after its last one the master is killed, and does the others again."""
@@ -625,6 +633,7 @@ def test_skulks_that_run_where_a_segment_begins(room, kit):
             if number == filled:
                 skulk.fill()
             skulk.step(number)
+        skulk.begins_a_segment()
         for house in skulk.houses:
             house.kill()
             house.drained()
