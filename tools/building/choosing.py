@@ -1,4 +1,5 @@
-"""The program that a tool runs, if its user names none: the proved one of these sources, or one that is not proved. Nothing is proved unasked."""
+"""The program that a tool runs, if its user names none: the proved one of these sources, or one that is not proved.
+Nothing is proved unasked."""
 
 from __future__ import annotations
 
@@ -23,14 +24,17 @@ def built(name: str) -> None:
 
 def found(name: str, kind: str) -> str:
     """The path that `tools/build` prints."""
-    ran = subprocess.run([f"{ROOT}/tools/build", name, kind], stdin=subprocess.DEVNULL, stdout=subprocess.PIPE, text=True, check=False)
+    ran = subprocess.run(
+        [f"{ROOT}/tools/build", name, kind], stdin=subprocess.DEVNULL, stdout=subprocess.PIPE, text=True, check=False
+    )
     if ran.returncode:
         raise NoProgram(name)
     return ran.stdout.strip()
 
 
 def chosen(name: str, given: str | None = None, is_to_be_proved: bool = False) -> str:
-    """The path of a program: the one that is given, or the one that `tools/build` finds, or proves first if that is asked for."""
+    """The path of a program: the one that is given, or the one that `tools/build` finds, or proves first if that is
+    asked for."""
     if given:
         return os.path.abspath(given)
     if is_to_be_proved:

@@ -21,7 +21,13 @@ class File:
     """A file of definitions: these in their order, and what its imports name."""
 
     def __init__(self, crate, path):
-        self.crate, self.name, self.definitions, self.known, self.aliases = crate, os.path.basename(path)[:-5], {}, {}, {}
+        self.crate, self.name, self.definitions, self.known, self.aliases = (
+            crate,
+            os.path.basename(path)[:-5],
+            {},
+            {},
+            {},
+        )
         last, in_module = None, False
         for number, line in enumerate(sources.text_of(path).split("\n"), 1):
             # What a module of parameters has is two places to the right.
@@ -113,4 +119,8 @@ def under(names):
 
 def all_lines():
     """How many lines the files of definitions have."""
-    return sum(sources.text_of(path).count("\n") for crate in sources.stood_on() for path in sources.files_of(crate, "specs", "antt"))
+    return sum(
+        sources.text_of(path).count("\n")
+        for crate in sources.stood_on()
+        for path in sources.files_of(crate, "specs", "antt")
+    )

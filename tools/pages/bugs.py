@@ -23,7 +23,8 @@ def functions_in(path):
 
 
 def changed(crate, name):
-    """The functions that a planted bug changes; of a constant or a derived order those that name it, and of a definition the crate's laws."""
+    """The functions that a planted bug changes; of a constant or a derived order those that name it, and of a
+    definition the crate's laws."""
     found = set()
     for path, line in changed_lines(crate, name):
         if "/specs/" in path:
@@ -64,7 +65,8 @@ def nearest(functions, named):
 
 
 def by_function(named):
-    """Of each function of `named` the planted bugs that change it, or what only such functions call; and the bugs of none."""
+    """Of each function of `named` the planted bugs that change it, or what only such functions call; and the bugs of
+    none."""
     found, lost = {}, []
     for crate, name in sorted(sources.bugs()):
         at = nearest(changed(crate, name), named)

@@ -27,7 +27,8 @@ def matching(added):
             for file in sources.files_of(crate, "specs", "antt"):
                 text = sources.text_of(file)
                 if any(len(in_definitions(text, rf"\w+\.{it}\.TheVariants")) >= SEVERAL for it in enums) or any(
-                    len(in_definitions(text, rf"cell_model\.specs\.{of}") & variants(of, it)) >= SEVERAL for of, it in types
+                    len(in_definitions(text, rf"cell_model\.specs\.{of}") & variants(of, it)) >= SEVERAL
+                    for of, it in types
                 ):
                     yield crate, file.split("/")[-1][:-5]
 

@@ -1,4 +1,5 @@
-"""What the sources of the crates say, read as text: functions and whom they call by name, planted bugs, tests, definitions."""
+"""What the sources of the crates say, read as text: functions and whom they call by name, planted bugs, tests,
+definitions."""
 import functools
 import glob
 import os
@@ -40,14 +41,27 @@ class Function:
     """A function: its crate, file, owner (the type of its `impl`, or its trait), name, parameters and body."""
 
     def __init__(self, crate, file, owner, trait, head, body, line, is_test):
-        self.crate, self.file, self.owner, self.trait, self.line, self.is_test = crate, file, owner, trait, line, is_test
+        self.crate, self.file, self.owner, self.trait, self.line, self.is_test = (
+            crate,
+            file,
+            owner,
+            trait,
+            line,
+            is_test,
+        )
         self.name = re.search(r"\bfn (\w+)", head).group(1)
         self.head, self.body = head, body
         inner = inside(head, head.index("(", head.index(f"fn {self.name}")))
         parameters = [it.strip() for it in split_at_commas(inner) if it.strip()]
-        self.is_method = bool(parameters) and re.fullmatch(r"&?(?:'\w+ )?(?:mut )?self(?:: .*)?", parameters[0]) is not None
+        self.is_method = (
+            bool(parameters) and re.fullmatch(r"&?(?:'\w+ )?(?:mut )?self(?:: .*)?", parameters[0]) is not None
+        )
         self.arity = len(parameters) - self.is_method
-        self.types = {it.split(":")[0].removeprefix("mut ").strip(): set(re.findall(r"\b[A-Z]\w*", it)) for it in parameters if ":" in it}
+        self.types = {
+            it.split(":")[0].removeprefix("mut ").strip(): set(re.findall(r"\b[A-Z]\w*", it))
+            for it in parameters
+            if ":" in it
+        }
 
 
 def inside(text, at):
@@ -78,7 +92,8 @@ def bare(text):
 
 
 def functions_of(crate, file):
-    """The functions of a file. The layout of `rt fmt` is taken for granted: a body ends at the indentation of its head."""
+    """The functions of a file. The layout of `rt fmt` is taken for granted: a body ends at the indentation of its
+    head."""
     lines = bare(text_of(file)).split("\n")
     found, owner, trait, is_test, at = [], "", "", False, 0
     while at < len(lines):
@@ -181,7 +196,11 @@ class Calls:
         body, at = caller.body, match.start()
         behind = body[match.end() :].lstrip()
         is_call = behind.startswith(("(", "::<"))
-        arity = len([it for it in split_at_commas(inside(behind, behind.index("("))) if it.strip()]) if is_call and "(" in behind else None
+        arity = (
+            len([it for it in split_at_commas(inside(behind, behind.index("("))) if it.strip()])
+            if is_call and "(" in behind
+            else None
+        )
         front = body[:at].rstrip()
         several = [it for it in self.by_name[name] if it.crate in below or it.trait in traits()]
         if front.endswith("."):
@@ -225,12 +244,22 @@ class Calls:
 
 @functools.cache
 def reached():
-    """The functions that `run` of cell_replay and of mend_program, and `main` of a program, can come to. What implements a trait of the
-    standard library is called in ways that no name tells, so of a crate of the program it counts as reached.
-    """
+    """The functions that `run` of cell_replay and of mend_program, and `main` of a program, can come to. What
+    implements a trait of the standard library is called in ways that no name tells, so of a crate of the program it
+    counts as reached."""
     calls, known = Calls(), set()
     theirs = [it for it in functions() if it.crate not in TESTS]
-    roots = (("cell_replay", "run"), ("cdsreplay", "main"), ("mend_program", "run"), ("cdsmend", "main"), ("house_program", "run"), ("cdshouse", "main"), ("cdsexplain", "main"), ("cds_c", "cds_run"), ("cds_c", "cds_abi"))
+    roots = (
+        ("cell_replay", "run"),
+        ("cdsreplay", "main"),
+        ("mend_program", "run"),
+        ("cdsmend", "main"),
+        ("house_program", "run"),
+        ("cdshouse", "main"),
+        ("cdsexplain", "main"),
+        ("cds_c", "cds_run"),
+        ("cds_c", "cds_abi"),
+    )
     begin = [it for it in theirs if (it.crate, it.name) in roots]
     begin += [it for it in theirs if it.trait and it.trait not in traits()]
     while begin:
@@ -252,7 +281,10 @@ def bugs():
         for folder in ("must-fail", "plants"):
             for file in files_of(crate, folder, "edit"):
                 text = text_of(file)
-                found[crate, os.path.basename(file)[:-5]] = (re.findall(r"(?m)^file: (\S+)", text), re.findall(r"(?m)^old: (.*)", text))
+                found[crate, os.path.basename(file)[:-5]] = (
+                    re.findall(r"(?m)^file: (\S+)", text),
+                    re.findall(r"(?m)^old: (.*)", text),
+                )
     return found
 
 

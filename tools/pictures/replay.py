@@ -1,8 +1,24 @@
-"""Reads what happened in a replay from a script and its answers. Nothing is replayed here: `cell` follows what the words tell."""
+"""Reads what happened in a replay from a script and its answers. Nothing is replayed here: `cell` follows what the
+words tell."""
 import re
 
 from .cell import STEPS, Replay
-from .commands import ANSWERS, COMMANDS, FAULT, FORMS, LONG, NEED_NO_HOUSE, PLACES, QUESTIONS, REASONS, REFUSED, SERVICES, STOP, STOPPED, STOPS
+from .commands import (
+    ANSWERS,
+    COMMANDS,
+    FAULT,
+    FORMS,
+    LONG,
+    NEED_NO_HOUSE,
+    PLACES,
+    QUESTIONS,
+    REASONS,
+    REFUSED,
+    SERVICES,
+    STOP,
+    STOPPED,
+    STOPS,
+)
 from .facts import Fault, Step, numbers
 
 

@@ -28,7 +28,8 @@ def text(octets):
 
 
 def attribute(name, values):
-    """Returns an attribute that was never cleared. `values` has of each value whether it is present, and the octets of its stamp."""
+    """Returns an attribute that was never cleared. `values` has of each value whether it is present, and the octets of
+    its stamp."""
     marks = (number(len(it), 2) + it + number(is_present, 1) + at for it, (is_present, at) in sorted(values.items()))
     return text(name) + b"\x00" + number(len(values), 8) + b"".join(marks)
 
@@ -40,11 +41,13 @@ def entry(name, kind, birth, attributes):
 
 
 def directory(layout, house_number, epoch, members, all_up_to, entries):
-    """Returns a directory of an image that is held. `members` are houses, each with its since and kind; `entries` has of each name
-    the kind, the birth, and the attributes."""
+    """Returns a directory of an image that is held. `members` are houses, each with its since and kind; `entries` has
+    of each name the kind, the birth, and the attributes."""
     listed = b"".join(number(one, 1) + number(since, 8) + number(kind, 1) for one, since, kind in members)
     held = sum(1 + sum(map(len, attributes.values())) for _, _, attributes in entries.values())
-    replica = stamp_or_none(all_up_to) + number(len(entries), 8) + b"".join(entry(it, *entries[it]) for it in sorted(entries))
+    replica = (
+        stamp_or_none(all_up_to) + number(len(entries), 8) + b"".join(entry(it, *entries[it]) for it in sorted(entries))
+    )
     head = number(house_number, 4) + b"\x01" + number(epoch, 8) + number(len(members), 1) + listed
     return head + replica + (number(held, 8) if layout == 2 else b"")
 
@@ -62,10 +65,14 @@ def uuid_of_tower(uuid):
 
 
 def tower(interface, protocol, port, address):
-    """Returns a tower of five floors. An interface is a UUID, a major and a minor version; an address is four numbers."""
+    """Returns a tower of five floors. An interface is a UUID, a major and a minor version; an address is four
+    numbers."""
     rpc, transport = PROTOCOLS[protocol]
     floors = [
-        *((b"\x0d" + uuid_of_tower(uuid) + major.to_bytes(2, "little"), minor.to_bytes(2, "little")) for uuid, major, minor in (interface, NDR)),
+        *(
+            (b"\x0d" + uuid_of_tower(uuid) + major.to_bytes(2, "little"), minor.to_bytes(2, "little"))
+            for uuid, major, minor in (interface, NDR)
+        ),
         (number(rpc, 1), b"\0\0"),
         (number(transport, 1), number(port, 2)),
         (b"\x09", bytes(address)),
@@ -92,4 +99,7 @@ def element(priority, interface, member, note):
 
 def element_text(priority, interface, member, note):
     """Returns what `proflist` prints of an element."""
-    return f"element {priority} {interface_text(interface) if interface else 'default'} {member} {note.encode().hex() or '-'}"
+    return (
+        "element"
+        f" {priority} {interface_text(interface) if interface else 'default'} {member} {note.encode().hex() or '-'}"
+    )

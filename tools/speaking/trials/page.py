@@ -1,7 +1,7 @@
 """Trials of docs/TOOLS.md: its sessions are what the tools say.
 
-A fenced block whose first line begins with `$ ` is a session of a shell: after each command stands what it prints, and after `cat FILE`
-what is in the file. One whose first line begins with `1> ` is a session of the console.
+A fenced block whose first line begins with `$ ` is a session of a shell: after each command stands what it prints, and
+after `cat FILE` what is in the file. One whose first line begins with `1> ` is a session of the console.
 """
 import re
 import subprocess
