@@ -1,9 +1,11 @@
 """A small repository of three crates, for the tests of what reads sources."""
 from __future__ import annotations
 
+import functools
 import os
 import tempfile
 import unittest
+from typing import Any
 from unittest import mock
 
 from pages import beliefs, bugs, numbers, sources
@@ -127,7 +129,7 @@ is_plain = true
     "crates/cdsreplay/cases/first.case": "--- run\n--- 0\n",
     "tools/housing/program_tests.py": "def test_lives():\n    pass\n",
 }
-CACHED = (
+CACHED: tuple[functools._lru_cache_wrapper[Any], ...] = (
     sources.text_of, sources.stood_on, sources.functions, sources.fields, sources.traits, sources.reached,
     sources.bugs, sources.cases, sources.house_tests, sources.tests, beliefs.files, bugs.functions_in, bugs.callers,
     numbers.constants,

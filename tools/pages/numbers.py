@@ -16,7 +16,7 @@ CONSTANT = re.compile(r"(?m)^(?:pub(?:\([^)]*\))? )?const (\w+): [^=]+ = ([^;]+)
 def said_in(rule: str) -> dict[str, set[int]]:
     """The numbers that the words of a rule name, each with what it may be: octets of names are in hexadecimal."""
     text = re.sub(r"`[^`]*`", "", rule)
-    found = {}
+    found: dict[str, set[int]] = {}
     for word in SAID.findall(text):
         number = word.replace(",", "")
         octet = {int(number, 16)} if len(number) == 2 else set()
