@@ -28,7 +28,7 @@ sys.dont_write_bytecode = True
 sys.path.insert(0, f"{ROOT}/tools")
 from cds.processes import Process, take_lines
 from cds.programs import plain_house
-from housing.console import Console
+from cds.console import Console
 
 TIME = shutil.which("time")
 HOUSES = range(1, 6)
