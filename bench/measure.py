@@ -127,8 +127,10 @@ def measure(kind, size, programs, runs, folder):
         peak = max(result[2] for result in results)
         times.append(processor)
         print(
-            f"{kind:<10}{name:<12}{items:>12,}{seconds:>10.2f}{items / seconds:>14,.0f}"
-            f"{megabytes / seconds:>8,.0f}{processor:>11.2f}{peak:>11,}",
+            (
+                f"{kind:<10}{name:<12}{items:>12,}{seconds:>10.2f}{items / seconds:>14,.0f}"
+                f"{megabytes / seconds:>8,.0f}{processor:>11.2f}{peak:>11,}"
+            ),
             flush=True,
         )
         if any(result[3] != 0 for result in results):

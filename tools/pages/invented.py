@@ -11,7 +11,9 @@ from unittest import mock
 from pages import beliefs, bugs, numbers, sources
 
 FILES = {
-    "crates.txt": "# NAME: what it stands on\n\n# Programs\ncell_replay: shelf base std\nshelf: base\n# Base\nbase: std\n",
+    "crates.txt": (
+        "# NAME: what it stands on\n\n# Programs\ncell_replay: shelf base std\nshelf: base\n# Base\nbase: std\n"
+    ),
     "crates/cell_replay/src/replay.rt": """//! Replays.
 use crate::shelf::Shelf;
 

@@ -6,7 +6,7 @@ script. They change nothing; the answers to the script's own lines are compared 
 import subprocess
 import tempfile
 
-from . import commands
+from cds import commands
 from .facts import Fault
 from .shapes import Undrawable
 

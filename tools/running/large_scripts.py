@@ -4,7 +4,7 @@ says."""
 import random
 from collections import OrderedDict
 
-from running import records
+from cds import records
 from running.lone_house import LoneHouse
 from running.runs import Limited, Run
 

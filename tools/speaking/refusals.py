@@ -1,6 +1,6 @@
 """What refusals and fruitless deliveries mean, and what helps. `docs/SCRIPT.md` has their causes."""
+from cds.answers import OF_OCTETS
 from speaking import pages
-from speaking.language import REFUSED_OCTETS
 
 # What helps, where nothing more is known than the refusal.
 HELP = {
@@ -69,7 +69,7 @@ HELP = {
     ),
 } | {
     reason: "Take octets that `octets msg N` has printed; FORMATS.md says what is at this place."
-    for reason in REFUSED_OCTETS
+    for reason in OF_OCTETS
 }
 # Where `reasons` says what helps, if it knows the cause.
 HELPED = ("Down", "NoDirectory", "NoHouse", "NoReplica", "NotJoined", "NotMaster", "NotMember")

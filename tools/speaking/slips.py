@@ -3,8 +3,9 @@ known."""
 import difflib
 import re
 
+from cds.commands import STOPPED
 from speaking import numbers, texts
-from speaking.language import GREATEST, STOPPED
+from speaking.language import GREATEST
 from speaking.texts import UUID
 
 PROTOCOLS = {
