@@ -13,6 +13,9 @@ programs have to write the same script, with status 0.
 With --instructions the instructions are counted, too, by valgrind, of journals of N / E entries. The last lines are the
 ratios of the first program to the last. The folders are in memory (/dev/shm), if they can be.
 """
+
+from __future__ import annotations
+
 import argparse
 import os
 import random
@@ -27,9 +30,13 @@ import time
 ROOT = os.path.dirname(os.path.dirname(os.path.realpath(__file__)))
 sys.dont_write_bytecode = True
 sys.path.insert(0, f"{ROOT}/tools")
+from building.schedule import Room
+from cds.console import Console
 from cds.processes import Process, take_lines
 from cds.programs import plain_house
-from cds.console import Console
+from pictures.states import House
+from running.lone_house import LoneHouse
+from speaking.tokens import Line
 
 TIME = shutil.which("time")
 HOUSES = range(1, 6)
@@ -46,7 +53,9 @@ TURN = r"ok($| taken| complete| \d)"
 class Cell:
     """Five houses at work. Every message is delivered, in the order in which they came."""
 
-    def __init__(self, program, folder):
+    processes: object
+
+    def __init__(self, program: str, folder: str) -> None:
         self.program, self.folder = program, folder
         self.chance, self.console = random.Random(1), Console()
         self.entries, self.processes = 0, {}
@@ -57,13 +66,13 @@ class Cell:
         self.number(f"root {' '.join(LISTS[0])}")
         self.ask(1, [f"create 1 entry{entry}" for entry in range(ENTRIES)])
 
-    def path(self, house):
+    def path(self, house: int | str | House | LoneHouse | None) -> object:
         return f"{self.folder}/h{house}"
 
-    def folders(self):
+    def folders(self) -> object:
         return [self.path(house) for house in HOUSES]
 
-    def start(self, house):
+    def start(self, house: int | str | House | LoneHouse | None) -> None:
         if house in self.processes:
             self.processes[house].close()
             self.entries += 1
@@ -72,7 +81,7 @@ class Cell:
         # (what it says again was taken)
         self.processes[house].fetched()
 
-    def ask(self, house, lines):
+    def ask(self, house: int | str | House | LoneHouse | None, lines: int | tuple[str, ...] | list[str]) -> None:
         """Asks a house, and delivers what that posts, and what comes of it."""
         asked = [(house, lines)]
         while asked:
@@ -88,15 +97,15 @@ class Cell:
                 (to, [line for at, octets in posts if at == to for line in take_lines(octets)]) for to in receivers
             ]
 
-    def number(self, line):
+    def number(self, line: int | str | Line | bytes | None) -> None:
         self.ask(1, [line])
         self.console.done(1, line)
 
-    def update(self):
+    def update(self) -> object:
         word = self.chance.choice(("add", "add", "remove", "put"))
         return f"{word} 1 entry{self.chance.randrange(ENTRIES)} A {self.chance.randrange(4):04x}"
 
-    def work(self, most):
+    def work(self, most: int) -> None:
         """Until there are so many entries."""
         skulk, restart, epoch = 1_000, 5_000, 10_000
         while self.entries < most:
@@ -114,7 +123,11 @@ class Cell:
             process.close()
 
 
-def made(house, entries, room):
+def made(
+    house: int | str | House | LoneHouse | None,
+    entries: dict[bytes, tuple[int, bytes, dict[bytes, dict[bytes, tuple[int, bytes]]]]],
+    room: int | Room | str | None,
+) -> object:
     """The folders of a cell that has so many entries, and their octets."""
     folder = f"{room}/cell{entries}"
     cell = Cell(house, folder)
@@ -123,7 +136,7 @@ def made(house, entries, room):
     return cell.folders(), octets
 
 
-def ran(program, folders, script):
+def ran(program: str, folders: object, script: str) -> object:
     """Seconds, processor seconds and the peak in KiB of a program that explains folders."""
     with tempfile.NamedTemporaryFile("r") as peak, open(script, "wb") as sink:
         command = [TIME, "-q", "-f", "%M", "-o", peak.name, program] if TIME else [program]
@@ -136,18 +149,18 @@ def ran(program, folders, script):
         return seconds, processor, int(peak.read()) if TIME else after.ru_maxrss
 
 
-def octets_of(path):
+def octets_of(path: str | frozenset[str]) -> object:
     with open(path, "rb") as file:
         return file.read()
 
 
-def instructions(program, folders):
+def instructions(program: str, folders: object) -> object:
     command = ["valgrind", "--tool=callgrind", "--callgrind-out-file=/dev/null", program, *folders]
     done = subprocess.run(command, stdout=subprocess.DEVNULL, stderr=subprocess.PIPE, text=True, check=False)
     return int(re.search(r"Collected : (\d+)", done.stderr)[1])
 
 
-def main():
+def main() -> None:
     parser = argparse.ArgumentParser(description=__doc__, formatter_class=argparse.RawDescriptionHelpFormatter)
     parser.add_argument("--runs", type=int, default=3)
     parser.add_argument("--entries", type=int, default=100_000)

@@ -24,6 +24,9 @@ it is not given, N is 20,000. Each line has these ratios of a program, and what 
     explained    the peak in MB of the program --explainer over the folder of a house of 300 entries and 4,600 turns
                  more
 """
+
+from __future__ import annotations
+
 import argparse
 import os
 import resource
@@ -36,13 +39,16 @@ import time
 ROOT = os.path.dirname(os.path.dirname(os.path.realpath(__file__)))
 sys.dont_write_bytecode = True
 sys.path.insert(0, f"{ROOT}/tools")
+from building.schedule import Room
 from cds import journals
 from cds.processes import Process
 
 TIME = shutil.which("time")
 
 
-def making(entries, root="root"):
+def making(
+    entries: dict[bytes, tuple[int, bytes, dict[bytes, dict[bytes, tuple[int, bytes]]]]], root: str = "root"
+) -> object:
     """The lines that make a house."""
     made = ["house 1 00000000000a", root]
     for number in range(entries):
@@ -50,12 +56,14 @@ def making(entries, root="root"):
     return made
 
 
-def turning(entries, turns):
+def turning(
+    entries: dict[bytes, tuple[int, bytes, dict[bytes, dict[bytes, tuple[int, bytes]]]]], turns: object
+) -> object:
     """The lines of turns."""
     return [f"put 1 entry{turn % entries} A {turn:08x}" for turn in range(turns)]
 
 
-def timed(command, place, read=()):
+def timed(command: str, place: int | tuple[float, float | str] | None, read: object = ()) -> object:
     """Seconds, processor seconds and the peak in KiB of a program that reads lines. (A child's peak begins at that of
     this process, so GNU time measures it.)"""
     with open(f"{place}/lines", "w", encoding="ascii") as file:
@@ -78,24 +86,30 @@ def timed(command, place, read=()):
 class House:
     """A house in a folder of its own."""
 
-    def __init__(self, program, room, entries, root="root"):
+    def __init__(
+        self,
+        program: str,
+        room: int | Room | str | None,
+        entries: dict[bytes, tuple[int, bytes, dict[bytes, dict[bytes, tuple[int, bytes]]]]],
+        root: str = "root",
+    ) -> None:
         self.program, self.room, self.folder = program, room, f"{room}/h"
         os.makedirs(self.folder)
         self.ran(making(entries, root))
 
-    def ran(self, lines=()):
+    def ran(self, lines: int | tuple[str, ...] | list[str] = ()) -> object:
         return timed([self.program, self.folder], self.room, lines)
 
-    def size(self):
+    def size(self) -> object:
         return sum(os.path.getsize(f"{self.folder}/{name}") for name in os.listdir(self.folder))
 
-    def texts(self, segments):
+    def texts(self, segments: object) -> object:
         """The octets of the texts of all turns after so many segments."""
         found = [record for segment in list(journals.segments(self.folder))[segments:] for record in segment.records]
         return sum(len(line) + 1 for record in found if record.image is None for line in record.lines)
 
 
-def measured(program, args, place):
+def measured(program: str, args: object, place: int | tuple[float, float | str] | None) -> object:
     """The figures of one life of a house."""
     with tempfile.TemporaryDirectory(dir=place) as room:
         house, turns = House(program, room, args.entries), turning(args.entries, args.turns)
@@ -115,7 +129,7 @@ def measured(program, args, place):
         }
 
 
-def looped(octets, args):
+def looped(octets: bytes, args: object) -> object:
     """Turns a second of a loop that writes so many octets and then one, and syncs after each."""
     with tempfile.NamedTemporaryFile(dir=args.disk) as file:
         record, at, begin = bytes(int(octets) - 1), 1, time.perf_counter()
@@ -131,7 +145,12 @@ def looped(octets, args):
 # ---- ratios
 
 
-def grown(program, room, entries, turns):
+def grown(
+    program: str,
+    room: int | Room | str | None,
+    entries: dict[bytes, tuple[int, bytes, dict[bytes, dict[bytes, tuple[int, bytes]]]]],
+    turns: object,
+) -> object:
     """What a folder grows by at a turn to the octets of the turn's text, and the microseconds of processor time for
     it."""
     house = House(program, room, entries, "root 2")
@@ -142,7 +161,7 @@ def grown(program, room, entries, turns):
     return (house.size() - before) / house.texts(segments), (processor - idle) / turns * 1e6
 
 
-def redone(program, room):
+def redone(program: str, room: int | Room | str | None) -> object:
     """The milliseconds of processor time of 10,000 turns, and of a start that does them again."""
     house = House(program, room, 100, "root 2")
     house.ran()
@@ -152,7 +171,11 @@ def redone(program, room):
     return (processor - idle) * 1000, (again - idle) * 1000
 
 
-def piped(program, room, entries):
+def piped(
+    program: str,
+    room: int | Room | str | None,
+    entries: dict[bytes, tuple[int, bytes, dict[bytes, dict[bytes, tuple[int, bytes]]]]],
+) -> object:
     """The turns in a second of 1,000 lines at once, to those of 500 that come one by one."""
     house, (once, one) = House(program, room, entries, "root 2"), (1000, 500)
     house.ran()
@@ -169,17 +192,17 @@ def piped(program, room, entries):
     return once / (seconds - empty) / (one / slow)
 
 
-def explained(program, explainer, room):
+def explained(program: str, explainer: object, room: int | Room | str | None) -> object:
     """The peak in MB of an explainer."""
     house = House(program, room, 300)
     house.ran(turning(300, 4600))
     return timed([explainer, house.folder], room)[2] / 1024
 
 
-def compared(program, args, place):
+def compared(program: str, args: object, place: int | tuple[float, float | str] | None) -> object:
     """The figures of which the ratios are."""
 
-    def fresh(measure, *more):
+    def fresh(measure: object, *more: str) -> object:
         with tempfile.TemporaryDirectory(dir=place) as room:
             return measure(program, room, *more)
 
@@ -194,24 +217,24 @@ def compared(program, args, place):
     return found
 
 
-def ratios(found):
+def ratios(found: bytes | tuple[tuple[int, int, tuple[object, ...]], str] | list[tuple[str, int, int]]) -> object:
     return found | {
         "processor": found["microseconds"] / found["at 10 entries"],
         "start": found["again"] / found["10,000 turns"],
     }
 
 
-def path_of(program):
+def path_of(program: str) -> object:
     return shutil.which(program) or os.path.abspath(program)
 
 
-def best(measure, program, args, place):
+def best(measure: object, program: str, args: object, place: int | tuple[float, float | str] | None) -> object:
     """The least of each figure of some runs; of turns in a second the greatest."""
     lives = [measure(program, args, place) for _ in range(args.runs)]
     return {key: (max if key in ("turns a second", "pipe") else min)(life[key] for life in lives) for key in lives[0]}
 
 
-def arguments():
+def arguments() -> object:
     parser = argparse.ArgumentParser(description=__doc__, formatter_class=argparse.RawDescriptionHelpFormatter)
     parser.add_argument("--ratios", action="store_true")
     parser.add_argument("--runs", type=int, default=3)
@@ -226,7 +249,7 @@ def arguments():
     return args
 
 
-def main():
+def main() -> None:
     args = arguments()
     place = args.disk or ("/dev/shm" if os.access("/dev/shm", os.W_OK) else None)
     found = {}

@@ -6,6 +6,8 @@ a `tools/build` that finds nothing, or a program of its own. A copy of the sourc
 handed over.
 """
 
+from __future__ import annotations
+
 import fcntl
 import os
 import resource
@@ -14,6 +16,7 @@ import signal
 import subprocess
 import sys
 import time
+from collections.abc import Callable
 
 from building.sources import MEANT, PARTS, PROGRAMS, ROOT
 
@@ -200,7 +203,7 @@ TABLE = (
 )
 
 
-def write(path, text, mode=0o644):
+def write(path: str, text: str, mode: int = 0o644) -> None:
     """Writes a file, with its folders."""
     os.makedirs(os.path.dirname(path), exist_ok=True)
     with open(path, "w", encoding="utf-8") as it:
@@ -208,14 +211,14 @@ def write(path, text, mode=0o644):
     os.chmod(path, mode)
 
 
-def copy_wrappers(folder, build):
+def copy_wrappers(folder: str, build: str) -> None:
     """Copies the wrappers beside this `tools/build`."""
     write(f"{folder}/tools/build", build, 0o755)
     for name in (*PROGRAMS, "tools/start.sh"):
         shutil.copy(f"{ROOT}/{name}", f"{folder}/{name}")
 
 
-def copy_with_stub(folder):
+def copy_with_stub(folder: str) -> None:
     """Makes a repository in which all programs are the stub, and are noted as proved."""
     copy_wrappers(folder, FINDER)
     os.mkdir(f"{folder}/links")
@@ -237,7 +240,7 @@ def copy_with_stub(folder):
     note_stubs(folder)
 
 
-def note_stubs(folder):
+def note_stubs(folder: str) -> None:
     """Notes all programs as proved, of the sources as they are."""
     for name in PROGRAMS:
         write(f"{folder}/out/built-{name}", "")
@@ -247,11 +250,11 @@ def note_stubs(folder):
 class Wrapped:
     """The wrapper's answer to words: it knows those of a form, and prints its usage if they are none."""
 
-    def __init__(self, wrapper, words, is_form):
+    def __init__(self, wrapper: str, words: list[str], is_form: bool) -> None:
         self.name, self.wrapper = f"./{os.path.basename(wrapper)} {' '.join(words)}", wrapper
         self.words, self.is_form = words, is_form
 
-    def fault(self, _):
+    def fault(self, _: str) -> None:
         """Returns what differs, or None."""
         ran = subprocess.run([self.wrapper, *self.words], input=b"", capture_output=True, timeout=SECONDS)
         is_told = b"usage:" in ran.stderr
@@ -263,19 +266,19 @@ class Wrapped:
 class Tried:
     """A case of the wrappers that a function tries in a new folder. It returns what differs, or None."""
 
-    def __init__(self, name, room, call):
+    def __init__(self, name: str, room: str, call: Callable[..., object]) -> None:
         self.name, self.room, self.call = f"wrapper, {name}", room, call
 
-    def fault(self, program):
+    def fault(self, program: str) -> str | None:
         """Returns what differs, or None."""
         os.makedirs(self.room)
         return self.call(self.room, program)
 
 
-def of_table(line, status, output, errors):
+def of_table(line: str, status: int, output: str, errors: str) -> Callable[..., object]:
     """Returns the call for a row of the table."""
 
-    def call(room, _):
+    def call(room: str, _: str) -> None:
         copy_with_stub(room)
         ran = subprocess.run(
             ["sh", "-c", line], cwd=room, stdin=subprocess.DEVNULL, capture_output=True, text=True, timeout=SECONDS
@@ -286,10 +289,10 @@ def of_table(line, status, output, errors):
     return call
 
 
-def signalled(number):
+def signalled(number: signal.Signals) -> Callable[..., object]:
     """Returns the call for a signal to the wrapper: the program gets one, and the wrapper ends by that which it got."""
 
-    def call(room, _):
+    def call(room: str, _: str) -> None:
         copy_with_stub(room)
         # (whoever is run beside a shell ignores an interrupt, or with nohup the end of a terminal, and so would all
         # that it starts)
@@ -310,7 +313,7 @@ def signalled(number):
     return call
 
 
-def quick(room, _):
+def quick(room: str, _: str) -> None:
     """The least processor time of ten runs, where all is built: in a repository with the sources of this one."""
     copy_with_stub(room)
     copy_sources(f"{room}/crates", MEANT)
@@ -324,7 +327,7 @@ def quick(room, _):
     return None if min(took) <= QUICK else f"it took {min(took):.3f} seconds of processor time"
 
 
-def copy_sources(crates, parts):
+def copy_sources(crates: str, parts: tuple[str, ...]) -> None:
     """Copies these parts of all crates."""
     for name in os.listdir(f"{ROOT}/crates"):
         for part in parts:
@@ -332,7 +335,7 @@ def copy_sources(crates, parts):
                 shutil.copytree(f"{ROOT}/crates/{name}/{part}", f"{crates}/{name}/{part}", dirs_exist_ok=True)
 
 
-def copy_repository(folder):
+def copy_repository(folder: str) -> None:
     """Copies what a clone has that the wrappers need."""
     copy_sources(f"{folder}/crates", PARTS)
     shutil.copytree(f"{ROOT}/tools", f"{folder}/tools")
@@ -341,13 +344,13 @@ def copy_repository(folder):
     os.mkdir(f"{folder}/out")
 
 
-def without_rt():
+def without_rt() -> dict[str, str]:
     """The environment, without a path to rt."""
     folders = [it for it in os.environ["PATH"].split(":") if not os.path.exists(f"{it}/rt")]
     return {**os.environ, "PATH": ":".join(folders), "PYTHONDONTWRITEBYTECODE": "1"}
 
 
-def handed_over(room, _):
+def handed_over(room: str, _: str) -> None:
     """A program that was noted in one clone answers in another, without rt, once the files that docs/CHANGING.md names
     are copied there."""
     one, other = f"{room}/one", f"{room}/other"
@@ -377,7 +380,7 @@ def handed_over(room, _):
     return None if ran.stdout.endswith("; proved\n") and not ran.returncode else f"its version is {ran.stdout!r}"
 
 
-def is_run(words, how):
+def is_run(words: list[str], how: dict[str, int | dict[str, str] | list[object]]) -> bool:
     """Whether a command can be run."""
     try:
         return subprocess.run(words, check=False, **how).returncode == 0
@@ -385,7 +388,7 @@ def is_run(words, how):
         return False
 
 
-def of_another_user(room, _):
+def of_another_user(room: str, _: str) -> str:
     """A program that was noted in the clone of another user answers there, also if a source was written again, as it
     is."""
     clone = f"{room}/clone"
@@ -414,7 +417,7 @@ def of_another_user(room, _):
     return None if found == [(0, "1 ok\n", "")] * len(found) else f"it is {found}"
 
 
-def waiting(room, _):
+def waiting(room: str, _: str) -> None:
     """Whoever waits for another build says which one it is."""
     copy_repository(room)
     with open(f"{room}/out/build.lock", "w", encoding="utf-8") as lock:
@@ -427,7 +430,7 @@ def waiting(room, _):
     return None if found == wanted else f"it says {found!r}"
 
 
-def cases(runs, folder):
+def cases(runs: list[tuple[str, tuple[str, ...], bool]], folder: str) -> list[Wrapped]:
     """Returns the cases of the wrappers: with the words of all these runs (a program's name, its words, and whether
     they are of a form), and those of this file."""
     copy_wrappers(f"{folder}/words", NOTHING)

@@ -3,8 +3,15 @@ read.
 
 Each read is answered here too, and where the program answers otherwise the list is given up.
 """
+
+from __future__ import annotations
+
+from collections.abc import Callable
+
+from .cell import Replay
+from .facts import Step, numbers
+from .states import Change, States
 from cds import commands
-from .facts import numbers
 
 LONGEST_NAME = 1023
 
@@ -12,10 +19,15 @@ LONGEST_NAME = 1023
 class Reads:
     """What houses show: their tables by house and directory, and which of them are up."""
 
-    def __init__(self):
+    tables: dict[tuple[int, int], dict[str, str]]
+    heads: dict[tuple[int, int], bool]
+    downs: set[object]
+    root: tuple[int, int, tuple[object, ...]] | None
+
+    def __init__(self) -> None:
         self.tables, self.heads, self.downs, self.root = {}, {}, set(), None
 
-    def take(self, step, changes):
+    def take(self, step: Step, changes: dict[int, Change]) -> None:
         """Takes a step, and what it changed."""
         if step.command == "start" and step.outcome == "ok":
             self.downs.discard(step.house)
@@ -28,7 +40,7 @@ class Reads:
             for directory, head, facts in change.directories:
                 self.change(house, directory, head, facts)
 
-    def change(self, house, directory, head, facts):
+    def change(self, house: int, directory: int, head: str | None, facts: list[tuple[str, str]]) -> None:
         """Changes the table of a house."""
         if head is not None:
             self.heads[house, directory] = head.startswith("epoch")
@@ -39,13 +51,13 @@ class Reads:
             else:
                 table[key] = said
 
-    def asked(self, pointer, prefer):
+    def asked(self, pointer: tuple[int, int, tuple[object, ...]], prefer: int) -> int:
         """The house that is asked for a directory, or None."""
         directory, master, others = pointer
         answering = [it for it in (master, *others) if it not in self.downs and self.heads.get((it, directory))]
         return prefer if prefer in answering else next(iter(answering), None)
 
-    def sees(self, pointer, prefer, name):
+    def sees(self, pointer: tuple[int, int, tuple[object, ...]], prefer: int, name: str) -> tuple[str, int, None]:
         """What is seen of a name: what it is, the house, and where it leads; or None where no house answers."""
         house = self.asked(pointer, prefer)
         if house is None:
@@ -60,7 +72,7 @@ class Reads:
         }[kind]
         return (kind, house, leads[0]) if len(leads) == 1 else ("absent", house, None)
 
-    def values(self, house, directory, name, attribute):
+    def values(self, house: int, directory: int, name: str, attribute: str) -> list[object]:
         """The values of an attribute that a house shows, in the order of their octets."""
         prefix = f"{name}\t{attribute}\t"
         table = self.tables.get((house, directory), {})
@@ -68,11 +80,11 @@ class Reads:
             key[len(prefix) :] for key, said in table.items() if key.startswith(prefix) and said.startswith("present")
         )
 
-    def links(self, house, directory, name):
+    def links(self, house: int, directory: int, name: str) -> list[object]:
         """The names to which a link leads."""
         return [bytes.fromhex(it).decode("ascii") for it in self.values(house, directory, name, "CDS_LinkTarget")]
 
-    def pointers(self, house, directory, name):
+    def pointers(self, house: int, directory: int, name: str) -> list[object]:
         """The pointers that a child has."""
         octets = [bytes.fromhex(it) for it in self.values(house, directory, name, "CDS_Replicas")]
         return [(int.from_bytes(it[:4], "big"), it[5], tuple(it[6:])) for it in octets if len(it) == 5 + it[4]]
@@ -81,10 +93,21 @@ class Reads:
 class Clerk:
     """A clerk with room for so many answers. `used` has what the present read did with them."""
 
-    def __init__(self, room, reads):
+    kept: dict[
+        tuple[int, tuple[int, int, tuple[object, ...]], str, str | None],
+        tuple[tuple[str, int, None] | list[object], int],
+    ]
+    used: list[list[str | int | tuple[int | str | tuple[int, int, tuple[object, ...]] | None, ...] | list[object]]]
+
+    def __init__(self, room: int, reads: Reads) -> None:
         self.room, self.reads, self.kept, self.used = room, reads, {}, []
 
-    def ask(self, query, fresh, line):
+    def ask(
+        self,
+        query: tuple[int, tuple[int, int, tuple[object, ...]], str, str | None],
+        fresh: Callable[..., object],
+        line: int,
+    ) -> tuple[str, int, None] | list[object]:
         """The kept answer to a question, or a fresh one, which is kept where it is one."""
         if query in self.kept:
             self.kept[query] = self.kept.pop(query)
@@ -98,7 +121,7 @@ class Clerk:
             self.used.append(["kept", query, answer, line])
         return answer
 
-    def read(self, step):
+    def read(self, step: Step) -> str:
         """Reads as the program does, and returns the answer."""
         house, name, attribute = int(step.words[0]), step.words[2], step.words[3]
         self.used, seen = [], set()
@@ -115,7 +138,7 @@ class Clerk:
                 return found[1] if found[0] == "refused" else self.values(found[1:], house, attribute, step.line)
             name = found[1]
 
-    def walk(self, house, names, line):
+    def walk(self, house: int, names: list[str], line: int) -> tuple[str, tuple[int, int, tuple[object, ...]], str]:
         """Walks a name: `again` and the next name, `refused` and the answer, or `found` and its pointer and simple
         name."""
         pointer = self.reads.root
@@ -142,11 +165,13 @@ class Clerk:
             pointer = lead
         return "refused", "refused RootName"
 
-    def values(self, found, house, attribute, line):
+    def values(
+        self, found: tuple[tuple[int, int, tuple[object, ...]], str], house: int, attribute: str, line: int
+    ) -> str:
         """The values of an entry that was found."""
         pointer, name = found
 
-        def fresh():
+        def fresh() -> list[object]:
             sight = self.reads.sees(pointer, house, name)
             if sight is None or sight[0] == "absent":
                 return None
@@ -156,7 +181,7 @@ class Clerk:
         return "refused Vanished" if values is None else " ".join(["ok", str(len(values)), *values])
 
 
-def lists(replay, states, room):
+def lists(replay: Replay, states: States, room: int) -> dict[int, list[list[str | int]]]:
     """For each read at low confidence what it did with the list, by its place; or None from where the program answers
     otherwise."""
     reads, found = Reads(), {}
@@ -173,14 +198,14 @@ def lists(replay, states, room):
     return found
 
 
-def query_text(query):
+def query_text(query: tuple[int, tuple[int, int, tuple[object, ...]], str, str | None]) -> tuple[int, str]:
     """A question: by way of which house, and what of."""
     house, (directory, master, others), name, attribute = query
     asks = f"{attribute} of {name}" if attribute else name
     return house, f"{asks}, directory {directory} at {', '.join(map(str, (master, *others)))}"
 
 
-def answer_text(answer):
+def answer_text(answer: tuple[str, int, None] | list[object]) -> str:
     """An answer in words."""
     if isinstance(answer, list):
         return " ".join(answer) or "no value"

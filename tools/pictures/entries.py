@@ -1,15 +1,26 @@
 """The names of a cell at a line of the script: entries with what they have, and the order of a search."""
+
+from __future__ import annotations
+
+from .cell import Replay
+from .facts import Epoch, Step
 from cds import commands
 
 
 class Entry:
     """An entry as the script made it: its kind, where it leads, and what its attributes have."""
 
-    def __init__(self, kind, lead=None):
+    values: dict[str, list[str]]
+    towers: list[object]
+    objects: list[object]
+    members: list[object]
+    elements: list[object]
+
+    def __init__(self, kind: str, lead: int | str | None = None) -> None:
         self.kind, self.lead, self.values = kind, lead, {}
         self.towers, self.objects, self.members, self.elements = [], [], [], []
 
-    def change(self, command, attribute, value):
+    def change(self, command: str, attribute: str, value: str) -> None:
         """A change of the values of an attribute."""
         own = self.values.setdefault(attribute, [])
         if command in ("put", "clear"):
@@ -23,7 +34,11 @@ class Entry:
 class State:
     """The names of the cell up to a line of the script."""
 
-    def __init__(self, replay, last):
+    entries: dict[tuple[int, str], Entry]
+    epochs: dict[int, Epoch]
+    born: dict[object, object]
+
+    def __init__(self, replay: Replay, last: int) -> None:
         self.entries, self.untold, self.epochs, self.born = {}, 0, {}, {}
         for step in replay.steps:
             if step.line > last:
@@ -35,7 +50,7 @@ class State:
             if known:
                 self.epochs[directory] = known[-1]
 
-    def take(self, step):
+    def take(self, step: Step) -> None:
         """Takes a command that was not refused."""
         command, words = step.command, step.words
         if command in commands.SERVICES:
@@ -55,7 +70,7 @@ class State:
             if entry:
                 entry.change(command, words[3], (words[4] if len(words) > 4 else "").lower())
 
-    def serve(self, command, words, place):
+    def serve(self, command: str, words: tuple[str, ...], place: tuple[int, str]) -> None:
         """Takes a command of the name service at the entry of a place."""
         if command in ("export", "groupadd", "profadd"):
             self.entries.setdefault(place, Entry("object"))
@@ -79,7 +94,7 @@ class State:
         else:
             entry.elements = [it for it in entry.elements if (it[5], it[7]) != (words[1].lower(), words[2])]
 
-    def place_of(self, name, follows=False, left=commands.MOST_LINKS):
+    def place_of(self, name: str, follows: bool = False, left: int = commands.MOST_LINKS) -> tuple[int, str] | None:
         """The directory and the simple name of a full name; links on the way are followed, and the last one where that
         is asked."""
         directory, names = 1, name.split("/")[2:]
@@ -94,7 +109,7 @@ class State:
             directory = entry.lead
         return None
 
-    def order(self, name, interface):
+    def order(self, name: str, interface: str) -> list[tuple[int, str]]:
         """The entries that a search from a name comes to, each where it comes first."""
         order, waiting = [], [name]
         while waiting:
@@ -107,12 +122,12 @@ class State:
         return order
 
 
-def listed(words):
+def listed(words: str) -> list[str]:
     """The items of a list of words, or none of `-`."""
     return [] if words == "-" else words.split(",")
 
 
-def element_of(interface, member, priority, note):
+def element_of(interface: str, member: str, priority: str, note: str) -> tuple[int | str, ...]:
     """An element of a profile, in the order of its octets, with what was said of it."""
     uuid, _, version = interface.lower().partition(":")
     major, _, minor = version.partition(".")
@@ -122,7 +137,7 @@ def element_of(interface, member, priority, note):
     return int(priority), octets, *numbers, len(member), interface.lower(), note if note != "-" else "", member
 
 
-def serves(offered, wanted):
+def serves(offered: str, wanted: str) -> bool:
     """Whether an interface that is offered serves the one that is wanted."""
     (uuid, _, version), (own, _, least) = offered.partition(":"), wanted.lower().partition(":")
     (major, _, minor), (of, _, at) = version.partition("."), least.partition(".")

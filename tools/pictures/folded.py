@@ -1,6 +1,11 @@
 """Columns of several steps in a picture in time: their bars, and the few arrows in place of many."""
+
+from __future__ import annotations
+
 from .arrows import Arrows
-from .rows import MARK
+from .facts import Message
+from .folds import Column
+from .rows import MARK, Row
 from .shapes import cross, head, path, rect, text, titled
 from .titles import name_of, told
 
@@ -10,7 +15,7 @@ MOST_ARROWS = 6
 class Folded(Arrows):
     """A picture's columns of several steps."""
 
-    def draw_column(self, at, column):
+    def draw_column(self, at: int, column: Column) -> None:
         """The marks of a column, and for a fan or answers what joins them."""
         row = self.row_of(at)
         if column.kind == "answers":
@@ -21,7 +26,7 @@ class Folded(Arrows):
             if column.kind != "houses" or self.lane_of(step) in row.tops:
                 self.draw_step(at, step)
 
-    def draw_fan(self, row, at, column):
+    def draw_fan(self, row: Row, at: int, column: Column) -> None:
         """A bar below the marks of a fan, and an arrow to the nearest mark on each side of the sender."""
         message, x = column.first.message, row.x(at)
         if message.sender not in self.lane or any(it.message.receiver not in self.lane for it in column.steps):
@@ -50,7 +55,7 @@ class Folded(Arrows):
         for lane in (it for it in nearest if it is not None):
             self.draw_joint(row, message, (x, row.y(lane)), title)
 
-    def draw_joint(self, row, message, end, title):
+    def draw_joint(self, row: Row, message: Message, end: tuple[float, float], title: str) -> None:
         """An arrow in place of those of a fan, to the edge of its nearest mark."""
         is_home = self.is_in(row, message.posted)
         sign = (
@@ -66,7 +71,7 @@ class Folded(Arrows):
         stub = "" if is_home else self.stub(begin, message.posted, "<", sign)
         self.add("arrow", titled(message.kind, title, path([begin, end], "line"), head([begin, end], False), stub))
 
-    def draw_answers(self, row, at, column):
+    def draw_answers(self, row: Row, at: int, column: Column) -> None:
         """One mark for answers that come to one house, and an arrow from each column in which some were posted."""
         message, x = column.first.message, row.x(at)
         lane = self.lane_of(column.first)

@@ -1,5 +1,11 @@
 """Steps that share a column of a picture: houses that are made, a fan of deliveries, and answers that come to one
 house."""
+
+from __future__ import annotations
+
+from collections.abc import Callable
+
+from .facts import Message, Step
 from .shapes import short
 
 MOST_HOUSES, LEAST_FOLDED = 4, 6
@@ -9,10 +15,10 @@ MOST_NAMED = 6  # of messages that are lost
 class Column:
     """Steps of one column. `kind` is `one`, `houses`, `fan` or `answers`."""
 
-    def __init__(self, kind, steps):
+    def __init__(self, kind: str, steps: list[Step]) -> None:
         self.kind, self.steps, self.first, self.last = kind, steps, steps[0], steps[-1]
 
-    def counts(self, messages):
+    def counts(self, messages: dict[int, Message]) -> str:
         """What is said of a fan or of answers: how many of the messages that were posted with them were taken, and
         which were lost."""
         first = self.first.message
@@ -24,19 +30,19 @@ class Column:
         named = ", ".join(lost[:MOST_NAMED]) + (" …" if len(lost) > MOST_NAMED else "")
         return f"{len(taken)} of {len(mates)} taken" + (f", lost: {named}" if lost else "")
 
-    def label(self, messages):
+    def label(self, messages: dict[int, Message]) -> str:
         """The words above a column of several steps."""
         if self.kind == "houses":
             return f"houses {self.first.house} to {self.last.house}"
         return short(f"{self.first.message.kind}: {self.counts(messages)}", 44)
 
 
-def is_house(step, _):
+def is_house(step: Step, _: list[Step]) -> bool:
     """Whether a step makes a house."""
     return step.command == "house" and step.outcome == "ok"
 
 
-def is_fan(step, run):
+def is_fan(step: Step, run: list[Step]) -> bool:
     """Whether a step delivers or loses one more of the messages that were posted together, at another house."""
     message, first = step.message, run[0].message if run else step.message
     if message is None or message.receiver is None or step.stop is not None or step.outcome == "complete":
@@ -47,7 +53,7 @@ def is_fan(step, run):
     return is_mate and all(it.message.receiver != message.receiver for it in run)
 
 
-def is_answer(step, run):
+def is_answer(step: Step, run: list[Step]) -> bool:
     """Whether a step delivers one more answer to a skulk, which is not the last of its round."""
     message, first = step.message, run[0].message if run else step.message
     if (
@@ -70,7 +76,7 @@ def is_answer(step, run):
 RUNS = (("houses", is_house, MOST_HOUSES + 1), ("fan", is_fan, LEAST_FOLDED), ("answers", is_answer, LEAST_FOLDED))
 
 
-def run_from(steps, begin, belongs):
+def run_from(steps: list[Step], begin: int, belongs: Callable[..., object]) -> list[Step]:
     """The steps from a place on that belong together."""
     run = []
     for at in range(begin, len(steps)):
@@ -80,7 +86,7 @@ def run_from(steps, begin, belongs):
     return run
 
 
-def fold(steps):
+def fold(steps: list[Step]) -> list[Column]:
     """The columns of steps, in their order."""
     columns, at = [], 0
     while at < len(steps):

@@ -4,8 +4,13 @@ They do where nothing went out of the list: where all that the reads of the scri
 that was asked and answered before is answered from the list, unless the houses of a directory were changed since.
 """
 
+from __future__ import annotations
 
-def used_answers(replay, room):
+from .cell import Replay
+from .facts import Step
+
+
+def used_answers(replay: Replay, room: int) -> dict[int, Step]:
     """For each read that is answered from the list, the read that it is kept from; or nothing where that is not
     known."""
     reads = [it for it in replay.steps if it.command == "read" and it.words[1] == "low" and it.house is not None]
@@ -24,7 +29,7 @@ def used_answers(replay, room):
     return found
 
 
-def used_of(replay, steps):
+def used_of(replay: Replay, steps: list[Step]) -> dict[int, Step]:
     """Of reads that ask the same, those that are answered by an earlier one."""
     found, kept = {}, None
     for step in steps:

@@ -1,19 +1,23 @@
 """What a picture in time has but arrows: houses as lines, steps as marks on them, skulks, epochs, rises of AllUpTo."""
-from cds import answers, commands
+
+from __future__ import annotations
+
+from .facts import Epoch, Rise, Skulk, Step
 from .layout import Layout
-from .rows import EDGE, LANE, LEVEL, MARK, OVERHANG, SLOPE
+from .rows import EDGE, LANE, LEVEL, MARK, OVERHANG, SLOPE, Row
 from .shapes import badge, bolt, circle, line, number, rect, text, titled, width_of
 from .titles import epoch_title, name_of, told
+from cds import answers, commands
 
 
 class Marks(Layout):
     """A picture's houses, steps, skulks and epochs."""
 
-    def add(self, layer, *shapes):
+    def add(self, layer: str, *shapes: str) -> None:
         """Adds shapes to a layer."""
         self.layers[layer] += shapes
 
-    def draw_row(self, row):
+    def draw_row(self, row: Row) -> None:
         """The names of a row's houses, the words above its columns, and its labels."""
         for lane, (house, directory) in enumerate(self.lanes):
             if lane in row.tops and self.replay.born[house] <= self.columns[row.end - 1].last.at:
@@ -36,7 +40,7 @@ class Marks(Layout):
             self.add("label", text(x + 2, y - 4, self.label_of(self.columns[column]), "dim", turned))
             self.add("guide", line(x, y, x, max(self.height_of(row, it) for it in self.columns[column].steps), "guide"))
 
-    def height_of(self, row, step):
+    def height_of(self, row: Row, step: Step) -> float:
         """How high the mark of a step is."""
         lane = self.lane_of(step)
         if lane is None:
@@ -48,7 +52,7 @@ class Marks(Layout):
             )
         return row.y(lane) if lane in row.tops else row.bottom() - LANE / 2
 
-    def draw_lanes(self):
+    def draw_lanes(self) -> None:
         """The lines of the houses: gone while a house is down, and thick while it accepts updates."""
         for lane, (house, directory) in enumerate(self.lanes):
             changes = [*self.lane_changes(house, directory), (None, None)]
@@ -62,7 +66,7 @@ class Marks(Layout):
                         self.used.add(f"lane {style}")
                         self.add("lane", line(left, row.y(lane), right, row.y(lane), f"lane {style}"))
 
-    def lane_changes(self, house, directory):
+    def lane_changes(self, house: int, directory: int | None) -> list[tuple[int, str | None]]:
         """From which step on a line has which style: none, while its house is down or was not made."""
         events = [(self.replay.born[house], "up", None)]
         for down, up in self.replay.downs.get(house, ()):
@@ -81,7 +85,7 @@ class Marks(Layout):
             self.used.add("gap")
         return changes
 
-    def draw_skulk(self, skulk):
+    def draw_skulk(self, skulk: Skulk) -> None:
         """The shade of a skulk, from its start to the step that completes or ends it."""
         title, kind = self.skulk_title(skulk), "shade" if skulk.is_complete else "open"
         self.used.add(kind)
@@ -89,7 +93,7 @@ class Marks(Layout):
             top, bottom = row.lanes, row.bottom()
             self.add("shade", titled("", title, rect(left, top, right - left, bottom - top, kind, 4)))
 
-    def skulk_title(self, skulk):
+    def skulk_title(self, skulk: Skulk) -> str:
         """The hover text of a skulk."""
         lines = [
             f"skulk {skulk.stamp} of directory {skulk.dir}, at house {skulk.house}",
@@ -100,7 +104,7 @@ class Marks(Layout):
         what = "complete" if skulk.is_complete else "ended, and never complete"
         return "\n".join([*lines, f"{what}:", *told(self.replay.steps[skulk.end])])
 
-    def draw_epoch(self, epoch):
+    def draw_epoch(self, epoch: Epoch) -> None:
         """The upright line of an epoch, with its master and its other members."""
         column = self.column[epoch.step]
         row = self.row_of(column)
@@ -118,7 +122,7 @@ class Marks(Layout):
                 shapes.append(circle(x, row.y(lane), 4, "ink"))
         self.add("upright", titled("", "\n".join([epoch_title(epoch), *told(self.replay.steps[epoch.step])]), *shapes))
 
-    def draw_step(self, column, step):
+    def draw_step(self, column: int, step: Step) -> None:
         """The mark of a step, with its line's number."""
         row = self.row_of(column)
         x, y = row.x(column), self.height_of(row, step)
@@ -146,14 +150,14 @@ class Marks(Layout):
 
     # AllUpTo.
 
-    def draw_rises(self):
+    def draw_rises(self) -> None:
         """A tag at each step at which the AllUpTo of its house rises."""
         ends = {}
         for rise in self.replay.rises:
             if self.in_view(rise.step) and self.is_drawn(rise.dir) and rise.house in self.lane:
                 self.draw_rise(rise, ends)
 
-    def draw_rise(self, rise, ends):
+    def draw_rise(self, rise: Rise, ends: dict[tuple[int, int, bool], float]) -> None:
         """The tag of a rise: on the side of the house's line on which no message comes in."""
         column, lane = self.column[rise.step], self.lane_for(rise.house, rise.dir)
         row, message = self.row_of(column), self.replay.steps[rise.step].message

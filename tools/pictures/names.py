@@ -1,6 +1,12 @@
 """Draws the tree of names of a cell as one SVG: directories and entries as rows, links and members as arrows beside
 them."""
-from .entries import State
+
+from __future__ import annotations
+
+from collections.abc import Iterator
+
+from .cell import Replay
+from .entries import Entry, State
 from .facts import plural
 from .rows import EDGE, LEAST
 from .shapes import Undrawable, circle, escaped, head, number, rect, short, styles, text, titled, width_of
@@ -23,7 +29,7 @@ MORE = """.soft{stroke-dasharray:5 3}.tree{fill:none;stroke:#8a939d;stroke-width
 }"""
 
 
-def wide(words, kind):
+def wide(words: str, kind: str) -> float:
     """How wide words of a class are, at most."""
     return width_of(words, 12.4 if kind == "house ink" else 10.6)
 
@@ -31,7 +37,17 @@ def wide(words, kind):
 class Row:
     """A row: its place, its words in pieces with their classes, and the name that it leads to."""
 
-    def __init__(self, x, height, pieces, place=None, lead=None, kind=None, sign=None, title=""):
+    def __init__(
+        self,
+        x: int,
+        height: int,
+        pieces: list[tuple[str, str]],
+        place: tuple[int, str] | None = None,
+        lead: str | None = None,
+        kind: str | None = None,
+        sign: str | None = None,
+        title: str = "",
+    ) -> None:
         self.x, self.height, self.pieces, self.place, self.lead, self.kind, self.sign = (
             x,
             height,
@@ -43,7 +59,7 @@ class Row:
         )
         self.title, self.y = title, 0
 
-    def end(self):
+    def end(self) -> float:
         """Where its words end."""
         return self.x + (18 if self.sign else 0) + sum(wide(words, kind) + 8 for words, kind in self.pieces)
 
@@ -51,7 +67,10 @@ class Row:
 class Tree:
     """The rows of a tree of names, and its arrows."""
 
-    def __init__(self, state, directory):
+    rows: list[Row]
+    branches: list[tuple[Row, Row]]
+
+    def __init__(self, state: State, directory: int) -> None:
         self.state, self.rows, self.branches = state, [], []
         name = "/.:" if directory == 1 else f"directory {directory}"
         self.root = Row(COLUMN, ROW, [(name, "house ink"), *self.about(directory)], sign="directory")
@@ -59,7 +78,7 @@ class Tree:
         self.seen = {directory}
         self.add_directory(directory, COLUMN + INDENT, self.root)
 
-    def about(self, directory):
+    def about(self, directory: int) -> list[tuple[str, str]]:
         """Where a directory is, in words."""
         epoch = self.state.epochs.get(directory)
         if not epoch:
@@ -68,7 +87,7 @@ class Tree:
         also = f", and at {', '.join(map(str, others))}" if others else ""
         return [(f"directory {directory} at house {epoch.master}, its master{also}", "dim")]
 
-    def add_directory(self, directory, x, parent):
+    def add_directory(self, directory: int, x: int, parent: Row) -> None:
         """Adds the entries of a directory, below its row."""
         for name in sorted(name for of, name in self.state.entries if of == directory):
             if len(self.rows) > MOST_ROWS:
@@ -80,7 +99,7 @@ class Tree:
                 self.seen.add(entry.lead)
                 self.add_directory(entry.lead, x + INDENT, row)
 
-    def add_entry(self, directory, name, x):
+    def add_entry(self, directory: int, name: str, x: int) -> Row:
         """Adds an entry with what it has."""
         entry = self.state.entries[directory, name]
         pieces, lead, kind = [(short(name, 40), "house ink")], None, None
@@ -100,7 +119,7 @@ class Tree:
         return row
 
 
-def details(entry):
+def details(entry: Entry) -> Iterator[tuple[str, str | None, str | None]]:
     """What an entry has, a line each, with the name that it leads to."""
     for interface, binding in entry.towers:
         yield f"{binding} · interface {brief(interface)}", None, None
@@ -116,12 +135,12 @@ def details(entry):
             yield f"{attribute} {some_of([short(it, 16) for it in sorted(values)], ' ')}", None, None
 
 
-def some_of(words, between):
+def some_of(words: list[str], between: str) -> str:
     """The first of some words."""
     return between.join(words[:MOST_VALUES]) + ("…" if len(words) > MOST_VALUES else "")
 
 
-def brief(uuid):
+def brief(uuid: str) -> str:
     """A UUID or an interface in brief: its last eight digits, and its version."""
     digits, _, version = uuid.partition(":")
     return f"…{digits[-8:]}" + (f" {version}" if version else "")
@@ -130,7 +149,10 @@ def brief(uuid):
 class Picture:
     """The picture of the names of a cell."""
 
-    def __init__(self, replay, name, last, directory):
+    used: set[str]
+    shapes: list[str]
+
+    def __init__(self, replay: Replay, name: str, last: int, directory: int | None) -> None:
         steps = [it for it in replay.steps if it.line <= last]
         imports = [it for it in steps if it.command == "import" and " binding " in it.answer]
         at_last = [it for it in imports if it.line == last]
@@ -143,7 +165,7 @@ class Picture:
         self.tree, self.used, self.shapes = Tree(self.state, directory or 1), set(), []
         self.numbers = {place: at for at, place in enumerate(self.searched(), 1)}
 
-    def searched(self):
+    def searched(self) -> list[tuple[int, str]]:
         """The entries that the search of an import comes to, if its answer is in their order; else those of its answer
         alone."""
         if not self.search:
@@ -156,7 +178,7 @@ class Picture:
             answered += [it for it in found[:1] if it not in answered]
         return order if answered == [it for it in order if it in answered] else answered
 
-    def draw(self):
+    def draw(self) -> str:
         """The whole picture."""
         y = 0
         for row in self.tree.rows:
@@ -173,13 +195,13 @@ class Picture:
         width = max(LEAST, gutter + TRACK * (max(tracks, default=-1) + 1) + EDGE + 16)
         return self.whole(width, y + 12)
 
-    def edges(self):
+    def edges(self) -> list[tuple[Row, Row]]:
         """The arrows: from a row to the row of the entry that it names."""
         rows = {row.place: row for row in self.tree.rows if row.place}
         found = [(row, rows.get(self.state.place_of(row.lead))) for row in self.tree.rows if row.lead]
         return [(row, target) for row, target in found if target]
 
-    def tracks(self, edges):
+    def tracks(self, edges: list[tuple[Row, Row]]) -> list[int]:
         """A track for each arrow, on which no other one goes by; short ones are nearer."""
         spans, chosen = [], {}
         for at in sorted(range(len(edges)), key=lambda it: abs(edges[it][0].y - edges[it][1].y)):
@@ -194,7 +216,7 @@ class Picture:
             chosen[at] = track
         return [chosen[at] for at in range(len(edges))]
 
-    def draw_branches(self):
+    def draw_branches(self) -> None:
         """The lines of the tree."""
         last = {}
         for parent, row in self.tree.branches:
@@ -205,7 +227,7 @@ class Picture:
                 f'<path d="M{number(parent.x + 6)} {number(parent.y + 8)}V{number(row.y)}" class="tree"/>'
             )
 
-    def draw_edge(self, row, target, x):
+    def draw_edge(self, row: Row, target: Row, x: float) -> None:
         """An arrow beside the rows, from behind the words of one to behind those of another."""
         kind = row.kind
         self.used.add(kind)
@@ -225,7 +247,7 @@ class Picture:
         title = f"{row.lead}: {ARROWS[kind][1]}"
         self.shapes.append(titled(ARROWS[kind][0], title, f'<path d="{shape}" class="arrow{soft}"/>', arrow))
 
-    def draw_row(self, row):
+    def draw_row(self, row: Row) -> None:
         """The sign and the words of a row, and its number in the search."""
         x = row.x
         if row.sign:
@@ -239,7 +261,7 @@ class Picture:
             self.used.add("order")
             self.shapes.append(ordered(EDGE + 9, row.y, self.numbers[row.place]))
 
-    def heading(self, width):
+    def heading(self, width: int) -> tuple[str, int]:
         """The heading, what was looked for, and the legend; and how high they are."""
         shapes = [text(EDGE, 24, f"{short(self.name, 60)}: names at line {self.last}", "title ink")]
         y = 43
@@ -264,7 +286,7 @@ class Picture:
                 x += 34 + width_of(words) * 0.93 + 14
         return "\n".join(shapes), y + 18
 
-    def whole(self, width, height):
+    def whole(self, width: int, height: int) -> str:
         """The SVG, with its heading and its legend above the tree."""
         heading, top = self.heading(width)
         w, h = number(width), number(top + height)
@@ -277,7 +299,7 @@ class Picture:
         )
 
 
-def sign(kind, x, y):
+def sign(kind: str, x: float, y: float) -> str:
     """The sign of an entry."""
     if kind == "directory":
         return f'<path d="M{number(x)} {number(y - 5)}h5l2 2h6v8h-13z" class="ink"/>'
@@ -286,12 +308,12 @@ def sign(kind, x, y):
     return circle(x + 6, y, 4.5, "ink")
 
 
-def ordered(x, y, at):
+def ordered(x: float, y: float, at: int) -> str:
     """A number in the order of a search."""
     return rect(x - 9, y - 9, 18, 18, "order", 9) + text(x, y + 4, str(at), "ordered")
 
 
-def sample(kind, x, y):
+def sample(kind: str, x: float, y: int) -> str:
     """What the legend shows of a kind."""
     if kind == "order":
         return ordered(x + 14, y, 1)
@@ -305,7 +327,7 @@ def sample(kind, x, y):
     )
 
 
-def draw(replay, name, last=2**63, directory=None):
+def draw(replay: Replay, name: str, last: int = 2**63, directory: int | None = None) -> str:
     """The SVG of the names of a cell, as they are at a line: at the last one, or at the first import that lists
     bindings."""
     return Picture(replay, name, last, directory).draw()

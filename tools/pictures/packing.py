@@ -1,7 +1,14 @@
 """Packs a replay and its states for the page: lists of numbers and of words, which are named by their places in one
 list of words."""
+
+from __future__ import annotations
+
 from . import choice, meanings, searches, skulks
+from .cell import Replay
+from .facts import Message, Step
+from .states import Change, States
 from .titles import label_of
+from cds.octets import Load
 
 MOST_FACTS = 60  # of a message that are listed
 
@@ -9,10 +16,13 @@ MOST_FACTS = 60  # of a message that are listed
 class Words:
     """Words, each once, by their places."""
 
-    def __init__(self):
+    all: list[str]
+    places: dict[str, int]
+
+    def __init__(self) -> None:
         self.all, self.places = [], {}
 
-    def place(self, word):
+    def place(self, word: str | None) -> int:
         """The place of a word, which is new or not; that of None is -1."""
         if word is None:
             return -1
@@ -26,12 +36,26 @@ class Words:
 class Pack:
     """What the page gets of the steps that are chosen. `ats` are their places in the replay."""
 
-    def __init__(self, replay, states, steps, directory):
+    loads: list[list[int | str | list[int] | None]]
+    load_places: dict[int, int]
+
+    def __init__(self, replay: Replay, states: States, steps: list[Step], directory: int | None) -> None:
         self.replay, self.states, self.steps, self.dir, self.words = replay, states, steps, directory, Words()
         self.ats = [it.at for it in steps]
         self.loads, self.load_places = [], {}
 
-    def all(self):
+    def all(
+        self,
+    ) -> dict[
+        str,
+        list[
+            int
+            | str
+            | tuple[int, int, int, str]
+            | list[int | str | tuple[int, ...] | list[int | str | list[object]] | None]
+        ]
+        | dict[int, str | int | list[tuple[int, str] | list[int | None]]],
+    ]:
         """All of it. The words come last, since the others make them."""
         replay = self.replay
         packed = {
@@ -62,7 +86,7 @@ class Pack:
         packed["words"] = self.words.all
         return packed
 
-    def step(self, step):
+    def step(self, step: Step) -> list[int | str | tuple[int, ...] | list[str] | None]:
         """A step: what the script and the answers say of it."""
         serial = step.message.serial if step.message else None
         label = label_of(step, self.replay)
@@ -81,7 +105,7 @@ class Pack:
             stop,
         ]
 
-    def message(self, it):
+    def message(self, it: Message) -> list[int | str | tuple[int, ...] | None]:
         """A message, with the place of what it carries."""
         taken = next((at for at in it.deliveries if self.replay.steps[at].has_changed), None)
         fate = [it.posted, it.deliveries, taken, it.lost]
@@ -97,7 +121,7 @@ class Pack:
             self.load(self.states.loads.get(it.serial)),
         ]
 
-    def load(self, load):
+    def load(self, load: Load | None) -> int:
         """The place of what a message carries, or -1."""
         if load is None:
             return -1
@@ -108,11 +132,11 @@ class Pack:
             self.loads.append([self.pairs(facts[:MOST_FACTS]), len(facts), load.up_to, load.members, load.floor])
         return at
 
-    def pairs(self, facts):
+    def pairs(self, facts: list[tuple[str, str | None]]) -> list[int]:
         """Facts, as the places of their keys and of what they say, one after the other."""
         return [self.words.place(it) for pair in facts for it in pair]
 
-    def changes(self):
+    def changes(self) -> list[list[list[int | list[list[int | str | None]]]]]:
         """The changes at each step, before the first of which are all that led there. What lies between two goes to the
         later one."""
         packed, gathered, chosen = [], [], set(self.ats)
@@ -123,12 +147,12 @@ class Pack:
                 gathered = []
         return packed
 
-    def change(self, house, change):
+    def change(self, house: int, change: Change) -> list[int | list[list[int | str | list[int] | None]]]:
         """The changes of a house."""
         directories = [[it, head, self.pairs(facts)] for it, head, facts in change.directories]
         return [house, change.floor, change.size, change.puts, directories]
 
-    def names(self):
+    def names(self) -> dict[int, str]:
         """The full name under which each directory was made."""
         names = {1: "/.:"} if 1 in self.replay.epochs else {}
         for step in self.replay.steps:
@@ -137,7 +161,7 @@ class Pack:
                 names[made] = f"{parent}/{step.words[2]}"
         return names
 
-    def values(self):
+    def values(self) -> dict[int, str]:
         """What values mean, for those of which the octets alone say little, by the places of their keys."""
         found = {}
         for at, word in enumerate(self.words.all):
@@ -148,6 +172,6 @@ class Pack:
         return found
 
 
-def chosen(replay, first, last, directory):
+def chosen(replay: Replay, first: int, last: int, directory: int | None) -> list[Step]:
     """The steps between two lines, of a directory or of all."""
     return choice.Choice(first, last, directory).steps(replay)

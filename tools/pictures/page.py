@@ -1,5 +1,8 @@
 """Writes the page on which a replay is stepped through: one HTML file, with its style, its script and what happened
 inside."""
+
+from __future__ import annotations
+
 import base64
 import hashlib
 import html
@@ -7,6 +10,8 @@ import json
 import os
 
 from . import clerk, packing, states as states_
+from .cell import Replay
+from .facts import Step
 from .shapes import Undrawable, styles
 
 FOLDER = f"{os.path.dirname(os.path.realpath(__file__))}/page"
@@ -15,24 +20,59 @@ MOST_STEPS = 10_000
 MOST_OCTETS = 40_000_000
 
 
-def part(name):
+def part(name: str) -> str:
     """A part of the page."""
     with open(f"{FOLDER}/{name}", encoding="utf-8") as it:
         return it.read()
 
 
-def sum_of(text):
+def sum_of(text: str) -> str:
     """What the page's policy names a text by."""
     return base64.b64encode(hashlib.sha256(text.encode()).digest()).decode()
 
 
-def as_data(packed):
+def as_data(
+    packed: dict[
+        str,
+        str
+        | int
+        | list[
+            int
+            | str
+            | tuple[int, int, int, str]
+            | list[int | str | tuple[int, ...] | list[int | str | list[object]] | None]
+        ]
+        | dict[int, str | int | list[tuple[int, str] | list[int | str | None]]]
+        | None,
+    ]
+) -> str:
     """Data as a page has them: no word of them ends its element."""
     text = json.dumps(packed, separators=(",", ":"), ensure_ascii=True)
     return text.replace("<", "\\u003c").replace(">", "\\u003e").replace("&", "\\u0026")
 
 
-def pack(replay, program, words, script, answers, first, last, directory):
+def pack(
+    replay: Replay,
+    program: str,
+    words: list[str],
+    script: bytes,
+    answers: bytes,
+    first: int,
+    last: int,
+    directory: int | None,
+) -> dict[
+    str,
+    str
+    | int
+    | list[
+        int
+        | str
+        | tuple[int, int, int, str]
+        | list[int | str | tuple[int, ...] | list[int | str | list[object]] | None]
+    ]
+    | dict[int, str | int | list[tuple[int, str] | list[int | str | None]]]
+    | None,
+]:
     """What the page has of a replay."""
     steps = packing.chosen(replay, first, last, directory)
     if len(steps) > MOST_STEPS:
@@ -51,7 +91,7 @@ def pack(replay, program, words, script, answers, first, last, directory):
     return packed
 
 
-def texts(lines, steps):
+def texts(lines: list[str], steps: list[Step]) -> list[list[int | str]]:
     """The lines of the script from the first chosen step, with the comments before it, to the last one, by their
     numbers."""
     begin, end = steps[0].line, steps[-1].line
@@ -63,7 +103,22 @@ def texts(lines, steps):
     ]
 
 
-def write(packed, name):
+def write(
+    packed: dict[
+        str,
+        str
+        | int
+        | list[
+            int
+            | str
+            | tuple[int, int, int, str]
+            | list[int | str | tuple[int, ...] | list[int | str | list[object]] | None]
+        ]
+        | dict[int, str | int | list[tuple[int, str] | list[int | str | None]]]
+        | None,
+    ],
+    name: str,
+) -> str:
     """The page."""
     packed["name"] = name
     data = as_data(packed)

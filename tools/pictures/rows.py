@@ -1,4 +1,7 @@
 """Rows of a picture in time, and the labels below them."""
+
+from __future__ import annotations
+
 import bisect
 
 from .shapes import width_of
@@ -23,16 +26,16 @@ class Label:
 
     level, begin = 0, 0
 
-    def __init__(self, x, words, title):
+    def __init__(self, x: float, words: str, title: str) -> None:
         self.x, self.words, self.title, self.width = x, words, title, width_of(words)
 
-    def put(self, level, right):
+    def put(self, level: int, right: int) -> None:
         """Puts it at a level, to the right of its line, or to the left of it where it would come out of the picture."""
         self.level, self.is_left = level, self.x + 5 + self.width > right
         self.begin = self.x - 5 - self.width if self.is_left else self.x + 5
         self.end = self.begin + self.width
 
-    def fits(self, other):
+    def fits(self, other: Label) -> bool:
         """Whether neither its words nor its line run into another label."""
         if self.level == other.level and self.begin < other.end + 8 and other.begin < self.end + 8:
             return False
@@ -45,7 +48,12 @@ class Row:
     the words of its columns, the lines of the houses at `tops`, and the labels of skulks and epochs from `strip` on.
     """
 
-    def __init__(self, first, left):
+    xs: list[float]
+    tops: dict[int, float]
+    labels: list[Label]
+    marks: dict[int | None, list[float]]
+
+    def __init__(self, first: int, left: int) -> None:
         self.first, self.end, self.xs, self.left, self.right, self.tops, self.height = (
             first,
             first,
@@ -57,7 +65,7 @@ class Row:
         )
         self.labels, self.marks, self.strip, self.lanes, self.lane = [], {}, 0, 0, LANE
 
-    def lay(self, lanes, shown):
+    def lay(self, lanes: list[tuple[int, int | None]], shown: range) -> None:
         """Gives the lines that are shown their heights, and last the one of no house. Many lines are nearer to each
         other."""
         is_many = len(shown) > MANY_LANES
@@ -71,21 +79,21 @@ class Row:
         self.height = y + LANE
         self.tops[len(lanes)] = self.height + LANE / 2
 
-    def x(self, column):
+    def x(self, column: int) -> float:
         """The place of a column, or the nearer side of the row."""
         if column < self.first:
             return self.left
         return self.xs[column - self.first] if column < self.end else self.right
 
-    def y(self, lane):
+    def y(self, lane: int) -> float:
         """The place of a line that is shown, by its number from above."""
         return self.lanes + self.tops[lane]
 
-    def bottom(self):
+    def bottom(self) -> float:
         """Where the lines of the houses end."""
         return self.lanes + self.height
 
-    def is_free(self, lane, x, margin):
+    def is_free(self, lane: int, x: float, margin: float) -> bool:
         """Whether no mark of the line is so near."""
         marks = self.marks.get(lane, ())
         at = bisect.bisect(marks, x - margin)

@@ -1,7 +1,12 @@
 """Who has answered in the skulks that run: it is in no answer of the program, and follows from the deliveries."""
 
+from __future__ import annotations
 
-def answered(replay):
+from .cell import Replay
+from .facts import Skulk, Step
+
+
+def answered(replay: Replay) -> list[list[list[int]]]:
     """For each skulk the steps at which its house took an answer, with the member that gave it and whether the round
     ended then."""
     found = []
@@ -11,7 +16,7 @@ def answered(replay):
     return found
 
 
-def answer(step, skulk):
+def answer(step: Step, skulk: Skulk) -> list[int] | None:
     """What a step says of a skulk: its place, who answered, and whether the next round began; or None."""
     message = step.message
     if (

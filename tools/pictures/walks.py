@@ -1,16 +1,21 @@
 """Walks of full names over what a script made, for the commands that name no house."""
-from cds.commands import MOST_LINKS
+
+from __future__ import annotations
+
+from collections.abc import Sequence
+
 from .facts import Entry
+from cds.commands import MOST_LINKS
 
 
 class Walks:
     """What a replay knows of names. It has `entries`, `epochs`, `held`, and whether a house is down."""
 
-    def entry(self, directory, name):
+    def entry(self, directory: int, name: str) -> Entry:
         """What is known of a name in a directory."""
         return self.entries.setdefault((directory, name), Entry())
 
-    def asked(self, directory, listed):
+    def asked(self, directory: int, listed: Sequence[int]) -> int:
         """The first of these houses that is up and holds the directory as its master."""
         for house in listed:
             epoch = self.held.get((house, directory))
@@ -18,7 +23,7 @@ class Walks:
                 return house
         return None
 
-    def walk(self, name):
+    def walk(self, name: str) -> tuple[int, int, str] | None:
         """The house, directory and simple name to which a full name leads, or None where the script alone does not
         tell."""
         for _ in range(MOST_LINKS + 1):
@@ -28,7 +33,7 @@ class Walks:
             name = found
         return None
 
-    def walk_once(self, names):
+    def walk_once(self, names: list[str]) -> str | tuple[int, int, str] | None:
         """As `walk`, of one name; or the next name, behind a link."""
         if 1 not in self.epochs:
             return None

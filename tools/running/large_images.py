@@ -1,6 +1,9 @@
 """Images of 20 directories, names of 254 octets and a megabyte, for the forms `migrate` and `audit D`."""
 
+from __future__ import annotations
+
 import random
+from collections.abc import Iterator
 
 from cds import records
 from running.runs import Run
@@ -11,12 +14,12 @@ DIRECTORIES, ENTRIES, ATTRIBUTES, VALUES = 20, 12, 2, 2
 UPTO = 1_000_000
 
 
-def name_of(entry):
+def name_of(entry: int) -> bytes:
     """Returns a name of 254 octets; these differ at their end, and ascend."""
     return b"n" * 250 + f"{entry:04}".encode()
 
 
-def entries_of(directory):
+def entries_of(directory: int) -> dict[bytes, tuple[int, bytes, dict[bytes, dict[bytes, tuple[int, bytes]]]]]:
     """Returns the entries of a directory, as `records.directory` takes them."""
     chance, found = random.Random(directory), {}
     for i in range(ENTRIES):
@@ -29,7 +32,9 @@ def entries_of(directory):
     return found
 
 
-def image_of(layout, house, directories):
+def image_of(
+    layout: int, house: int, directories: dict[int, dict[bytes, tuple[int, bytes, dict[bytes, dict[bytes, object]]]]]
+) -> bytes:
     """Returns the image of house 1 or 2, which holds each of these directories with the other one."""
     members = [(1, 1, records.MASTER), (2, 1, records.READ_ONLY)]
     held = [
@@ -39,7 +44,12 @@ def image_of(layout, house, directories):
     return records.image(layout, house, NODES[house - 1], UPTO + DIRECTORIES, held)
 
 
-def without(directories, number, entry, attribute=None):
+def without(
+    directories: dict[int, dict[bytes, tuple[int, bytes, dict[bytes, dict[bytes, object]]]]],
+    number: int,
+    entry: int,
+    attribute: bytes | None = None,
+) -> tuple[dict[int, dict[bytes, tuple[int, bytes, dict[bytes, object]]]], tuple[bytes, bytes] | None]:
     """Returns the directories without this entry, or without the last value of an attribute; and that value with its
     stamp."""
     entries = dict(directories[number])
@@ -52,12 +62,12 @@ def without(directories, number, entry, attribute=None):
     return {**directories, number: entries}, value
 
 
-def time_of(stamp):
+def time_of(stamp: bytes) -> str:
     """Returns the text of a stamp."""
     return f"{int.from_bytes(stamp[:8], 'big')}@{stamp[8:].hex()}"
 
 
-def audits(directories):
+def audits(directories: dict[int, dict[bytes, tuple[int, bytes, dict[bytes, dict[bytes, object]]]]]) -> Iterator[Run]:
     """Returns runs of `audit D` over two such images: they agree, or the one lacks what the other one has."""
     births, _ = without(directories, 7, 3)
     values, (value, at) = without(directories, DIRECTORIES, ENTRIES - 1, b"Other")
@@ -86,7 +96,7 @@ def audits(directories):
         )
 
 
-def runs():
+def runs() -> list[Run]:
     """Returns all of these."""
     directories = {it: entries_of(it) for it in range(1, DIRECTORIES + 1)}
     former, present = (image_of(it, 1, directories) for it in (1, 2))

@@ -1,5 +1,12 @@
 """Which messages are under way in a replay, and to whom."""
+
+from __future__ import annotations
+
 import itertools
+from collections.abc import Callable
+
+from pictures.cell import Replay
+from pictures.facts import Message
 
 DELIVERED = ("taken", "complete", "late", "early", "stale", "noreplica", "stopped after")
 
@@ -7,7 +14,7 @@ DELIVERED = ("taken", "complete", "late", "early", "stale", "noreplica", "stoppe
 class Way:
     """A message that is under way."""
 
-    def __init__(self, message, line, text):
+    def __init__(self, message: Message, line: int, text: str) -> None:
         self.serial, self.kind, self.sender, self.receiver = (
             message.serial,
             message.kind,
@@ -20,11 +27,13 @@ class Way:
 class Post:
     """The messages of a replay that grows: which of them are under way."""
 
-    def __init__(self):
+    open: dict[int, Message]
+
+    def __init__(self) -> None:
         # The steps that were read, the messages that were seen, and those of them that were neither lost nor delivered.
         self.steps, self.seen, self.open = 0, 0, {}
 
-    def under_way(self, replay, ask):
+    def under_way(self, replay: Replay, ask: Callable[..., object]) -> list[Way]:
         """The messages that were posted and neither lost nor delivered. `ask` answers the octets of a message by its
         serial."""
         new = list(itertools.islice(replay.messages.items(), self.seen, None))
@@ -37,7 +46,7 @@ class Post:
         return [way_of(replay, serial, message, ask) for serial, message in self.open.items() if message.lost is None]
 
 
-def way_of(replay, serial, message, ask):
+def way_of(replay: Replay, serial: int, message: Message, ask: Callable[..., object]) -> Way:
     """A message that is under way, and to whom."""
     step = replay.steps[message.posted]
     way = Way(message, step.line, step.text)
@@ -46,7 +55,7 @@ def way_of(replay, serial, message, ask):
     return way
 
 
-def resolve(replay, way, together, octets):
+def resolve(replay: Replay, way: int, together: object, octets: bytes) -> None:
     """Finds the sender and the receiver of an Update of the name service: it names its sender, who posts each to all
     others."""
     way.dir, way.sender = int.from_bytes(octets[2:6], "big"), octets[6]

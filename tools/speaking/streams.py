@@ -1,11 +1,16 @@
 """How the tools end where an input can't be read, an output can't be written, or the program fails."""
+
+from __future__ import annotations
+
 import os
 import sys
+from collections.abc import Callable
 
 from speaking import program
+from speaking.writing import Faulty
 
 
-def octets_of(name):
+def octets_of(name: str) -> bytes:
     """The octets of a file, or of standard input."""
     if name == "-":
         if sys.stdin is None:
@@ -15,7 +20,7 @@ def octets_of(name):
         return it.read()
 
 
-def guarded(tool, work, *faults):
+def guarded(tool: str, work: Callable[..., object], *faults: type[Faulty]) -> int:
     """What work returns, an exit status; or 1 where it fails, which is said on standard error."""
     try:
         status = work()

@@ -1,5 +1,9 @@
 """A script from the words of an operator."""
+
+from __future__ import annotations
+
 import re
+from typing import IO
 
 from pictures import replay as replays
 from speaking import desk, program, texts
@@ -10,7 +14,7 @@ class Faulty(Exception):
     """A faulty line of the operator."""
 
 
-def form_line(text):
+def form_line(text: str) -> tuple[tuple[str, ...] | None, int | None]:
     """The form that the first line of the words names, or None, and the place of the line."""
     for at, line in enumerate(text.splitlines()):
         if line.strip() and not line.strip().startswith("#"):
@@ -24,7 +28,7 @@ def form_line(text):
     return None, None
 
 
-def write(text, form, given, has_answers, sink, errors):
+def write(text: str, form: None, given: str, has_answers: bool, sink: IO[str], errors: IO[str]) -> None:
     """Writes the script, or the answers, that words make."""
     named, at = form_line(text)
     form = program.form_words(form) if form else named or ("run",)
@@ -47,7 +51,7 @@ def write(text, form, given, has_answers, sink, errors):
                 cell.lines.append("")
 
 
-def one(cell, number, line):
+def one(cell: desk.Desk, number: int, line: str) -> desk.Done:
     """Does one line."""
     try:
         return cell.do(line)
@@ -58,7 +62,7 @@ def one(cell, number, line):
         raise Faulty(f"line {number}: {line.strip()}: the answers are not understood: {fault}") from fault
 
 
-def answered(line, done, sink):
+def answered(line: str, done: desk.Done, sink: IO[str]) -> None:
     """Writes a line with the answers that tell something: all but those to deliveries and clocks that went well."""
     print(line, file=sink)
     for answer in done.answers:
@@ -66,7 +70,7 @@ def answered(line, done, sink):
             print(f"    {spoken(answer)}", file=sink)
 
 
-def spoken(answer):
+def spoken(answer: str) -> str:
     """An answer with values as text."""
     found = re.fullmatch(r"(\d+ ok \d+)((?: (?:[0-9a-f]{2})+)+)", answer)
     if found:

@@ -1,15 +1,34 @@
 """What the page says of a house and a directory, and what `dump` does, as the same words."""
+
+from __future__ import annotations
+
 import re
 import subprocess
+
+from pictures.facts import Step
+from pictures.states import House
+from running.lone_house import LoneHouse
+from running.runs import Mending, Run
+from speaking.desk import Desk
+from speaking.tokens import Text
 
 
 class Cut:
     """A script that is cut after a line, with questions after it."""
 
-    def __init__(self, program, words, lines):
+    def __init__(
+        self, program: str, words: str | tuple[str, ...] | list[str | Text], lines: int | tuple[str, ...] | list[str]
+    ) -> None:
         self.program, self.words, self.lines = program, words, lines
 
-    def dumps(self, last, houses, directories, downs):
+    def dumps(
+        self,
+        last: Step | int,
+        houses: set[int] | None,
+        directories: list[bytes | tuple[int, str | None, list[tuple[str, str | None]]]]
+        | dict[int, dict[bytes, tuple[int, bytes, dict[bytes, dict[bytes, object]]]]],
+        downs: object,
+    ) -> object:
         """The dumps after a line, by house and directory. Those that are down are started for it."""
         asked = [(house, directory) for house in houses for directory in directories]
         lines = [
@@ -31,14 +50,16 @@ class Cut:
         return {place: shown(said, place[0]) for place, said in found.items() if not said[0].startswith("refused")}
 
 
-def shown(said, house):
+def shown(
+    said: bytes | str | tuple[str | None, ...] | list[str], house: int | str | House | LoneHouse | None
+) -> object:
     """What the page shows of a dump: of the members what the house itself is, and the rest as it is."""
     words = said[0].split()
     own = next((it for it in words[6:] if it.startswith(f"{house}:")), "none:none:none").split(":")
     return [f"epoch {words[2]} allupto {words[4]} since {own[1]} {own[2]}", *said[1:]]
 
 
-def of_tables(tables, nodes):
+def of_tables(tables: object, nodes: dict[str, str]) -> object:
     """What the tables of the page say, by house and directory."""
     found = {}
     for table in tables:
@@ -53,7 +74,7 @@ def of_tables(tables, nodes):
     return found
 
 
-def houses_of(name):
+def houses_of(name: str | bytes | None) -> object:
     """The houses of a column's head."""
     found = []
     for one, other in re.findall(r"(\d+)(?: to (\d+))?", name):
@@ -61,13 +82,13 @@ def houses_of(name):
     return found
 
 
-def stamp(text, nodes):
+def stamp(text: Text | str, nodes: dict[str, str]) -> object:
     """A whole stamp: after its time the house or the node."""
     time, _, house = text.partition("@")
     return f"{time}@{nodes.get(house) or house.rjust(12, '0')}"
 
 
-def head_of(role, up_to, nodes):
+def head_of(role: object, up_to: str | None, nodes: dict[str, str]) -> object:
     """The first line of a dump, as far as the page shows it."""
     kind, epoch, since = re.fullmatch(
         r"(master|secondary|read-only|unlisted), epoch (\d+)(?:, since (\d+))?", role
@@ -77,7 +98,12 @@ def head_of(role, up_to, nodes):
     return f"epoch {epoch} allupto {up_to if up_to == 'none' else stamp(up_to, nodes)} since {since} {known}"
 
 
-def line_of(kind, key, cell, nodes):
+def line_of(
+    kind: int | str | type[Mending | Run] | None,
+    key: str | tuple[str, str, str],
+    cell: Desk | int | str,
+    nodes: dict[str, str],
+) -> object:
     """A line of a dump, or nothing where the house has not this fact."""
     if cell in ("–", "", "gone"):
         return None

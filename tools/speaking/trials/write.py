@@ -3,12 +3,16 @@
 A file of incidents/ has a sentence, the log, the words of the operator, and answers that are known beforehand: `WORDS
 => ANSWER`, in the order of the words, each of which is one line of the answers to that line.
 """
+
+from __future__ import annotations
+
 import glob
 import io
 import os
 import re
 import subprocess
 import sys
+from collections.abc import Iterator
 
 from speaking import program, writing
 
@@ -16,7 +20,7 @@ HERE = os.path.dirname(os.path.realpath(__file__))
 WRITE = f"{os.path.dirname(os.path.dirname(HERE))}/write"
 
 
-def write(path, words, has_answers=False):
+def write(path: str, words: str, has_answers: bool = False) -> tuple[str, str, int]:
     """What tools/write writes, what it says beside, and its exit status."""
     sink, errors = io.StringIO(), io.StringIO()
     try:
@@ -26,7 +30,7 @@ def write(path, words, has_answers=False):
     return sink.getvalue(), errors.getvalue(), 0
 
 
-def called(words, *more):
+def called(words: str, *more: str) -> tuple[str, int]:
     """What tools/write says when it is called, and its exit status."""
     ran = subprocess.run(
         [sys.executable, WRITE, *more], input=words.encode(), capture_output=True, check=False, timeout=120
@@ -34,12 +38,12 @@ def called(words, *more):
     return (ran.stdout + ran.stderr).decode(), ran.returncode
 
 
-def commands(text):
+def commands(text: str) -> list[str]:
     """The lines of a script, or of an operator, that say something."""
     return [line for line in text.splitlines() if line.strip() and not line.strip().startswith("#")]
 
 
-def answer_problem(spoken, expected):
+def answer_problem(spoken: str, expected: str) -> None:
     """The first answer that does not come, in the order of the words, or None."""
     blocks = [block.splitlines() for block in re.split(r"(?m)^(?! )", spoken) if block]
     at = 0
@@ -52,13 +56,13 @@ def answer_problem(spoken, expected):
     return None
 
 
-def is_answered(block, words, answer):
+def is_answered(block: list[str], words: str, answer: str) -> bool:
     """Whether a line and its answers are these words and, among others, this answer."""
     said = [re.sub(r"^\d+ ", "", line.strip()).partition(" posted ")[0] for line in block[1:]]
     return block[0].partition("  #")[0].strip() == words and answer in said
 
 
-def incident(path, file):
+def incident(path: str, file: str) -> Iterator[tuple[str, None]]:
     """The problems of one incident."""
     with open(file, encoding="ascii") as it:
         _, log, words, expected = re.split(r"(?m)^--- (?:log|words|answers)\n", it.read())
@@ -161,7 +165,7 @@ BESIDE = (
 )  # fmt: skip
 
 
-def trials(path):
+def trials(path: str) -> Iterator[tuple[str, None]]:
     """All trials of tools/write."""
     for file in sorted(glob.glob(f"{HERE}/incidents/*.incident")):
         yield from incident(path, file)
