@@ -1,8 +1,8 @@
 #!/usr/bin/env python3
 """Measures houses, programs that are run as `PROGRAM FOLDER` (docs/HOUSE.md):
 
-    turns.py [--runs K] [--turns N] [--entries E] [--disk FOLDER] NAME=PROGRAM [NAME=PROGRAM ..] turns.py --ratios
-    [--runs K] [--turns N] [--entries E] [--disk FOLDER] [--explainer PROGRAM] NAME=PROGRAM [NAME=PROGRAM ..]
+    turns.py [--runs K] [--turns N] [--entries E] [--disk FOLDER] NAME=PROGRAM [NAME=PROGRAM ..]
+    turns.py --ratios [--runs K] [--turns N] [--entries E] [--disk FOLDER] [--explainer PROGRAM] NAME=PROGRAM ..
 
 Each house is made in a new folder, gets E entries (100) with a value each, and then N turns (2,000) that change one of
 them, all from one pipe. One run at a time, K times (3); the fastest counts. Each line has the turns, the octets of a

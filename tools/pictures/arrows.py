@@ -2,8 +2,6 @@
 
 from __future__ import annotations
 
-from collections.abc import Iterator
-
 from .facts import Message
 from .marks import Marks
 from .rows import LANE, MARK, Row
@@ -13,17 +11,6 @@ from .titles import MOST_LINES, name_of, told
 
 class Arrows(Marks):
     """A picture's messages."""
-
-    def messages(self) -> Iterator[Message]:
-        """The messages that are drawn: those of known houses that are posted, delivered or lost in the picture."""
-        for message in self.replay.messages.values():
-            if message.posted > self.steps[-1].at:
-                break
-            # (what is lost in the step that posted it has no way)
-            is_known = message.sender in self.lane and message.receiver in self.lane and message.lost != message.posted
-            if is_known and self.is_drawn(message.dir):
-                if any(map(self.in_view, (message.posted, *message.deliveries, message.lost))):
-                    yield message
 
     def draw_message(self, message: Message) -> None:
         """The arrows of a message: to each delivery, to where it was lost, and out of the row where it goes on
@@ -52,20 +39,12 @@ class Arrows(Marks):
         """Whether a step shares its column with others, so that its arrow is that of the column."""
         return self.columns[self.column[at]].kind != "one"
 
-    def sign(self, message: Message) -> int:
-        """Which way a message goes: 1 down, or -1 up."""
-        return 1 if self.lane_for(message.receiver, message.dir) > self.lane_for(message.sender, message.dir) else -1
-
     def gap(self, message: Message) -> int:
         """How far from its end a message from elsewhere comes in, or to elsewhere goes: more where it goes farther."""
         return min(
             18 + 8 * abs(self.lane_for(message.receiver, message.dir) - self.lane_for(message.sender, message.dir)),
             LANE - 14,
         )
-
-    def break_y(self, row: Row, message: Message) -> float:
-        """Where a message is lost: before it comes to its receiver."""
-        return row.y(self.lane_for(message.receiver, message.dir)) - self.sign(message) * LANE / 2
 
     def start(self, message: Message, row: Row) -> tuple[float, float]:
         """The place at which a message leaves its sender."""
@@ -93,6 +72,7 @@ class Arrows(Marks):
 
     def draw_loss(self, message: Message, row: Row, is_home: bool, title: str) -> None:
         """The way of a message to the cross where it was lost; pale, where it had been taken before."""
+        assert message.lost is not None
         x, y = row.x(self.column[message.lost]) - self.mark_width / 2 - 6, self.break_y(row, message)
         near = (max(row.left - 8, x - self.pitch * 0.8), y - self.sign(message) * 14)
         points = self.route(row, self.start(message, row) if is_home else near, (x, y))

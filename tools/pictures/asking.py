@@ -17,6 +17,9 @@ from cds import commands
 
 MOST_OCTETS = 400_000_000  # of images that are kept at a time
 
+# Whose line of a script it is: the number of a line, or what is asked, after which step, and of which house or message.
+Owner = int | tuple[str, int, int]
+
 
 class Broken(Exception):
     """The program ended as it should not, or answers otherwise when it is asked more."""
@@ -29,7 +32,7 @@ def lines_from(program: str, words: list[str], script: bytes) -> Iterator[bytes]
         source.write(script)
         source.seek(0)
         with subprocess.Popen([program, *words], stdin=source, stdout=subprocess.PIPE) as ran:
-            yield from ran.stdout
+            yield from ran.stdout or ()
     if ran.returncode not in (0, 3):
         raise Broken(f"`{program} {' '.join(words)}` ended with status {ran.returncode}")
 
@@ -39,11 +42,11 @@ def run(program: str, words: list[str], script: bytes) -> bytes:
     return b"".join(lines_from(program, words, script))
 
 
-def houses_of(step: Step, replay: Replay) -> list[int]:
+def houses_of(step: Step, replay: Replay) -> list[int] | None:
     """The houses whose images a step may change: None is each of them."""
     if step.command in commands.SERVICES:
         return [step.house] if step.found else None
-    named = [step.house, step.stop]
+    named = [step.house, step.stop or 0]
     if step.command == "mkdir":
         named.append(int(step.words[3]))
     return sorted({it for it in named if it in replay.nodes})
@@ -54,12 +57,12 @@ class Script:
     asks."""
 
     lines: list[str]
-    owners: list[int | tuple[str | int, ...]]
+    owners: list[Owner]
 
     def __init__(self, is_journal: bool) -> None:
         self.lines, self.owners, self.is_journal = [], [], is_journal
 
-    def add(self, text: str, owner: int | tuple[str | int, ...]) -> None:
+    def add(self, text: str, owner: Owner) -> None:
         """Adds a line."""
         self.lines.append(text)
         self.owners.append(owner)
@@ -88,17 +91,20 @@ class Asked:
     def __init__(self) -> None:
         self.answers, self.images, self.journals, self.loads, self.last, self.size = [], {}, {}, {}, {}, 0
 
-    def take(self, owner: int | tuple[str | int, ...], said: str) -> None:
+    def take(self, owner: Owner, said: str) -> None:
         """Takes a line of an answer, without its number."""
         if isinstance(owner, int):
             self.answers.append(f"{owner} {said}")
         elif said.startswith("ok "):
-            found = {"house": self.images, "journal": self.journals, "message": self.loads}[owner[0]]
-            found[owner[1:] if len(owner) > 2 else owner[1]] = self.kept(owner, bytes.fromhex(said.split()[2]))
+            what, at, number = owner
+            octets = self.kept((what, number), bytes.fromhex(said.split()[2]))
+            if what == "message":
+                self.loads[number] = octets
+            else:
+                (self.images if what == "house" else self.journals)[at, number] = octets
 
-    def kept(self, owner: tuple[str | int, ...], octets: bytes) -> bytes:
+    def kept(self, place: tuple[str, int], octets: bytes) -> bytes:
         """The octets, once where those of a house are the same as before."""
-        place = owner[0], owner[-1]
         if self.last.get(place) != octets:
             self.last[place] = octets
             self.size += len(octets)
@@ -112,24 +118,23 @@ class Asked:
 def leaders(replay: Replay) -> dict[int, int]:
     """For each message the serial of one that carries the same: the first one of its step that went to several
     houses."""
-    found, before = {}, None
+    found: dict[int, int] = {}
+    before: Message | None = None
     for message in replay.messages.values():
-        is_same = before is not None and before.posted == message.posted and is_mate(before, message)
-        found[message.serial] = found[before.serial] if is_same else message.serial
+        is_same = before and before.posted == message.posted and is_mate(before, message)
+        found[message.serial] = found[before.serial] if before and is_same else message.serial
         before = message
     return found
 
 
 def is_mate(one: Message, other: Message) -> bool:
     """Whether two messages of a step carry the same: those that go to several houses have ascending receivers."""
-    if one.receiver is None or other.receiver is None:
-        return False
-    return one.kind == other.kind and one.dir == other.dir and one.receiver < other.receiver
+    return one.kind == other.kind and one.dir == other.dir and 0 < one.receiver < other.receiver
 
 
 def asked_at(replay: Replay) -> dict[int, list[int]]:
     """For each step the serials of the messages that are asked about after it."""
-    found = {}
+    found: dict[int, list[int]] = {}
     for serial in sorted(set(leaders(replay).values())):
         message = replay.messages[serial]
         if message.lost != message.posted:
@@ -148,7 +153,7 @@ def questions(lines: list[str], replay: Replay, first: int, last: int, is_journa
             script.add(lines[line], line + 1)
         begins = step.line
         for serial in posted.get(step.at, ()):
-            script.add(f"octets msg {serial}", ("message", serial))
+            script.add(f"octets msg {serial}", ("message", step.at, serial))
         if step.at >= first:
             houses = houses_of(step, replay)
             for house in replay.nodes if houses is None or is_thorough or step.at == last else houses:

@@ -11,6 +11,8 @@ from .shapes import Undrawable
 from cds import answers, commands
 
 MOST_STEPS = 20_000
+# Whether a step is chosen.
+Test = Callable[[Step], bool]
 
 
 class Choice:
@@ -25,14 +27,8 @@ class Choice:
         entry: str | None = None,
         message: int | None = None,
     ) -> None:
-        self.first, self.last, self.dir, self.houses, self.entry, self.message = (
-            first,
-            last,
-            directory,
-            houses,
-            entry,
-            message,
-        )
+        self.first, self.last, self.dir, self.houses = first, last, directory, houses
+        self.entry, self.message = entry, message
 
     def steps(self, replay: Replay) -> list[Step]:
         """The steps that are chosen."""
@@ -40,13 +36,8 @@ class Choice:
             raise Undrawable(f"the script makes no directory {self.dir}")
         if self.message and self.message not in replay.messages:
             raise Undrawable(f"the script posts no message {self.message}")
-        tests = [
-            self.is_of_directory(replay),
-            self.is_of_houses(),
-            self.is_of_entry(replay),
-            self.is_of_message(replay),
-        ]
-        tests = [it for it in tests if it]
+        asked = self.is_of_directory(replay), self.is_of_houses(), self.is_of_entry(replay), self.is_of_message(replay)
+        tests = [it for it in asked if it]
         steps = [it for it in replay.steps if self.first <= it.line <= self.last and all(test(it) for test in tests)]
         if not steps:
             raise Undrawable("no step of the script is to be drawn")
@@ -61,11 +52,11 @@ class Choice:
         parts += [self.entry and f"entry {self.entry}", self.message and f"message {self.message}"]
         return "".join(f", {it}" for it in parts if it)
 
-    def part(self, first: int, last: Step | int) -> object:
+    def part(self, first: int, last: int) -> Choice:
         """The same between two other lines."""
         return Choice(first, last, self.dir, self.houses, self.entry, self.message)
 
-    def is_of_directory(self, replay: Replay) -> Callable[..., object] | None:
+    def is_of_directory(self, replay: Replay) -> Test | None:
         """Asks whether a step is of the directory, or of a member of it alone."""
         if self.dir is None:
             return None
@@ -77,17 +68,19 @@ class Choice:
 
         return is_of
 
-    def is_of_houses(self) -> Callable[..., object] | None:
+    def is_of_houses(self) -> Test | None:
         """Asks whether a step is at one of the houses, or loses a message between two of them."""
+        if not self.houses:
+            return None
         houses = self.houses
-        return houses and (
-            lambda it: it.house in houses
-            or it.command == "lose"
-            and it.message
-            and {it.message.sender, it.message.receiver} <= houses
-        )
 
-    def is_of_entry(self, replay: Replay) -> Callable[..., object] | None:
+        def is_at(step: Step) -> bool:
+            between = {step.message.sender, step.message.receiver} if step.message else {0}
+            return step.house in houses or step.command == "lose" and between <= houses
+
+        return is_at
+
+    def is_of_entry(self, replay: Replay) -> Test | None:
         """Asks whether a step names the entry, or delivers or loses an update of it."""
         if self.entry is None:
             return None
@@ -100,14 +93,11 @@ class Choice:
                 step.command in (*commands.UPDATES, "mkdir") and step.words[2] == self.entry
             )
 
-        return (
-            lambda it: names(it)
-            or bool(it.message)
-            and it.message.kind == "Update"
-            and names(replay.steps[it.message.posted])
+        return lambda it: names(it) or (
+            it.message is not None and it.message.kind == "Update" and names(replay.steps[it.message.posted])
         )
 
-    def is_of_message(self, replay: Replay) -> Callable[..., object] | None:
+    def is_of_message(self, replay: Replay) -> Test | None:
         """Asks whether a step posts, delivers or loses the message."""
         if self.message is None:
             return None

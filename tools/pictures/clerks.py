@@ -43,7 +43,7 @@ class Clerked(Folded):
         name = f"{kept.words[2].split('/')[-1]} {kept.words[3]} = {values}"
         title = "\n".join([f"the clerk keeps: {name}", *told(kept)])
         way = (
-            f'<path d="M{number(x)} {number(row.y(self.lane_of(kept)) + MARK / 2)}V{number(y - MARK / 2)}"'
+            f'<path d="M{number(x)} {number(row.y(self.line_of(kept)) + MARK / 2)}V{number(y - MARK / 2)}"'
             ' class="leader"/>'
         )
         shapes = rect(x - self.mark_width / 2, y - MARK / 2, self.mark_width, MARK, "asked", 2), text(
@@ -53,9 +53,9 @@ class Clerked(Folded):
         self.add("mark", titled("step bare", title, *shapes))
         return x, y - MARK / 2
 
-    def draw_use(self, row: Row, step: Step, kept: Step, begin: tuple[float, float]) -> None:
+    def draw_use(self, row: Row, step: Step, kept: Step, begin: tuple[float, float] | None) -> None:
         """An arrow to a read that a kept answer serves: from that answer, or from another row."""
-        x, y = row.x(self.column[step.at]), row.y(self.lane_of(step)) + MARK / 2 + 1
+        x, y = row.x(self.column[step.at]), row.y(self.line_of(step)) + MARK / 2 + 1
         title = "\n".join([f"the clerk gives the answer of line {kept.line} again", *told(step)])
         start = begin or (x - self.pitch * 0.7, y + 22)
         self.used.add("kept")

@@ -108,26 +108,27 @@ class Picture(Clerked):
             f'<g transform="translate(0 {number(height)})">\n{inner}\n</g>\n</svg>\n'
         )
 
-    def parts(self) -> object:
+    def parts(self) -> list[tuple[int, int]]:
         """The first and the last line of each part that is not too high."""
-        parts, top = [], 0
+        parts: list[tuple[int, int]] = []
+        top = 0.0
         for row in self.rows:
             first, last = self.columns[row.first].first.line, self.columns[row.end - 1].last.line
             bottom = row.bottom()
             if parts and bottom - top <= HIGHEST - ROOM:
-                parts[-1][1] = last
+                parts[-1] = parts[-1][0], last
             else:
-                parts, top = [*parts, [first, last]], row.lanes
+                parts, top = [*parts, (first, last)], row.lanes
         return parts
 
-    def heading(self, width: float) -> tuple[str, int]:
+    def heading(self, width: float) -> tuple[str, float]:
         """The heading, what there is to count, and the legend; and how high they are."""
         first, last = self.steps[0].line, self.steps[-1].line
         lines = f"line {first}" if first == last else f"lines {first} to {last}"
         shapes = [text(EDGE, 24, f"{short(self.name, 60)}: {lines}{self.choice.words()}", "title ink")]
         shapes.append(text(EDGE, 43, self.counts(), "dim"))
         message = next((it for it in records.KINDS if it in self.used), "Update")
-        y = 46
+        x, y = EDGE + 70.0, 46
         if any(it.command in ("import", "lookup") for it in self.steps):
             shapes.append(text(EDGE, 60, "--names draws the tree of its names", "dim"))
             y += 17
@@ -168,7 +169,7 @@ class Picture(Clerked):
         return "; ".join(said)
 
 
-def sample(kind: str, x: float, y: int, message: str) -> str:
+def sample(kind: str, x: float, y: float, message: str) -> str:
     """What the legend shows of a kind, 28 wide; where it may be any message, in the colour of this kind of them."""
     if kind in KINDS:
         points = [(x, y), (x + 28, y)]

@@ -2,6 +2,8 @@
 
 from __future__ import annotations
 
+from collections.abc import Sequence
+
 
 class Fault(Exception):
     """A fault of an input: which one, the number of its line, and what is wrong with it."""
@@ -11,17 +13,30 @@ class Fault(Exception):
 
 
 class Step:
-    """A command with its answer. `house` acts or is asked, and is None where the words don't tell. `stop` is the house
+    """A command with its answer. `house` acts or is asked, and is 0 where the words don't tell. `stop` is the house
     that is to lose its power inside it, if one is. `posted` are the serials of its answer that no message has yet.
     `found` are the house, the directory and the simple name of the entry that a command of the name service changed.
     """
 
-    house, outcome, dirs, message, answer, posted, has_changed, found = None, "ok", (), None, "", (), False, None
+    house: int = 0
+    outcome: str = "ok"
+    dirs: tuple[int, ...] = ()
+    message: Message | None = None
+    answer: str = ""
+    posted: Sequence[int] = ()
+    has_changed: bool = False
+    found: tuple[int, int, str] | None = None
 
     def __init__(
         self, at: int, line: int, command: str, words: tuple[str, ...], text: str, stop: int | None = None
     ) -> None:
         self.at, self.line, self.command, self.words, self.text, self.stop = at, line, command, words, text, stop
+
+    @property
+    def way(self) -> Message:
+        """The message of a step that delivers or loses one."""
+        assert self.message is not None
+        return self.message
 
     def is_done(self) -> bool:
         """Whether it was not refused, and not undone by a loss of power."""
@@ -29,18 +44,19 @@ class Step:
 
 
 class Message:
-    """A message; `up_to` is the AllUpTo of the replica that it brings. What the words don't tell is None."""
+    """A message; `up_to` is the AllUpTo of the replica that it brings. What the words don't tell is 0, or None."""
 
-    deliveries, lost = (), None
+    deliveries: tuple[int, ...] = ()
+    lost: int | None = None
 
     def __init__(
         self,
         serial: int,
         kind: str,
-        sender: int | None,
-        receiver: int | None,
-        directory: int | None,
-        epoch: int | None,
+        sender: int,
+        receiver: int,
+        directory: int,
+        epoch: int,
         stamp: str | None,
         up_to: str | None,
         posted: int,
@@ -53,6 +69,7 @@ class Epoch:
     """An epoch of a directory: `since` has for each member the epoch with which its term began."""
 
     known: dict[int, list[int]]
+    since: dict[int, int]
 
     def __init__(
         self,
@@ -84,19 +101,12 @@ class Skulk:
     """A skulk; `end` is the step that completed it or ended it, or None where it still runs. `answered` are the members
     whose answers it has in its round."""
 
-    end: float | None
-    answered: set[object]
+    end: int | None
+    answered: set[int]
 
     def __init__(self, directory: int, house: int, stamp: str, start: int) -> None:
-        self.dir, self.house, self.stamp, self.start, self.end, self.is_complete = (
-            directory,
-            house,
-            stamp,
-            start,
-            None,
-            False,
-        )
-        self.answered = set()
+        self.dir, self.house, self.stamp, self.start = directory, house, stamp, start
+        self.end, self.is_complete, self.answered = None, False, set()
 
 
 class Rise:
@@ -128,17 +138,16 @@ def secondary(text: str) -> list[int]:
 
 
 class Entry:
-    """What the script made of a name in a directory: what it is now, where it leads, and whether that is all it ever
-    was."""
+    """What the script made of a name in a directory: what it is now, the name that a link leads to, the directory of a
+    child with its houses, and whether that is all it ever was."""
 
-    kind: str | None
-    lead: str | tuple[int, tuple[int, ...]] | None
+    kind: str | None = None
+    target: str = ""
+    child: tuple[int, tuple[int, ...]] | None = None
+    is_plain: bool = True
 
-    def __init__(self) -> None:
-        self.kind, self.lead, self.is_plain = None, None, True
-
-    def become(self, kind: str | None, lead: str | tuple[int, tuple[int, ...]] | None) -> None:
+    def become(self, kind: str | None, target: str = "", child: tuple[int, tuple[int, ...]] | None = None) -> None:
         """Makes it of this kind; what was a link once, or led elsewhere, is not plain."""
-        is_same = self.kind in (None, kind) and self.lead in (None, lead)
+        is_same = self.kind in (None, kind) and (self.target, self.child) in (("", None), (target, child))
         self.is_plain = self.is_plain and kind not in ("link", None) and is_same
-        self.kind, self.lead = kind, lead
+        self.kind, self.target, self.child = kind, target, child

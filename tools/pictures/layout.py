@@ -4,16 +4,16 @@ from __future__ import annotations
 
 import bisect
 import math
-from collections.abc import Iterator
+from collections.abc import Iterator, Sequence
 
 from .cell import Replay
 from .choice import Choice
-from .facts import Epoch, Skulk, Step
+from .facts import Epoch, Message, Skulk, Step
 from .folds import Column, fold
 from .kept import used_answers
 from .rows import EPOCH, FARTHER, LANE, LEFT, LEVEL, MANY, MOST_LEVELS, NARROW, OVERHANG, SLOPE, WIDE, Label, Row
 from .shapes import end_of, width_of
-from .titles import epoch_title, label_of
+from .titles import epoch_title, label_of, told
 
 MOST_SHOWN = 10  # lines of houses; of more a row has those alone that have to do with it
 
@@ -21,9 +21,14 @@ MOST_SHOWN = 10  # lines of houses; of more a row has those alone that have to d
 class Layout:
     """The steps, houses, rows and lines of a picture, between two lines of the script, of one directory or of all."""
 
-    used: set[str] | list[
-        list[str | int | tuple[int | str | tuple[int, int, tuple[object, ...]] | None, ...] | list[object]]
-    ]
+    layers: dict[str, list[str]]
+    used: set[str]
+    # (the first line of each house, and the line of each directory at a house)
+    lane: dict[int, int]
+    lane_at: dict[tuple[int, int], int]
+    posted: dict[int, list[Message]]
+    rows: list[Row]
+    bottom: float
 
     def __init__(self, replay: Replay, name: str, choice: Choice, room: int | None = None) -> None:
         self.replay, self.name, self.choice, self.dir = replay, name, choice, choice.dir
@@ -43,16 +48,16 @@ class Layout:
     def choose(self) -> None:
         """Folds the steps into columns, and chooses the houses."""
         replay, directory = self.replay, self.dir
-        members = {house for epoch in replay.epochs.get(directory, ()) for house in epoch.members}
+        members = {house for epoch in replay.epochs.get(directory or 0, ()) for house in epoch.members}
         self.columns = fold(self.steps)
         self.ats = [it.first.at for it in self.columns]
         self.column = {step.at: at for at, it in enumerate(self.columns) for step in it.steps}
         made = {house for house, at in replay.born.items() if at <= self.steps[-1].at}
-        acting = {it.house for it in self.steps if it.house is not None}
+        acting = {it.house for it in self.steps if it.house}
         if self.choice.houses:
             acting, made = acting & self.choice.houses, made & self.choice.houses
         elif self.choice.entry is not None or self.choice.message is not None:
-            made = acting | {it.message.sender for it in self.steps if it.message} - {None}
+            made = acting | {it.message.sender for it in self.steps if it.message and it.message.sender}
         self.houses = sorted(acting | (made & members if directory else made))
         self.make_lanes()
         self.posted = {}
@@ -63,16 +68,16 @@ class Layout:
 
     def make_lanes(self) -> None:
         """Gives each house a line for each directory that it holds at some time, or one line where it holds none."""
-        held = {}
+        held: dict[int, set[int]] = {}
         for _, house, directory, role in self.replay.holdings:
             if role != "none" and self.is_drawn(directory):
                 held.setdefault(house, set()).add(directory)
-        self.lanes = [(house, it) for house in self.houses for it in sorted(held.get(house, ())) or [None]]
-        self.is_split = len({it for _, it in self.lanes} - {None}) > 1
-        self.lane = {}
+        self.lanes = [(house, it) for house in self.houses for it in sorted(held.get(house, ())) or [0]]
+        self.is_split = len({it for _, it in self.lanes} - {0}) > 1
+        self.lane, self.lane_at = {}, {}
         for lane, (house, directory) in enumerate(self.lanes):
             self.lane.setdefault(house, lane)
-            self.lane[house, directory] = lane
+            self.lane_at[house, directory] = lane
 
     def brief(self, stamp: str) -> str:
         """A stamp in a label: with its house, where its node is of one, and of a long time or node the last digits."""
@@ -81,13 +86,14 @@ class Layout:
 
     def lane_for(self, house: int, directory: int) -> int:
         """The line of a directory at a house, or the first of the house."""
-        return self.lane.get((house, directory), self.lane[house])
+        return self.lane_at.get((house, directory), self.lane[house])
 
     def is_broken(self, step: Step) -> bool:
         """Whether a step loses a message whose way is known."""
         message = step.message
         return (
-            step.command == "lose"
+            message is not None
+            and step.command == "lose"
             and step.outcome == "ok"
             and message.sender in self.lane
             and message.receiver in self.lane
@@ -99,8 +105,14 @@ class Layout:
             return None
         if step.house not in self.lane:
             return len(self.lanes)
-        known = [self.lane[step.house, it] for it in step.dirs if (step.house, it) in self.lane]
+        known = [self.lane_at[step.house, it] for it in step.dirs if (step.house, it) in self.lane_at]
         return known[0] if known else self.lane[step.house]
+
+    def line_of(self, step: Step) -> int:
+        """The line of a step that is at one."""
+        lane = self.lane_of(step)
+        assert lane is not None
+        return lane
 
     def is_drawn(self, directory: int) -> bool:
         """Whether a directory is chosen."""
@@ -118,9 +130,39 @@ class Layout:
         """How a label says the directory, if there are several."""
         return f" of dir {directory}" if self.is_dir_told and not self.dir else ""
 
+    def messages(self) -> Iterator[Message]:
+        """The messages that are drawn: those of known houses that are posted, delivered or lost in the picture."""
+        for message in self.replay.messages.values():
+            if message.posted > self.steps[-1].at:
+                break
+            # (what is lost in the step that posted it has no way)
+            is_known = message.sender in self.lane and message.receiver in self.lane and message.lost != message.posted
+            if is_known and self.is_drawn(message.dir):
+                if any(map(self.in_view, (message.posted, *message.deliveries, message.lost))):
+                    yield message
+
+    def sign(self, message: Message) -> int:
+        """Which way a message goes: 1 down, or -1 up."""
+        return 1 if self.lane_for(message.receiver, message.dir) > self.lane_for(message.sender, message.dir) else -1
+
+    def break_y(self, row: Row, message: Message) -> float:
+        """Where a message is lost: before it comes to its receiver."""
+        return row.y(self.lane_for(message.receiver, message.dir)) - self.sign(message) * LANE / 2
+
+    def skulk_title(self, skulk: Skulk) -> str:
+        """The hover text of a skulk."""
+        lines = [
+            f"skulk {skulk.stamp} of directory {skulk.dir}, at house {skulk.house}",
+            *told(self.replay.steps[skulk.start]),
+        ]
+        if skulk.end is None:
+            return "\n".join([*lines, "it is not complete at the end of the script"])
+        what = "complete" if skulk.is_complete else "ended, and never complete"
+        return "\n".join([*lines, f"{what}:", *told(self.replay.steps[skulk.end])])
+
     # Rows.
 
-    def lay_out(self, top: int) -> None:
+    def lay_out(self, top: float) -> None:
         """Cuts the steps into rows, and gives each its place."""
         epochs = {epoch.step for directory in self.dirs for epoch in self.replay.epochs[directory]}
         left, begun = FARTHER if self.is_split else LEFT, sum(it in epochs for it in self.ats)
@@ -144,22 +186,22 @@ class Layout:
             top = self.place(row, top)
         self.bottom = top
 
-    def shown(self, row: Row) -> range:
+    def shown(self, row: Row) -> Sequence[int]:
         """The lines of houses that a row shows: all of a few, and else those that have to do with its steps."""
         if len(self.lanes) <= MOST_SHOWN:
             return range(len(self.lanes))
-        found = set()
+        found: set[int] = set()
         for column in self.columns[row.first : row.end]:
             steps = column.steps if column.kind != "houses" else [column.first, column.last]
             for step in steps:
                 found |= set(self.lanes_of(step))
         return sorted(found) or [0]
 
-    def lanes_of(self, step: Step | int) -> object:
+    def lanes_of(self, step: Step) -> list[int]:
         """The lines that have to do with a step: its own, and where messages that it posts or loses come from or go."""
         lane = self.lane_of(step)
         if lane is None:
-            return [self.lane_for(it, step.message.dir) for it in (step.message.sender, step.message.receiver)]
+            return [self.lane_for(it, step.way.dir) for it in (step.way.sender, step.way.receiver)]
         senders = {it.sender for it in self.posted.get(step.at, ()) if it.sender in self.lane}
         lanes = [self.lane_for(it, step.dirs[0]) for it in senders if step.dirs]
         return [it for it in (lane, *lanes) if it < len(self.lanes)]
@@ -215,7 +257,7 @@ class Layout:
         longest = max(width_of(self.label_of(it)) for it in columns)
         row.lanes = top + longest * math.sin(math.radians(SLOPE)) + 14
         row.strip = row.bottom() + 4
-        placed = []
+        placed: list[Label] = []
         for label in sorted(row.labels, key=lambda it: -it.x):
             for level in range(MOST_LEVELS):
                 label.put(level, row.right + OVERHANG - 8)

@@ -24,7 +24,7 @@ def text(octets: bytes) -> str:
     return f'"{octets.decode("ascii")}"' if all(0x20 <= it <= 0x7E for it in octets) else ""
 
 
-def pointer(octets: bytes) -> object:
+def pointer(octets: bytes) -> str:
     """Where a child leads."""
     others = ", ".join(map(str, octets[6 : 5 + octets[4]]))
     return f"directory {int.from_bytes(octets[:4], 'big')} at house {octets[5]}" + (
@@ -32,12 +32,12 @@ def pointer(octets: bytes) -> object:
     )
 
 
-def an_object(octets: bytes) -> object:
+def an_object(octets: bytes) -> str:
     """An object's UUID."""
     return str(uuid.UUID(bytes=octets))
 
 
-def element(octets: bytes) -> object:
+def element(octets: bytes) -> str:
     """An element of a profile."""
     length = int.from_bytes(octets[21:23], "big")
     major, minor = int.from_bytes(octets[17:19], "big"), int.from_bytes(octets[19:21], "big")
@@ -46,7 +46,7 @@ def element(octets: bytes) -> object:
     return f"priority {octets[0]}, {interface}, {member}" + (f', "{note}"' if note else "")
 
 
-def tower(octets: bytes) -> object:
+def tower(octets: bytes) -> str:
     """The interface and the binding of an RPC tower."""
     floors = floors_of(octets)
     if len(floors) != 5:
@@ -57,7 +57,7 @@ def tower(octets: bytes) -> object:
     return f"{protocol}:{address}[{port}], interface {interface}" if protocol and address else ""
 
 
-def floors_of(octets: bytes) -> object:
+def floors_of(octets: bytes) -> list[list[bytes]]:
     """The floors of a tower, each with its left and its right part."""
     floors, at = [], 2
     for _ in range(little(octets[:2])):
@@ -70,6 +70,6 @@ def floors_of(octets: bytes) -> object:
     return floors
 
 
-def little(octets: bytes) -> object:
+def little(octets: bytes) -> int:
     """A little-endian number."""
     return int.from_bytes(octets, "little")

@@ -43,21 +43,13 @@ class Row:
         height: int,
         pieces: list[tuple[str, str]],
         place: tuple[int, str] | None = None,
-        lead: str | None = None,
-        kind: str | None = None,
-        sign: str | None = None,
+        lead: str = "",
+        kind: str = "",
+        sign: str = "",
         title: str = "",
     ) -> None:
-        self.x, self.height, self.pieces, self.place, self.lead, self.kind, self.sign = (
-            x,
-            height,
-            pieces,
-            place,
-            lead,
-            kind,
-            sign,
-        )
-        self.title, self.y = title, 0
+        self.x, self.height, self.pieces, self.place = x, height, pieces, place
+        self.lead, self.kind, self.sign, self.title, self.y = lead, kind, sign, title, 0.0
 
     def end(self) -> float:
         """Where its words end."""
@@ -95,19 +87,19 @@ class Tree:
             row = self.add_entry(directory, name, x)
             self.branches.append((parent, row))
             entry = self.state.entries[directory, name]
-            if entry.kind == "child" and entry.lead not in self.seen:
-                self.seen.add(entry.lead)
-                self.add_directory(entry.lead, x + INDENT, row)
+            if entry.kind == "child" and entry.directory not in self.seen:
+                self.seen.add(entry.directory)
+                self.add_directory(entry.directory, x + INDENT, row)
 
     def add_entry(self, directory: int, name: str, x: int) -> Row:
         """Adds an entry with what it has."""
         entry = self.state.entries[directory, name]
-        pieces, lead, kind = [(short(name, 40), "house ink")], None, None
+        pieces, lead, kind = [(short(name, 40), "house ink")], "", ""
         sign = {"child": "directory", "link": "soft"}.get(entry.kind, "object")
         if entry.kind == "child":
-            pieces += self.about(entry.lead)
+            pieces += self.about(entry.directory)
         elif entry.kind == "link":
-            pieces, lead, kind = [*pieces, (short(entry.lead, LONGEST), "dim")], entry.lead, "link"
+            pieces, lead, kind = [*pieces, (short(entry.target, LONGEST), "dim")], entry.target, "link"
         else:
             has = {"server": entry.towers or entry.objects, "group": entry.members, "profile": entry.elements}
             roles = [it for it, own in has.items() if own]
@@ -119,12 +111,12 @@ class Tree:
         return row
 
 
-def details(entry: Entry) -> Iterator[tuple[str, str | None, str | None]]:
+def details(entry: Entry) -> Iterator[tuple[str, str, str]]:
     """What an entry has, a line each, with the name that it leads to."""
     for interface, binding in entry.towers:
-        yield f"{binding} · interface {brief(interface)}", None, None
+        yield f"{binding} · interface {brief(interface)}", "", ""
     if entry.objects:
-        yield f"objects {some_of([brief(it) for it in entry.objects], ', ')}", None, None
+        yield f"objects {some_of([brief(it) for it in entry.objects], ', ')}", "", ""
     for member in entry.members:
         yield member, member, "member"
     for priority, _, _, _, _, interface, note, member in entry.elements:
@@ -132,7 +124,7 @@ def details(entry: Entry) -> Iterator[tuple[str, str | None, str | None]]:
         yield f"priority {priority} · {about} · {member}" + (f" · {note}" if note else ""), member, "element"
     for attribute, values in sorted(entry.values.items()):
         if values:
-            yield f"{attribute} {some_of([short(it, 16) for it in sorted(values)], ' ')}", None, None
+            yield f"{attribute} {some_of([short(it, 16) for it in sorted(values)], ' ')}", "", ""
 
 
 def some_of(words: list[str], between: str) -> str:
@@ -180,7 +172,7 @@ class Picture:
 
     def draw(self) -> str:
         """The whole picture."""
-        y = 0
+        y = 0.0
         for row in self.tree.rows:
             y += row.height
             row.y = y - row.height / 2
@@ -198,12 +190,13 @@ class Picture:
     def edges(self) -> list[tuple[Row, Row]]:
         """The arrows: from a row to the row of the entry that it names."""
         rows = {row.place: row for row in self.tree.rows if row.place}
-        found = [(row, rows.get(self.state.place_of(row.lead))) for row in self.tree.rows if row.lead]
-        return [(row, target) for row, target in found if target]
+        found = [(row, self.state.place_of(row.lead)) for row in self.tree.rows if row.lead]
+        return [(row, rows[place]) for row, place in found if place in rows]
 
     def tracks(self, edges: list[tuple[Row, Row]]) -> list[int]:
         """A track for each arrow, on which no other one goes by; short ones are nearer."""
-        spans, chosen = [], {}
+        spans: list[list[tuple[float, float]]] = []
+        chosen = {}
         for at in sorted(range(len(edges)), key=lambda it: abs(edges[it][0].y - edges[it][1].y)):
             low, high = sorted((edges[at][0].y, edges[at][1].y))
             track = next(
@@ -249,7 +242,7 @@ class Picture:
 
     def draw_row(self, row: Row) -> None:
         """The sign and the words of a row, and its number in the search."""
-        x = row.x
+        x = float(row.x)
         if row.sign:
             self.used.add(row.sign)
             self.shapes.append(sign(row.sign, x, row.y))
@@ -261,7 +254,7 @@ class Picture:
             self.used.add("order")
             self.shapes.append(ordered(EDGE + 9, row.y, self.numbers[row.place]))
 
-    def heading(self, width: int) -> tuple[str, int]:
+    def heading(self, width: float) -> tuple[str, int]:
         """The heading, what was looked for, and the legend; and how high they are."""
         shapes = [text(EDGE, 24, f"{short(self.name, 60)}: names at line {self.last}", "title ink")]
         y = 43
@@ -277,7 +270,7 @@ class Picture:
         y -= 14
         for group, items in (("entries", SIGNS), ("arrows", {it: words for it, (_, words) in ARROWS.items()})):
             used = [it for it in items.items() if it[0] in self.used]
-            x = EDGE + 70
+            x = EDGE + 70.0
             if used:
                 y += 20
                 shapes.append(text(EDGE, y + 4, group, "ink group"))
@@ -286,7 +279,7 @@ class Picture:
                 x += 34 + width_of(words) * 0.93 + 14
         return "\n".join(shapes), y + 18
 
-    def whole(self, width: int, height: int) -> str:
+    def whole(self, width: float, height: float) -> str:
         """The SVG, with its heading and its legend above the tree."""
         heading, top = self.heading(width)
         w, h = number(width), number(top + height)
@@ -319,7 +312,7 @@ def sample(kind: str, x: float, y: int) -> str:
         return ordered(x + 14, y, 1)
     if kind in SIGNS:
         return sign(kind, x + 8, y)
-    points = [(x, y), (x + 28, y)]
+    points: list[tuple[float, float]] = [(x, y), (x + 28, y)]
     soft = " soft" if kind == "link" else ""
     return (
         f'<g class="{ARROWS[kind][0]}"><path d="M{number(x)} {number(y)}h26"'

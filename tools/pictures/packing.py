@@ -3,6 +3,8 @@ list of words."""
 
 from __future__ import annotations
 
+from collections.abc import Sequence
+
 from . import choice, meanings, searches, skulks
 from .cell import Replay
 from .facts import Message, Step
@@ -36,7 +38,7 @@ class Words:
 class Pack:
     """What the page gets of the steps that are chosen. `ats` are their places in the replay."""
 
-    loads: list[list[int | str | list[int] | None]]
+    loads: list[list[object]]
     load_places: dict[int, int]
 
     def __init__(self, replay: Replay, states: States, steps: list[Step], directory: int | None) -> None:
@@ -44,21 +46,10 @@ class Pack:
         self.ats = [it.at for it in steps]
         self.loads, self.load_places = [], {}
 
-    def all(
-        self,
-    ) -> dict[
-        str,
-        list[
-            int
-            | str
-            | tuple[int, int, int, str]
-            | list[int | str | tuple[int, ...] | list[int | str | list[object]] | None]
-        ]
-        | dict[int, str | int | list[tuple[int, str] | list[int | None]]],
-    ]:
+    def all(self) -> dict[str, object]:
         """All of it. The words come last, since the others make them."""
         replay = self.replay
-        packed = {
+        packed: dict[str, object] = {
             "steps": [self.step(it) for it in self.steps],
             "nodes": replay.nodes,
             "born": replay.born,
@@ -86,7 +77,7 @@ class Pack:
         packed["words"] = self.words.all
         return packed
 
-    def step(self, step: Step) -> list[int | str | tuple[int, ...] | list[str] | None]:
+    def step(self, step: Step) -> list[object]:
         """A step: what the script and the answers say of it."""
         serial = step.message.serial if step.message else None
         label = label_of(step, self.replay)
@@ -95,8 +86,8 @@ class Pack:
             step.at,
             step.line,
             step.command,
-            step.house,
-            step.dirs,
+            step.house or None,
+            [it or None for it in step.dirs],
             step.outcome,
             step.has_changed,
             serial,
@@ -105,17 +96,17 @@ class Pack:
             stop,
         ]
 
-    def message(self, it: Message) -> list[int | str | tuple[int, ...] | None]:
+    def message(self, it: Message) -> list[object]:
         """A message, with the place of what it carries."""
         taken = next((at for at in it.deliveries if self.replay.steps[at].has_changed), None)
         fate = [it.posted, it.deliveries, taken, it.lost]
         return [
             it.serial,
             it.kind,
-            it.sender,
-            it.receiver,
-            it.dir,
-            it.epoch,
+            it.sender or None,
+            it.receiver or None,
+            it.dir or None,
+            it.epoch or None,
             it.stamp,
             *fate,
             self.load(self.states.loads.get(it.serial)),
@@ -132,14 +123,16 @@ class Pack:
             self.loads.append([self.pairs(facts[:MOST_FACTS]), len(facts), load.up_to, load.members, load.floor])
         return at
 
-    def pairs(self, facts: list[tuple[str, str | None]]) -> list[int]:
+    def pairs(self, facts: Sequence[tuple[str, str | None]]) -> list[int]:
         """Facts, as the places of their keys and of what they say, one after the other."""
         return [self.words.place(it) for pair in facts for it in pair]
 
-    def changes(self) -> list[list[list[int | list[list[int | str | None]]]]]:
+    def changes(self) -> list[list[list[object]]]:
         """The changes at each step, before the first of which are all that led there. What lies between two goes to the
         later one."""
-        packed, gathered, chosen = [], [], set(self.ats)
+        packed: list[list[list[object]]] = []
+        gathered: list[list[object]] = []
+        chosen = set(self.ats)
         for at, changes in self.states.changes.items():
             gathered += [self.change(house, it) for house, it in changes.items()]
             if at in chosen or at < self.ats[0]:
@@ -147,7 +140,7 @@ class Pack:
                 gathered = []
         return packed
 
-    def change(self, house: int, change: Change) -> list[int | list[list[int | str | list[int] | None]]]:
+    def change(self, house: int, change: Change) -> list[object]:
         """The changes of a house."""
         directories = [[it, head, self.pairs(facts)] for it, head, facts in change.directories]
         return [house, change.floor, change.size, change.puts, directories]

@@ -31,21 +31,7 @@ def sum_of(text: str) -> str:
     return base64.b64encode(hashlib.sha256(text.encode()).digest()).decode()
 
 
-def as_data(
-    packed: dict[
-        str,
-        str
-        | int
-        | list[
-            int
-            | str
-            | tuple[int, int, int, str]
-            | list[int | str | tuple[int, ...] | list[int | str | list[object]] | None]
-        ]
-        | dict[int, str | int | list[tuple[int, str] | list[int | str | None]]]
-        | None,
-    ]
-) -> str:
+def as_data(packed: dict[str, object]) -> str:
     """Data as a page has them: no word of them ends its element."""
     text = json.dumps(packed, separators=(",", ":"), ensure_ascii=True)
     return text.replace("<", "\\u003c").replace(">", "\\u003e").replace("&", "\\u0026")
@@ -60,19 +46,7 @@ def pack(
     first: int,
     last: int,
     directory: int | None,
-) -> dict[
-    str,
-    str
-    | int
-    | list[
-        int
-        | str
-        | tuple[int, int, int, str]
-        | list[int | str | tuple[int, ...] | list[int | str | list[object]] | None]
-    ]
-    | dict[int, str | int | list[tuple[int, str] | list[int | str | None]]]
-    | None,
-]:
+) -> dict[str, object]:
     """What the page has of a replay."""
     steps = packing.chosen(replay, first, last, directory)
     if len(steps) > MOST_STEPS:
@@ -80,9 +54,9 @@ def pack(
             f"{len(steps)} steps are more than a page's {MOST_STEPS}; choose some with --from, --to and --dir"
         )
     lines = script.decode("ascii").split("\n")[:-1]
-    answers = answers.decode("ascii").split("\n")[:-1]
+    said = answers.decode("ascii").split("\n")[:-1]
     begin, end = steps[0].at, steps[-1].at
-    states = states_.read(program, words, lines, answers, replay, begin, end, directory)
+    states = states_.read(program, words, lines, said, replay, begin, end, directory)
     packed = packing.Pack(replay, states, steps, directory).all()
     packed["lines"] = texts(lines, steps)
     packed["form"], packed["isKept"], packed["dir"] = " ".join(words), states.is_kept, directory
@@ -91,7 +65,7 @@ def pack(
     return packed
 
 
-def texts(lines: list[str], steps: list[Step]) -> list[list[int | str]]:
+def texts(lines: list[str], steps: list[Step]) -> list[tuple[int, str]]:
     """The lines of the script from the first chosen step, with the comments before it, to the last one, by their
     numbers."""
     begin, end = steps[0].line, steps[-1].line
@@ -99,24 +73,12 @@ def texts(lines: list[str], steps: list[Step]) -> list[list[int | str]]:
         begin -= 1
     numbers = {it.line for it in steps}
     return [
-        [at, lines[at - 1]] for at in range(begin, end + 1) if at in numbers or lines[at - 1].lstrip()[:1] in ("", "#")
+        (at, lines[at - 1]) for at in range(begin, end + 1) if at in numbers or lines[at - 1].lstrip()[:1] in ("", "#")
     ]
 
 
 def write(
-    packed: dict[
-        str,
-        str
-        | int
-        | list[
-            int
-            | str
-            | tuple[int, int, int, str]
-            | list[int | str | tuple[int, ...] | list[int | str | list[object]] | None]
-        ]
-        | dict[int, str | int | list[tuple[int, str] | list[int | str | None]]]
-        | None,
-    ],
+    packed: dict[str, object],
     name: str,
 ) -> str:
     """The page."""

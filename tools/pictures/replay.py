@@ -11,6 +11,9 @@ from .facts import Fault, Step, numbers
 from cds.answers import ANSWERS, FAULT, LONG, REASONS, REFUSED, STOPS
 from cds.commands import COMMANDS, LINES, NEED_NO_HOUSE, PLACES, QUESTIONS, SERVICES, STOP, STOPPED
 
+# The number of a line, its command, its groups of words, its text, and the house that is stopped inside it.
+Command = tuple[int, str, tuple[str, ...], str, int | None]
+
 
 def lines_of(source: str, octets: bytes) -> list[str]:
     """The lines of an input, which are all ended and have no octets but those from 20 to 7E."""
@@ -24,7 +27,7 @@ def lines_of(source: str, octets: bytes) -> list[str]:
     return lines
 
 
-def steps_of(script: list[str], first: int = 1) -> Iterator[tuple[int, str, tuple[str, ...], str, int | None] | None]:
+def steps_of(script: list[str], first: int = 1) -> Iterator[Command]:
     """The commands of a script's lines, of which the first has this number, with their groups of words."""
     for number, line in enumerate(script, first):
         front = line.split(None, 1)
@@ -51,7 +54,7 @@ def place(replay: Replay, step: Step) -> None:
     if command in ("deliver", "lose"):
         message = step.message = replay.messages.get(int(words[0]))
         if message:
-            step.house = message.receiver if command == "deliver" else None
+            step.house = message.receiver if command == "deliver" else 0
             step.dirs = (message.dir,)
     elif words[0] == "house":
         step.house = known(replay, words[1])
@@ -65,9 +68,9 @@ def place(replay: Replay, step: Step) -> None:
             step.dirs = (1,)
 
 
-def known(replay: Replay, word: str) -> int | None:
-    """The house of this number, where it was made."""
-    return int(word) if int(word) in replay.nodes else None
+def known(replay: Replay, word: str) -> int:
+    """The house of this number, or 0 where it was not made."""
+    return int(word) if int(word) in replay.nodes else 0
 
 
 def answer(replay: Replay, step: Step, said: str) -> None:
@@ -78,7 +81,7 @@ def answer(replay: Replay, step: Step, said: str) -> None:
     found = ANSWERS[command].fullmatch(said)
     if not found:
         refuse(replay, step, said)
-    elif step.house is None and command not in NEED_NO_HOUSE:
+    elif not step.house and command not in NEED_NO_HOUSE:
         raise replay.fault("its house was not made")
     else:
         step.has_changed = command not in QUESTIONS
@@ -149,7 +152,7 @@ class Reader:
             if stop is not None and said in STOPS:
                 self.replay.stop(step, STOPS[said])
             elif command in LONG and not said.startswith("refused"):
-                if step.house is None:
+                if not step.house:
                     raise self.replay.fault("its house was not made")
                 long_answer(self.replay, step, said, self.answers)
             else:

@@ -3,6 +3,7 @@
 from __future__ import annotations
 
 import bisect
+from collections.abc import Sequence
 
 from .shapes import width_of
 
@@ -24,12 +25,15 @@ MOST_LEVELS = 8
 class Label:
     """A label below the houses: where its line comes down, its words, and the place that was found for it."""
 
-    level, begin = 0, 0
+    level: int = 0
+    begin: float = 0
+    end: float
+    is_left: bool
 
     def __init__(self, x: float, words: str, title: str) -> None:
         self.x, self.words, self.title, self.width = x, words, title, width_of(words)
 
-    def put(self, level: int, right: int) -> None:
+    def put(self, level: int, right: float) -> None:
         """Puts it at a level, to the right of its line, or to the left of it where it would come out of the picture."""
         self.level, self.is_left = level, self.x + 5 + self.width > right
         self.begin = self.x - 5 - self.width if self.is_left else self.x + 5
@@ -52,20 +56,17 @@ class Row:
     tops: dict[int, float]
     labels: list[Label]
     marks: dict[int | None, list[float]]
+    right: float
+    height: float
+    strip: float
+    lanes: float
 
     def __init__(self, first: int, left: int) -> None:
-        self.first, self.end, self.xs, self.left, self.right, self.tops, self.height = (
-            first,
-            first,
-            [],
-            left,
-            left,
-            {},
-            0,
-        )
-        self.labels, self.marks, self.strip, self.lanes, self.lane = [], {}, 0, 0, LANE
+        self.first, self.end, self.left, self.right = first, first, left, left
+        self.xs, self.tops, self.labels, self.marks = [], {}, [], {}
+        self.height, self.strip, self.lanes, self.lane = 0, 0, 0, LANE
 
-    def lay(self, lanes: list[tuple[int, int | None]], shown: range) -> None:
+    def lay(self, lanes: list[tuple[int, int]], shown: Sequence[int]) -> None:
         """Gives the lines that are shown their heights, and last the one of no house. Many lines are nearer to each
         other."""
         is_many = len(shown) > MANY_LANES
@@ -95,6 +96,6 @@ class Row:
 
     def is_free(self, lane: int, x: float, margin: float) -> bool:
         """Whether no mark of the line is so near."""
-        marks = self.marks.get(lane, ())
+        marks = self.marks.get(lane, [])
         at = bisect.bisect(marks, x - margin)
         return at == len(marks) or marks[at] > x + margin

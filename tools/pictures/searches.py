@@ -2,6 +2,8 @@
 
 from __future__ import annotations
 
+from collections.abc import Iterator
+
 from .cell import Replay
 from .entries import State
 from .facts import Step
@@ -22,7 +24,7 @@ def searches(replay: Replay, steps: list[Step]) -> dict[int, list[tuple[int, str
     return found
 
 
-def take_up_to(state: State, waiting: list_iterator, last: Step) -> None:
+def take_up_to(state: State, waiting: Iterator[Step], last: Step) -> None:
     """Takes the steps before this one."""
     for step in waiting:
         if step is last:

@@ -161,8 +161,7 @@ def head(points: list[tuple[float, float]], is_hollow: bool) -> str:
 
 def cross(x: float, y: float) -> str:
     """The cross where a message is lost."""
-    x, y = number(x), number(y)
-    return f'<path d="M{x} {y}m-4.5-4.5l9 9m0-9l-9 9" class="cross"/>'
+    return f'<path d="M{number(x)} {number(y)}m-4.5-4.5l9 9m0-9l-9 9" class="cross"/>'
 
 
 def dots(begin: tuple[float, float], end: tuple[float, float]) -> str:

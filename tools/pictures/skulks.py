@@ -6,7 +6,7 @@ from .cell import Replay
 from .facts import Skulk, Step
 
 
-def answered(replay: Replay) -> list[list[list[int]]]:
+def answered(replay: Replay) -> list[list[tuple[int, int, bool]]]:
     """For each skulk the steps at which its house took an answer, with the member that gave it and whether the round
     ended then."""
     found = []
@@ -16,7 +16,7 @@ def answered(replay: Replay) -> list[list[list[int]]]:
     return found
 
 
-def answer(step: Step, skulk: Skulk) -> list[int] | None:
+def answer(step: Step, skulk: Skulk) -> tuple[int, int, bool] | None:
     """What a step says of a skulk: its place, who answered, and whether the next round began; or None."""
     message = step.message
     if (
@@ -28,4 +28,4 @@ def answer(step: Step, skulk: Skulk) -> list[int] | None:
         return None
     if (message.receiver, message.dir, message.stamp) != (skulk.house, skulk.dir, skulk.stamp):
         return None
-    return [step.at, message.sender, message.kind == "Gathered" and " posted " in step.answer]
+    return step.at, message.sender, message.kind == "Gathered" and " posted " in step.answer

@@ -2,7 +2,7 @@
 
 from __future__ import annotations
 
-from cds import octets
+from cds.octets import Image, Load, Replica
 
 from . import asking
 from .cell import Replay
@@ -23,14 +23,14 @@ class House:
         """Takes the octets of its image, and returns what is new: the floor, and the changes of each directory."""
         if found == self.octets:
             return None
-        image = octets.Image(found)
+        image = Image(found)
         replicas = {it: own for it, own in image.replicas.items() if directory in (None, it)}
         changes = [(it, *self.change(it, replicas.get(it))) for it in sorted({*self.heads, *replicas})]
         self.puts += 1
         self.octets, self.floor, self.size = found, image.floor, image.size
         return Change(self, [it for it in changes if it[1] is not None or it[2]])
 
-    def change(self, directory: int, replica: octets.Replica) -> tuple[str | None, list[tuple[str, str | None]]]:
+    def change(self, directory: int, replica: Replica | None) -> tuple[str | None, list[tuple[str, str | None]]]:
         """The new head of a directory, or None where it is the old one, and the facts that changed; None is one that is
         gone."""
         head, facts = (replica.head(), replica.facts) if replica else ("", {})
@@ -64,18 +64,18 @@ class States:
 
     def __init__(self, replay: Replay, asked: asking.Asked, first: int, last: int, directory: int | None) -> None:
         self.houses, self.changes, self.is_whole = {}, {}, True
-        by_step = {}
+        by_step: dict[int, list[tuple[int, bytes]]] = {}
         for (at, house), found in asked.images.items():
             by_step.setdefault(at, []).append((house, found))
         for at in range(first - 1, last + 1):
-            self.changes[at] = self.take(by_step.get(at, ()), directory)
+            self.changes[at] = self.take(by_step.get(at, []), directory)
         due = asking.houses_of(replay.steps[last], replay)
         self.is_whole = due is None or all(house in due or not it for house, it in self.changes[last].items())
         self.is_kept = all(asked.images[place] == it for place, it in asked.journals.items())
-        carried = {serial: octets.Load(it) for serial, it in asked.loads.items()}
+        carried = {serial: Load(it) for serial, it in asked.loads.items()}
         self.loads = {serial: carried[it] for serial, it in asking.leaders(replay).items() if it in carried}
 
-    def take(self, images: tuple[object, ...] | list[tuple[int, bytes]], directory: int | None) -> dict[int, Change]:
+    def take(self, images: list[tuple[int, bytes]], directory: int | None) -> dict[int, Change]:
         """Takes the images of houses after a step, and returns the changes of those that are others than before."""
         changes = {}
         for house, found in images:

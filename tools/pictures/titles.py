@@ -26,7 +26,7 @@ def told(step: Step) -> list[str]:
 
 def name_of(message: Message) -> str:
     """A message in a hover text."""
-    if message.sender is None:
+    if not message.sender:
         return f"message {message.serial}: {message.kind}; the script does not tell from which house"
     stamp = f" of the skulk {message.stamp}" if message.stamp else ""
     way = f"from house {message.sender} to house {message.receiver}"
