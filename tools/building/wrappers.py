@@ -21,6 +21,8 @@ from collections.abc import Callable
 from building.sources import MEANT, PARTS, PROGRAMS, ROOT
 
 SECONDS = 60
+# Tries something in a room, which is a folder that is not there yet, and returns what differs.
+Call = Callable[[str, str], str | None]
 # The processor time that a wrapper may take, in seconds, with its program, which takes next to none here.
 QUICK = 0.02
 # Ends as the first word of its input says, after it wrote the others; or waits for a signal, and says which one came.
@@ -254,7 +256,7 @@ class Wrapped:
         self.name, self.wrapper = f"./{os.path.basename(wrapper)} {' '.join(words)}", wrapper
         self.words, self.is_form = words, is_form
 
-    def fault(self, _: str) -> None:
+    def fault(self, _: str) -> str | None:
         """Returns what differs, or None."""
         ran = subprocess.run([self.wrapper, *self.words], input=b"", capture_output=True, timeout=SECONDS)
         is_told = b"usage:" in ran.stderr
@@ -266,7 +268,7 @@ class Wrapped:
 class Tried:
     """A case of the wrappers that a function tries in a new folder. It returns what differs, or None."""
 
-    def __init__(self, name: str, room: str, call: Callable[..., object]) -> None:
+    def __init__(self, name: str, room: str, call: Call) -> None:
         self.name, self.room, self.call = f"wrapper, {name}", room, call
 
     def fault(self, program: str) -> str | None:
@@ -275,10 +277,10 @@ class Tried:
         return self.call(self.room, program)
 
 
-def of_table(line: str, status: int, output: str, errors: str) -> Callable[..., object]:
+def of_table(line: str, status: int, output: str, errors: str) -> Call:
     """Returns the call for a row of the table."""
 
-    def call(room: str, _: str) -> None:
+    def call(room: str, _: str) -> str | None:
         copy_with_stub(room)
         ran = subprocess.run(
             ["sh", "-c", line], cwd=room, stdin=subprocess.DEVNULL, capture_output=True, text=True, timeout=SECONDS
@@ -289,19 +291,22 @@ def of_table(line: str, status: int, output: str, errors: str) -> Callable[..., 
     return call
 
 
-def signalled(number: signal.Signals) -> Callable[..., object]:
+def signalled(number: signal.Signals) -> Call:
     """Returns the call for a signal to the wrapper: the program gets one, and the wrapper ends by that which it got."""
 
-    def call(room: str, _: str) -> None:
+    def call(room: str, _: str) -> str | None:
         copy_with_stub(room)
         # (whoever is run beside a shell ignores an interrupt, or with nohup the end of a terminal, and so would all
         # that it starts)
-        how = {
-            "stdin": subprocess.PIPE,
-            "stdout": subprocess.PIPE,
-            "preexec_fn": lambda: signal.signal(number, signal.SIG_DFL),
-        }
-        with subprocess.Popen(["./cdsreplay", "run"], cwd=room, text=True, **how) as ran:
+        with subprocess.Popen(
+            ["./cdsreplay", "run"],
+            cwd=room,
+            text=True,
+            stdin=subprocess.PIPE,
+            stdout=subprocess.PIPE,
+            preexec_fn=lambda: signal.signal(number, signal.SIG_DFL),
+        ) as ran:
+            assert ran.stdin and ran.stdout
             ran.stdin.write("wait\n")
             ran.stdin.flush()
             begun = ran.stdout.readline()
@@ -313,13 +318,13 @@ def signalled(number: signal.Signals) -> Callable[..., object]:
     return call
 
 
-def quick(room: str, _: str) -> None:
+def quick(room: str, _: str) -> str | None:
     """The least processor time of ten runs, where all is built: in a repository with the sources of this one."""
     copy_with_stub(room)
     copy_sources(f"{room}/crates", MEANT)
     note_stubs(room)
     took = []
-    for _ in range(10):
+    for _ in [room] * 10:
         before = resource.getrusage(resource.RUSAGE_CHILDREN)
         subprocess.run(["./cdsreplay", "run"], cwd=room, input=b"0\n", timeout=SECONDS)
         after = resource.getrusage(resource.RUSAGE_CHILDREN)
@@ -350,7 +355,7 @@ def without_rt() -> dict[str, str]:
     return {**os.environ, "PATH": ":".join(folders), "PYTHONDONTWRITEBYTECODE": "1"}
 
 
-def handed_over(room: str, _: str) -> None:
+def handed_over(room: str, _: str) -> str | None:
     """A program that was noted in one clone answers in another, without rt, once the files that docs/CHANGING.md names
     are copied there."""
     one, other = f"{room}/one", f"{room}/other"
@@ -380,15 +385,30 @@ def handed_over(room: str, _: str) -> None:
     return None if ran.stdout.endswith("; proved\n") and not ran.returncode else f"its version is {ran.stdout!r}"
 
 
-def is_run(words: list[str], how: dict[str, int | dict[str, str] | list[object]]) -> bool:
-    """Whether a command can be run."""
+def ran_by_nobody(words: list[str], folder: str, text: str = "") -> tuple[int, str, str]:
+    """The status, the output and the standard error of a command that another user runs, if this is root."""
+    user = 65534 if os.geteuid() == 0 else None
+    groups: list[int] | None = [] if user else None
     try:
-        return subprocess.run(words, check=False, **how).returncode == 0
-    except OSError:
-        return False
+        ran = subprocess.run(
+            words,
+            cwd=folder,
+            input=text,
+            capture_output=True,
+            text=True,
+            check=False,
+            env=without_rt(),
+            timeout=SECONDS,
+            user=user,
+            group=user,
+            extra_groups=groups,
+        )
+    except OSError as error:
+        return 1, "", str(error)
+    return ran.returncode, ran.stdout, ran.stderr
 
 
-def of_another_user(room: str, _: str) -> str:
+def of_another_user(room: str, _: str) -> str | None:
     """A program that was noted in the clone of another user answers there, also if a source was written again, as it
     is."""
     clone = f"{room}/clone"
@@ -400,43 +420,48 @@ def of_another_user(room: str, _: str) -> str:
         " sources.ROOT)"
     )
     subprocess.run([sys.executable, "-c", noting, f"{clone}/tools"], check=True, env=without_rt(), timeout=SECONDS)
-    for at, _, _ in os.walk(clone):
+    for at in [it[0] for it in os.walk(clone)]:
         os.chmod(at, 0o555)
-    nobody = {"user": 65534, "group": 65534, "extra_groups": []} if os.geteuid() == 0 else {}
     for at in (os.path.dirname(room), room):
         os.chmod(at, 0o755)
-    found, how = [], {"capture_output": True, "text": True, "env": without_rt(), "timeout": SECONDS, **nobody}
+    found = []
     # (where Python is in a folder of root's, nobody else can run it)
-    has_python = is_run(["python3", "-c", ""], how)
-    for _ in range(1 + has_python):
-        ran = subprocess.run(["./cdsreplay", "run"], cwd=clone, input="0 1 ok\n", **how)
-        found.append((ran.returncode, ran.stdout, ran.stderr))
+    has_python = ran_by_nobody(["python3", "-c", ""], clone)[0] == 0
+    for _ in [clone] * (1 + has_python):
+        found.append(ran_by_nobody(["./cdsreplay", "run"], clone, "0 1 ok\n"))
         os.utime(f"{clone}/crates/cds_base/src/lib.rt")
-    for at, _, _ in os.walk(clone):
+    for at in [it[0] for it in os.walk(clone)]:
         os.chmod(at, 0o755)
     return None if found == [(0, "1 ok\n", "")] * len(found) else f"it is {found}"
 
 
-def waiting(room: str, _: str) -> None:
+def waiting(room: str, _: str) -> str | None:
     """Whoever waits for another build says which one it is."""
     copy_repository(room)
     with open(f"{room}/out/build.lock", "w", encoding="utf-8") as lock:
         fcntl.flock(lock, fcntl.LOCK_EX)
         print("process 7 (tools/build)", file=lock, flush=True)
         with subprocess.Popen(["tools/build"], cwd=room, stderr=subprocess.PIPE, text=True, env=without_rt()) as ran:
-            found = ran.stderr.readline()
+            found = ran.stderr.readline() if ran.stderr else ""
             ran.send_signal(signal.SIGTERM)
     wanted = "cdsreplay: process 7 (tools/build) builds here; waiting until it ends\n"
     return None if found == wanted else f"it says {found!r}"
 
 
-def cases(runs: list[tuple[str, tuple[str, ...], bool]], folder: str) -> list[Wrapped]:
+def cases(runs: list[tuple[str, tuple[str, ...], bool]], folder: str) -> list[Wrapped | Tried]:
     """Returns the cases of the wrappers: with the words of all these runs (a program's name, its words, and whether
     they are of a form), and those of this file."""
     copy_wrappers(f"{folder}/words", NOTHING)
-    found = [Wrapped(f"{folder}/words/{name}", list(words), is_form) for name, words, is_form in sorted(runs)]
-    for number, (name, *row) in enumerate(TABLE):
-        found.append(Tried(name, f"{folder}/{number}", of_table(*row)))
-    more = {"quick": quick, "handed over": handed_over, "another user": of_another_user, "waiting": waiting}
+    found: list[Wrapped | Tried] = [
+        Wrapped(f"{folder}/words/{name}", list(words), is_form) for name, words, is_form in sorted(runs)
+    ]
+    for number, (name, line, status, output, errors) in enumerate(TABLE):
+        found.append(Tried(name, f"{folder}/{number}", of_table(line, status, output, errors)))
+    more: dict[str, Call] = {
+        "quick": quick,
+        "handed over": handed_over,
+        "another user": of_another_user,
+        "waiting": waiting,
+    }
     more |= {it.name: signalled(it) for it in (signal.SIGTERM, signal.SIGINT, signal.SIGHUP)}
     return [*found, *(Tried(name, f"{folder}/{name}", call) for name, call in more.items())]

@@ -6,8 +6,6 @@ import os
 import re
 from collections.abc import Iterator
 
-from pictures.facts import Message
-from pictures.rows import Label
 from running.case_files import of_hex
 from running.runs import ROOT, Mending, Run, open_octets, status_of
 
@@ -20,13 +18,13 @@ class Excerpt:
     def __init__(self, name: str, file: str, pairs: list[tuple[str, str]]) -> None:
         self.name, self.file, self.pairs = name, file, pairs
 
-    def fault(self, _: str) -> None:
+    def fault(self, _: str) -> str | None:
         """Returns what differs, or None."""
         script, answers = (
             open_octets(f"{ROOT}/{self.file}").decode(),
             open_octets(f"{ROOT}/{self.file[:-4]}.out").decode(),
         )
-        said = {}
+        said: dict[int, str] = {}
         for line in answers.splitlines(keepends=True):
             number = int(line.split()[0])
             said[number] = said.get(number, "") + line
@@ -125,7 +123,7 @@ class Document:
         script, answers = "".join(f"{line}\n" for line, _ in pairs), "".join(answers for _, answers in pairs).encode()
         return Run(self.place(at), names[1:] or ["run"], script.encode(), answers, status_of(answers))
 
-    def is_next(self, line: int | str, other: Label | Message | tuple[float, float]) -> object:
+    def is_next(self, line: int, other: int) -> bool:
         """Whether no table is between these lines."""
         return not any(line <= at < other for at, _, _ in self.tables)
 
@@ -159,7 +157,7 @@ class Document:
             elif head == ["octets", "output"]:
                 yield from self.of_towers(at, rows)
             elif head[0] == "octets" and head[1].startswith("output of "):
-                yield from self.of_octets(at, code(head[1][len("output of ") :])[0].split(), rows)
+                yield from self.of_octets(at, (code(head[1][len("output of ") :]) or [""])[0].split(), rows)
             elif head == ["lines", "octets, and the status"]:
                 yield from self.of_texts(at, rows)
 
@@ -181,29 +179,29 @@ class Document:
                 f"{self.place(at)}, `{line}`",
                 (form or ["run"])[0].split(),
                 f"{line}\n".encode(),
-                f"{fault[0]}\n".encode(),
+                f"{fault[0]}\n".encode() if fault else b"",
                 3,
             )
 
     def of_checks(self, at: int, rows: list[list[str]]) -> Iterator[Run]:
         """Returns what `check` makes of scripts: of a file of examples/, or of lines."""
         for script, output in rows:
-            lines, output = code(script), f"{output.strip('`')}\n".encode()
+            lines, said = code(script), f"{output.strip('`')}\n".encode()
             if lines and lines[0].startswith("examples/"):
                 yield Run(
                     f"{self.place(at)}, {script}",
                     ["check"],
                     open_octets(f"{ROOT}/{lines[0]}"),
-                    output,
-                    status_of(output),
+                    said,
+                    status_of(said),
                 )
             elif lines or script == "nothing":
                 text = "".join(f"{line}\n" for line in lines or [])
-                yield Run(f"{self.place(at)}, {script}", ["check"], text.encode(), output, status_of(output))
+                yield Run(f"{self.place(at)}, {script}", ["check"], text.encode(), said, status_of(said))
 
     def of_towers(self, at: int, rows: list[list[str]]) -> Iterator[Run]:
-        for octets, output in rows:
-            octets, output = code(octets), code(output.replace("then", ""))
+        for one, other in rows:
+            octets, output = code(one), code(other.replace("then", ""))
             if octets and output:
                 text = "".join(f"{line}\n" for line in output).encode()
                 yield Run(
@@ -211,25 +209,25 @@ class Document:
                 )
 
     def of_octets(self, at: int, words: list[str], rows: list[list[str]]) -> Iterator[Run]:
-        for octets, output in rows:
-            octets, output = code(octets) if octets != "nothing" else [""], code(output)
+        for one, other in rows:
+            octets, output = code(one) if one != "nothing" else [""], code(other)
             if octets and output:
                 text = f"{output[0]}\n".encode()
                 yield Run(f"{self.place(at)}, `{octets[0]}`", words, of_hex(" ".join(octets)), text, status_of(text))
 
     def of_texts(self, at: int, rows: list[list[str]]) -> Iterator[Run]:
-        for lines, output in rows:
-            lines, (output, _, status) = code(lines), output.rpartition(",")
-            if lines and code(output):
+        for one, other in rows:
+            lines, (octets, _, status) = code(one), other.rpartition(",")
+            output = code(octets)
+            if lines and output:
                 text = "".join(f"{line}\n" for line in lines).encode()
-                yield Run(
-                    f"{self.place(at)}, `{lines[0]}`", ["untowers"], text, of_hex(" ".join(code(output))), int(status)
-                )
+                yield Run(f"{self.place(at)}, `{lines[0]}`", ["untowers"], text, of_hex(" ".join(output)), int(status))
 
 
-def of_documents() -> tuple[list[tuple[str, Run | Excerpt]], list[object]]:
+def of_documents() -> tuple[list[tuple[str, Run | Excerpt]], list[str]]:
     """Returns the examples of all documents, each with its document's name, and which documents have none."""
-    runs, faults = [], []
+    runs: list[tuple[str, Run | Excerpt]] = []
+    faults: list[str] = []
     for path in DOCUMENTS:
         document = Document(path)
         found = list(document.runs())

@@ -4,7 +4,6 @@ from __future__ import annotations
 
 import functools
 import importlib.machinery
-import importlib.util
 import io
 import os
 import re
@@ -23,7 +22,7 @@ PICTURE_CASES = f"{ROOT}/tools/pictures/cases"
 def picture_tool() -> ModuleType:
     """Returns tools/picture as a module, which is faster than a process for each run."""
     loader = importlib.machinery.SourceFileLoader("picture", PICTURE)
-    module = importlib.util.module_from_spec(importlib.util.spec_from_loader("picture", loader))
+    module = ModuleType("picture")
     loader.exec_module(module)
     return module
 
@@ -32,16 +31,10 @@ class Drawing:
     """A run of tools/picture over a script and answers, and what its picture has, or what it says instead."""
 
     def __init__(self, name: str, words: list[str], script: bytes, answers: bytes, said: bytes, status: int) -> None:
-        self.name, self.words, self.script, self.answers, self.said, self.status = (
-            name,
-            words,
-            script,
-            answers,
-            said,
-            status,
-        )
+        self.name, self.words, self.script, self.answers = name, words, script, answers
+        self.said, self.status = said, status
 
-    def fault(self, program: str) -> None:
+    def fault(self, program: str) -> str | None:
         """Returns what differs, or None. A page is made with the program."""
         picture, streams = picture_tool(), [io.BytesIO(it) for it in (self.script, b"")]
         errors, asked = io.StringIO(), ["--program", program] if "--page" in self.words else []
@@ -70,7 +63,7 @@ class Example:
         self.name = f"examples/{name}.svg"
         self.script, self.picture = f"{ROOT}/examples/{name}.cds", f"{ROOT}/examples/{name}.svg"
 
-    def fault(self, program: str) -> None:
+    def fault(self, program: str) -> str | None:
         """Returns what differs, or None."""
         octets = [open_octets(it) for it in (self.script, self.picture)]
         answers = subprocess.run(
@@ -103,14 +96,14 @@ def drawings(path: str) -> list[Drawing]:
     for at in range(0, len(parts), 6):
         head, script, middle, answers, status, said = parts[at : at + 6]
         words, _, name = head.partition(" : ")
-        words, script = cut_of(words.split(), script)
-        _, answers = cut_of(middle.split(), answers)
+        taken, octets = cut_of(words.split(), script)
+        _, answered = cut_of(middle.split(), answers)
         name = f"{os.path.basename(path)}, run {at // 6 + 1}" + (f", {name}" if name else "")
-        runs.append(Drawing(name, words, script, answers, said.encode(), int(status)))
+        runs.append(Drawing(name, taken, octets, answered, said.encode(), int(status)))
     return runs
 
 
-def pictures() -> tuple[list[Drawing], list[object]]:
+def pictures() -> tuple[list[Drawing | Example], list[str]]:
     """Returns the runs of tools/picture and the pictures of the examples, and what is wrong with the files."""
     names = {it[:-4] for it in os.listdir(f"{ROOT}/examples") if it.endswith(".svg")}
     many = {

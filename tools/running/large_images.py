@@ -3,9 +3,10 @@
 from __future__ import annotations
 
 import random
-from collections.abc import Iterator
+from collections.abc import Iterator, Mapping
 
 from cds import records
+from cds.records import Entries
 from running.runs import Run
 
 NODES = "00000000000a", "00000000000b"
@@ -13,15 +14,18 @@ DIRECTORIES, ENTRIES, ATTRIBUTES, VALUES = 20, 12, 2, 2
 # The AllUpTo of directory D is of this time, and all that it holds is earlier.
 UPTO = 1_000_000
 
+Directories = Mapping[int, Entries]
+
 
 def name_of(entry: int) -> bytes:
     """Returns a name of 254 octets; these differ at their end, and ascend."""
     return b"n" * 250 + f"{entry:04}".encode()
 
 
-def entries_of(directory: int) -> dict[bytes, tuple[int, bytes, dict[bytes, dict[bytes, tuple[int, bytes]]]]]:
+def entries_of(directory: int) -> Entries:
     """Returns the entries of a directory, as `records.directory` takes them."""
-    chance, found = random.Random(directory), {}
+    chance = random.Random(directory)
+    found: dict[bytes, tuple[int, bytes, records.Attributes]] = {}
     for i in range(ENTRIES):
         birth = 1000 * directory + 10 * i + 1
         values = (
@@ -32,9 +36,7 @@ def entries_of(directory: int) -> dict[bytes, tuple[int, bytes, dict[bytes, dict
     return found
 
 
-def image_of(
-    layout: int, house: int, directories: dict[int, dict[bytes, tuple[int, bytes, dict[bytes, dict[bytes, object]]]]]
-) -> bytes:
+def image_of(layout: int, house: int, directories: Directories) -> bytes:
     """Returns the image of house 1 or 2, which holds each of these directories with the other one."""
     members = [(1, 1, records.MASTER), (2, 1, records.READ_ONLY)]
     held = [
@@ -45,16 +47,16 @@ def image_of(
 
 
 def without(
-    directories: dict[int, dict[bytes, tuple[int, bytes, dict[bytes, dict[bytes, object]]]]],
+    directories: Directories,
     number: int,
     entry: int,
-    attribute: bytes | None = None,
-) -> tuple[dict[int, dict[bytes, tuple[int, bytes, dict[bytes, object]]]], tuple[bytes, bytes] | None]:
+    attribute: bytes = b"",
+) -> tuple[Directories, tuple[bytes, bytes]]:
     """Returns the directories without this entry, or without the last value of an attribute; and that value with its
-    stamp."""
+    stamp, or nothing."""
     entries = dict(directories[number])
     kind, birth, attributes = entries.pop(name_of(entry))
-    value = None
+    value = b"", b""
     if attribute:
         values = dict(attributes[attribute])
         value = max(values), values.pop(max(values))[1]
@@ -67,7 +69,7 @@ def time_of(stamp: bytes) -> str:
     return f"{int.from_bytes(stamp[:8], 'big')}@{stamp[8:].hex()}"
 
 
-def audits(directories: dict[int, dict[bytes, tuple[int, bytes, dict[bytes, dict[bytes, object]]]]]) -> Iterator[Run]:
+def audits(directories: Directories) -> Iterator[Run]:
     """Returns runs of `audit D` over two such images: they agree, or the one lacks what the other one has."""
     births, _ = without(directories, 7, 3)
     values, (value, at) = without(directories, DIRECTORIES, ENTRIES - 1, b"Other")

@@ -23,10 +23,13 @@ def run_of(name: str, words: list[str], house: LoneHouse) -> Run:
 class Clerk:
     """A clerk, as the page says: it keeps so many answers, and of these the one that was not used for longest goes."""
 
+    # (the names that are there, by the word "there", and the values of attributes)
+    kept: OrderedDict[tuple[int | str, ...], str]
+
     def __init__(self, room: int) -> None:
         self.room, self.kept = room, OrderedDict()
 
-    def ask(self, query: tuple[int | str, ...], fresh: bool | str) -> bool | str:
+    def ask(self, query: tuple[int | str, ...], fresh: str) -> str:
         """Returns the answer that is kept, or the one that is given now and kept from now on."""
         if query not in self.kept and len(self.kept) == self.room:
             self.kept.popitem(last=False)
@@ -36,7 +39,7 @@ class Clerk:
 
     def read(self, house: LoneHouse, asking: int, name: str, attribute: str) -> str:
         """Returns what a read at low confidence is answered."""
-        if not self.ask((asking, name), name.encode() in house.directories[1]):
+        if not self.ask((asking, name), "there" if name.encode() in house.directories[1] else ""):
             return "refused NoSuchName 0"
         return self.ask((asking, name, attribute), house.values(name, attribute))
 

@@ -14,6 +14,7 @@ class LoneHouse:
 
     lines: list[str]
     answers: list[str]
+    directories: dict[int, dict[bytes, tuple[int, bytes, dict[bytes, dict[bytes, tuple[int, bytes]]]]]]
 
     def __init__(self) -> None:
         self.lines, self.answers, self.time = [], [], 0

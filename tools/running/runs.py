@@ -6,9 +6,7 @@ import os
 import re
 import resource
 import subprocess
-
-from running.documents import Excerpt
-from running.drawn import Drawing, Example
+from collections.abc import Callable
 
 ROOT = os.path.dirname(os.path.dirname(os.path.dirname(os.path.realpath(__file__))))
 SECONDS = 60
@@ -27,14 +25,12 @@ def open_octets(path: str) -> bytes:
         return it.read()
 
 
-def short(line: int | str) -> object:
+def short(line: bytes | None) -> str:
     """Returns a line as it is printed, with its first octets if it is long."""
     return "nothing" if line is None else repr(line[:100])[1:] + (f".. ({len(line)} octets)" if len(line) > 100 else "")
 
 
-def difference(
-    wanted: str | list[str], found: bytes | tuple[tuple[int, int, tuple[object, ...]], str] | list[tuple[str, int, int]]
-) -> object:
+def difference(wanted: bytes, found: bytes) -> str:
     """Returns the first lines that differ."""
     a, b = wanted.split(b"\n"), found.split(b"\n")
     for at in range(max(len(a), len(b))):
@@ -65,16 +61,16 @@ class Run:
         self.name, self.words, self.octets, self.output, self.status = name, words, octets, output, status
         self.folder, self.full = folder, full
 
-    def ended(self, program: str, prepare: None = None) -> tuple[int, bytes, bytes]:
+    def ended(self, program: str, prepare: Callable[[], None] | None = None) -> tuple[int | None, bytes, bytes]:
         """Runs the program, and returns its status, what it wrote, and its standard error; None for the status if it
         did not end.
 
         Its process calls `prepare` before the program begins."""
         source = os.open(ROOT, os.O_RDONLY) if self.folder else subprocess.PIPE
         sink = os.open("/dev/full", os.O_WRONLY) if self.full else subprocess.PIPE
-        how = {"stdin": source, "stdout": sink, "stderr": subprocess.PIPE, "preexec_fn": prepare}
+        words = [program, *self.words]
         try:
-            with subprocess.Popen([program, *self.words], **how) as ran:
+            with subprocess.Popen(words, stdin=source, stdout=sink, stderr=subprocess.PIPE, preexec_fn=prepare) as ran:
                 try:
                     output, errors = ran.communicate(None if self.folder else self.octets, timeout=SECONDS)
                 except subprocess.TimeoutExpired:
@@ -86,7 +82,7 @@ class Run:
                     os.close(it)
         return ran.returncode, output or b"", errors
 
-    def fault(self, program: str) -> None:
+    def fault(self, program: str) -> str | None:
         """Returns what differs, or None."""
         status, output, errors = self.ended(program)
         if status is None:
@@ -115,7 +111,7 @@ class Mending(Run):
     # (the path of the program, which tools/cases sets)
     mender = ""
 
-    def fault(self, program: str) -> None:
+    def fault(self, program: str) -> str | None:
         """Returns what differs, or None."""
         fault = super().fault(self.mender)
         if fault or self.status or self.output.startswith(b"refused "):
@@ -134,7 +130,7 @@ class Limited(Run):
 
     room = 2**20
 
-    def ended(self, program: str, prepare: object = None) -> object:
+    def ended(self, program: str, prepare: Callable[[], None] | None = None) -> tuple[int | None, bytes, bytes]:
         """Runs the program with so much memory."""
         return super().ended(program, lambda: resource.setrlimit(resource.RLIMIT_DATA, (self.room, self.room)))
 
@@ -145,7 +141,7 @@ class Starved(Limited):
 
     room = 24 * 2**20
 
-    def fault(self, program: str) -> object:
+    def fault(self, program: str) -> str | None:
         """Returns what differs, or None."""
         status, output, errors = self.ended(program)
         if status != NO_MEMORY or errors:
@@ -164,6 +160,6 @@ class Starved(Limited):
 class StarvedMending(Starved):
     """The same of `cdsmend`."""
 
-    def fault(self, program: str) -> object:
+    def fault(self, program: str) -> str | None:
         """Returns what differs, or None."""
         return super().fault(Mending.mender)

@@ -8,8 +8,9 @@ import subprocess
 import textwrap
 from collections.abc import Callable
 
+from building.sources import ROOT
 from cds.commands import COMMANDS, FORMS
-from pictures import replay as replays
+from pictures import facts
 from speaking import desk, language, pages, program, show, texts, tokens, writing
 
 OWN = {
@@ -31,7 +32,7 @@ OWN = {
 class Console:
     """A console over a cell. `say` prints a line."""
 
-    def __init__(self, asked: program.Program, say: Callable[..., object], width: int = 100) -> None:
+    def __init__(self, asked: program.Program, say: Callable[[str], object], width: int = 100) -> None:
         self.cell, self.say, self.width = desk.Desk(asked), say, width
         self.saved, self.is_warned, self.is_over = 0, False, False
 
@@ -52,7 +53,7 @@ class Console:
         """Takes a line that was typed. Nothing that was there is lost, whatever it says."""
         words = line.split()
         self.is_warned = self.is_warned and words[:1] in (["quit"], ["exit"])
-        own = {
+        own: dict[str, Callable[[list[str]], None]] = {
             "?": self.help, "help": self.help, "undo": self.undo, "show": self.show, "messages": self.messages,
             "script": self.script, "picture": self.picture, "save": self.save, "load": self.load, "quit": self.quit,
             "exit": self.quit,
@@ -66,7 +67,7 @@ class Console:
                 self.do(line)
         except (tokens.Fault, program.Failed) as fault:
             self.say(str(fault))
-        except replays.Fault as fault:
+        except facts.Fault as fault:
             self.say(f"The answers are not understood: {fault}")
         except OSError as error:
             self.say(f"{error.filename}: {error.strerror}")
@@ -107,8 +108,8 @@ class Console:
             return
         command = tokens.command_of(words[0])
         if command not in COMMANDS:
-            known = next((f"{name}: {what}" for name, what in OWN.items() if name.split()[0] == words[0]), None)
-            self.say(known or f"There is no command `{words[0]}`. `help` lists all.")
+            meant = next((f"{name}: {what}" for name, what in OWN.items() if name.split()[0] == words[0]), "")
+            self.say(meant or f"There is no command `{words[0]}`. `help` lists all.")
             return
         self.say(f"{language.pattern(command)}: {pages.commands().get(command, '')}")
         for kind in dict.fromkeys(COMMANDS[command].split()):
@@ -117,7 +118,7 @@ class Console:
         for line in textwrap.wrap(pages.paragraph(command), self.width):
             self.say(line)
 
-    def undo(self, _: list[str | int]) -> None:
+    def undo(self, _: list[str]) -> None:
         """Takes the last line back."""
         line = self.cell.undo()
         self.say(f"taken back: {line}" if line else "There is nothing to take back.")
@@ -127,17 +128,17 @@ class Console:
         for line in show.table(self.cell, int(self.cell.names.directory(words[0])) if words else 1, self.width):
             self.say(line)
 
-    def messages(self, _: list[str | int]) -> None:
+    def messages(self, _: list[str]) -> None:
         """Says which messages are under way."""
         for line in show.messages(self.cell):
             self.say(line)
 
-    def script(self, _: list[str | int]) -> None:
+    def script(self, _: list[str]) -> None:
         """Says the lines so far."""
         for number, line in enumerate(self.cell.lines, 1):
             self.say(f"{number:>4}  {line}")
 
-    def picture(self, words: list[str | tokens.Text]) -> None:
+    def picture(self, words: list[str]) -> None:
         """Draws the cell."""
         file = words[0] if words else "cell.svg"
         answers = "".join(f"{it}\n" for it in self.cell.answers)
@@ -145,7 +146,7 @@ class Console:
             it.write(self.cell.script())
         try:
             drawn = subprocess.run(
-                [f"{program.ROOT}/tools/picture", f"{file}.script", "-", file],
+                [f"{ROOT}/tools/picture", f"{file}.script", "-", file],
                 input=answers.encode(),
                 stderr=subprocess.PIPE,
                 check=False,
@@ -189,7 +190,7 @@ class Console:
         for number, line in enumerate(lines[first:], first + 1):
             try:
                 self.cell.do(line)
-            except (tokens.Fault, replays.Fault) as fault:
+            except (tokens.Fault, facts.Fault) as fault:
                 self.say(f"{words[0]}, line {number}: {line.strip()}")
                 self.say(str(fault))
                 self.say(f"The lines before it are loaded; the next one is {len(self.cell.lines) + 1}.")
@@ -197,7 +198,7 @@ class Console:
         self.saved = len(self.cell.lines)
         self.say(f"{words[0]} is loaded; the next line is {self.saved + 1}.")
 
-    def quit(self, _: list[str | int]) -> None:
+    def quit(self, _: list[str]) -> None:
         """Ends, and warns once where lines would be lost."""
         if len(self.cell.lines) != self.saved and not self.is_warned:
             self.is_warned = True

@@ -4,14 +4,14 @@ from __future__ import annotations
 
 import copy
 import re
+from collections.abc import Iterable, Sequence
 
-from cds.commands import FORMS
-from pictures import replay as replays
+from cds.commands import FORMS, QUESTIONS, SERVICES
+from pictures import facts, replay as replays
 from pictures.cell import Replay
 from speaking import explain, findings, naming, post, program, refusals, talk, tokens
 from speaking.tokens import Fault
 
-QUESTIONS = replays.QUESTIONS
 CLAUSE = re.compile(r"(?:all|to(?: \S+)+?)(?: but to(?: \S+)+?)?(?: lose to(?: \S+)+)?")
 
 
@@ -19,10 +19,10 @@ class Done:
     """What came of a line: the script's lines that it became, their answers, what there is to say beside, and to
     refused questions."""
 
-    lines: list[object]
-    answers: list[object]
-    notes: list[object]
-    hints: list[object]
+    lines: list[str]
+    answers: list[str]
+    notes: list[str]
+    hints: list[str]
 
     def __init__(self) -> None:
         self.lines, self.answers, self.notes, self.hints = [], [], [], []
@@ -34,8 +34,12 @@ class Net:
     but: set[int]
     lost: set[int]
 
-    def __init__(self, but: set[int] = (), lost: set[int] = ()) -> None:
+    def __init__(self, but: Iterable[int] = (), lost: Iterable[int] = ()) -> None:
         self.but, self.lost = set(but), set(lost)
+
+
+# What there was before a line of the operator: how many lines and answers, the names and the net; and that line.
+Kept = tuple[int, int, naming.Names, Net | None, str]
 
 
 class Desk:
@@ -44,7 +48,7 @@ class Desk:
     lines: list[str]
     answers: list[str]
     net: Net | None
-    before: list[tuple[int, int, naming.Names, Net | None, str]]
+    before: list[Kept]
     reader: replays.Reader | None
 
     def __init__(self, asked: program.Program, has_comments: bool = False) -> None:
@@ -54,7 +58,7 @@ class Desk:
 
     # The script.
 
-    def script(self, more: tuple[str, ...] = ()) -> bytes:
+    def script(self, more: Sequence[str] = ()) -> bytes:
         """The octets of the script, and of more lines."""
         return "".join(f"{line}\n" for line in [*self.lines, *more]).encode()
 
@@ -117,14 +121,14 @@ class Desk:
         done = Done()
         try:
             self.take(done, line.strip())
-        except (Fault, program.Failed, replays.Fault):
+        except (Fault, program.Failed, facts.Fault):
             self.back(kept)
             raise
         if done.lines or self.net != kept[3]:
             self.before.append(kept)
         return done
 
-    def back(self, kept: tuple[int, int, naming.Names, None, str]) -> None:
+    def back(self, kept: Kept) -> None:
         """Goes back to what was."""
         self.lines, self.answers = self.lines[: kept[0]], self.answers[: kept[1]]
         self.names, self.net, self.reader, self.post = kept[2], kept[3], None, post.Post()
@@ -214,24 +218,24 @@ class Desk:
 
     def clock(self, line: tokens.Line, plain: list[str]) -> list[str]:
         """The line that sets the clock of the house that gives a stamp, if one has to be set."""
-        if line.time is None or plain[0] not in (*naming.STAMPED, *naming.SERVICES):
+        if line.time is None or plain[0] not in (*naming.STAMPED, *SERVICES):
             return []
         if plain[0] in naming.STAMPED:
             number = plain[1]
         else:
             number = self.names.house(line.house) if line.house else self.master_of(plain[1])
-        if number is None or self.names.clocks.get(number) == line.time:
+        if not number or self.names.clocks.get(number) == line.time:
             return []
         self.names.clocks[number] = line.time
         return [f"clock {number} {line.time}"]
 
     def master_of(self, name: str) -> str:
-        """The master of the directory that an entry is in, as far as the names say."""
+        """The master of the directory that an entry is in, or nothing where the names do not say."""
         above = name
         while above not in self.names.directories and "/" in above[1:]:
             above = above.rpartition("/")[0]
-        epochs = self.happened().epochs.get(self.names.directories.get(above))
-        return str(epochs[-1].master) if epochs else None
+        epochs = self.happened().epochs.get(self.names.directories.get(above, 0))
+        return str(epochs[-1].master) if epochs else ""
 
     def learn(self, done: Done, plain: list[str], said: list[str]) -> None:
         """Learns the names that a line made."""
@@ -245,7 +249,7 @@ class Desk:
             self.names.made(int(found.group(1)), plain[2], plain[3])
             self.remark(done, f"# directory {found.group(1)} is {self.names.path(int(found.group(1)))}")
 
-    def explain_refusal(self, said: list[str], notes: list[object]) -> None:
+    def explain_refusal(self, said: list[str], notes: list[str]) -> None:
         """Explains what was refused, and what was in vain."""
         for number, reason, numbers, _ in findings.refused(said):
             notes += findings.explained(self.script(), self.answers, number, reason, numbers, False)
@@ -281,16 +285,16 @@ class Desk:
             raise Fault(
                 f"`{' '.join(words)}` is not understood here: write `all`, `all but to HOUSE..`, or `to HOUSE..`."
             )
-        parts = {"to": None, "but": set(), "lose": set()}
-        at = "to"
+        parts: dict[str, set[int]] = {"to": set(), "but": set(), "lose": set()}
+        at, is_all = "to", True
         for word in words:
             if word in ("but", "lose"):
                 at = word
             elif word == "to":
-                parts[at] = parts[at] or set()
+                is_all = is_all and at != "to"
             elif word not in ("all", "and"):
                 parts[at].add(int(self.names.house(word)))
-        return parts["to"], parts["but"], parts["lose"]
+        return None if is_all else parts["to"], parts["but"], parts["lose"]
 
     def deliver_some(self, done: Done, line: tokens.Line) -> bool:
         """`deliver all`, `deliver all but to HOUSE..`, `deliver to HOUSE..`."""
@@ -304,7 +308,7 @@ class Desk:
         self.lose(done, lost)
         return True
 
-    def idle(self, to: None, but: set[int]) -> str:
+    def idle(self, to: set[int] | None, but: set[int]) -> str:
         """What to say where nothing was delivered."""
         waiting = [it for it in self.under_way() if (to is None or it.receiver in to) and it.receiver not in but]
         if not waiting:
@@ -325,7 +329,7 @@ class Desk:
             done.notes.append("No message is under way there.")
         return True
 
-    def lose(self, done: Done, to: set[int] | None, but: tuple[object, ...] | set[object] = ()) -> bool:
+    def lose(self, done: Done, to: set[int] | None, but: Iterable[int] = ()) -> bool:
         """Loses the messages that are under way to some houses, or all."""
         lost = [it for it in self.under_way() if (to is None or it.receiver in to) and it.receiver not in but]
         if lost:
@@ -355,7 +359,7 @@ class Desk:
 
     def waves(self, done: Done, to: set[int] | None, but: set[int], after: int = 0) -> bool:
         """Delivers what is under way, and what comes of that, up to the end. `after` leaves out earlier messages."""
-        tried = set()
+        tried: set[int] = set()
         while True:
             due = [
                 it for it in self.under_way() if it.serial > after and it.serial not in tried and it.receiver not in but

@@ -21,7 +21,7 @@ STRANGE = {
 
 
 def report(
-    script: bytes, form: tuple[str, ...] | None, line: int | None, given: str, say: Callable[..., object]
+    script: bytes, form: tuple[str, ...], line: int | None, given: str | None, say: Callable[[str], object]
 ) -> int:
     """Says what there is to say of a script, and returns the exit status."""
     strange = next((what for front, what in STRANGE.items() if script.startswith(front)), None)
@@ -46,13 +46,13 @@ def report(
 
 
 def other_form(
-    script: bytes, asked: program.Program, fault: tuple[int, str, int], say: Callable[..., object]
+    script: bytes, asked: program.Program, fault: tuple[int, str, int], say: Callable[[str], object]
 ) -> tuple[program.Program, tuple[int, str, int] | None]:
     """The program in the form that knows a command which the first fault is at, where there is one, and the first fault
     then."""
     word = line_of(script, fault[0]).split()[0].decode("ascii", "replace")
     other = language.form_of(word)
-    if other in (None, "run"):
+    if other is None or other == "run":
         return asked, fault
     say(
         f"line {fault[0]}: `{word}` is a command of the form {other}: replay this by ./cdsreplay {other}; `check` does"
@@ -67,7 +67,7 @@ def line_of(script: bytes, number: int) -> bytes:
     return script.split(b"\n", number)[number - 1]
 
 
-def say_fault(script: bytes, form: tuple[str], fault: tuple[int, str, int], say: Callable[..., object]) -> None:
+def say_fault(script: bytes, form: tuple[str, ...], fault: tuple[int, str, int], say: Callable[[str], object]) -> None:
     """Says a fault."""
     number, reason, place = fault
     for text in explain.explain(line_of(script, number), number, reason, place, form[0]).lines():
@@ -82,7 +82,7 @@ def refused(answers: list[str]) -> Iterator[tuple[int, str, list[int], str]]:
             yield int(found.group(1)), found.group(2), [int(it) for it in found.group(3).split()], answer
 
 
-def say_refusals(script: bytes, answers: list[str], say: Callable[..., object]) -> None:
+def say_refusals(script: bytes, answers: list[str], say: Callable[[str], object]) -> None:
     """Says each refusal; what a reason means in general is said once."""
     found, known = list(refused(answers)), set()
     count = {0: "no command was", 1: "1 command was"}.get(len(found), f"{len(found)} commands were")
@@ -110,7 +110,7 @@ def explained(
         yield refusals.HELP.get(reason, "")
 
 
-def say_line(script: bytes, answers: list[str], line: int, say: Callable[..., object]) -> int:
+def say_line(script: bytes, answers: list[str], line: int, say: Callable[[str], object]) -> int:
     """Says what the answer to one line means."""
     found = [it for it in answers if it.startswith(f"{line} ")]
     if not found:

@@ -173,7 +173,7 @@ def split(words: list[str]) -> tuple[str, list[str]] | None:
     return None
 
 
-def generic(words: list[str]) -> tuple[str, list[object]]:
+def generic(words: list[str]) -> tuple[str, list[str]]:
     """How many words there have to be."""
     least, most = language.expects(words[0])
     if words[0] == "stop":

@@ -125,7 +125,7 @@ class Names:
             except ValueError as error:
                 raise Fault(f"{date} is no date.") from error
             self.first_day = self.first_day or self.day
-        days = (self.day - self.first_day).days if self.day else 0
+        days = (self.day - self.first_day).days if self.day and self.first_day else 0
         if days < 0:
             raise Fault(f"{date} is before {self.first_day}, the first date; times are counted from there.")
         time = days * 86400 + seconds
@@ -188,8 +188,8 @@ class Names:
         word = rest.pop(0)
         if kind in ("H", "M"):
             return [self.house(word)]
-        if kind == "TIME" and texts.seconds(word) is not None:
-            return [str(self.time(None, texts.seconds(word))[0])]
+        if kind == "TIME" and (seconds := texts.seconds(word)) is not None:
+            return [str(self.time(None, seconds)[0])]
         if isinstance(word, Text):
             if kind != "VALUE":
                 raise Fault(f'Only a value is a text in quotes; "{word}" is not in the place of one.')

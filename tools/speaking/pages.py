@@ -60,7 +60,7 @@ def words() -> dict[str, tuple[str, str]]:
 @functools.lru_cache(1)
 def commands() -> dict[str, str]:
     """What each command does, in a few words."""
-    found = {}
+    found: dict[str, str] = {}
     for title in ("All commands", "`journal`", "`inquire`"):
         for cells in rows(title):
             for name in re.findall(r"`([a-z]+)[^`]*`", plain(cells[0])):
@@ -72,7 +72,7 @@ def commands() -> dict[str, str]:
 @functools.lru_cache(1)
 def refusals() -> dict[str, str]:
     """The cause of each refusal."""
-    found = {}
+    found: dict[str, str] = {}
     for cells in rows("All refusals"):
         for name in re.findall(r"`([A-Za-z]+)[^`]*`", cells[0]):
             found.setdefault(name, plain(cells[1]))
@@ -86,5 +86,4 @@ def paragraph(command: str) -> str:
     if not found:
         return ""
     said = " ".join(found.group().split())
-    begin = re.search(rf"\*\*`{command}\b", said).start()
-    return plain(said[begin:]).replace("**", "")
+    return plain(said[said.index(f"**`{command}") :]).replace("**", "")

@@ -6,10 +6,10 @@ Each answers sentences. Where nothing certain can be said, the general help of `
 from __future__ import annotations
 
 import difflib
-from collections.abc import Iterator
+from collections.abc import Callable, Iterable, Iterator
 
 from cds.commands import COMMANDS
-from pictures import replay as replays
+from pictures import facts, replay as replays
 from pictures.cell import Replay
 from pictures.facts import Epoch, Message, Step
 from speaking import refusals
@@ -30,17 +30,17 @@ def houses_of(step: Step) -> list[int]:
     return named
 
 
-def list_of(things: list[str | int]) -> str:
+def list_of(things: Iterable[object]) -> str:
     """Things in words."""
-    things = [str(it) for it in things]
-    return things[0] if len(things) == 1 else f"{', '.join(things[:-1])} and {things[-1]}" if things else "none"
+    *front, last = [str(it) for it in things] or ["none"]
+    return f"{', '.join(front)} and {last}" if front else last
 
 
-def down(replay: Replay, step: Step, _: list[str | int]) -> Iterator[str]:
+def down(replay: Replay, step: Step, _: list[int]) -> Iterator[str]:
     """A house is down."""
     named = [step.message.receiver] if step.command == "deliver" and step.message else houses_of(step)
     for house in named:
-        if house is not None and house in replay.nodes and replay.is_down(house):
+        if house in replay.nodes and replay.is_down(house):
             more = (
                 f" The message waits: deliver it after that, or `lose {step.words[0]}`."
                 if step.command == "deliver"
@@ -51,7 +51,7 @@ def down(replay: Replay, step: Step, _: list[str | int]) -> Iterator[str]:
             return
 
 
-def no_house(replay: Replay, step: Step, _: list[str | int]) -> Iterator[str]:
+def no_house(replay: Replay, step: Step, _: list[int]) -> Iterator[str]:
     """A house was not made."""
     for house in houses_of(step):
         if house not in replay.nodes:
@@ -60,7 +60,7 @@ def no_house(replay: Replay, step: Step, _: list[str | int]) -> Iterator[str]:
             return
 
 
-def house_exists(replay: Replay, step: Step, _: list[str | int]) -> Iterator[str]:
+def house_exists(replay: Replay, step: Step, _: list[int]) -> Iterator[str]:
     """A house of this number or node is there."""
     house, node = int(step.words[0]), step.words[1].lower()
     if house in replay.nodes:
@@ -74,7 +74,7 @@ def house_exists(replay: Replay, step: Step, _: list[str | int]) -> Iterator[str
                 )
 
 
-def no_directory(replay: Replay, step: Step, _: list[str | int]) -> Iterator[str]:
+def no_directory(replay: Replay, step: Step, _: list[int]) -> Iterator[str]:
     """A directory was not made."""
     made = list_of(sorted(replay.epochs)) if replay.epochs else "none yet"
     yield f"The directories so far: {made}. " + (
@@ -82,7 +82,7 @@ def no_directory(replay: Replay, step: Step, _: list[str | int]) -> Iterator[str
     )
 
 
-def bad_members(replay: Replay, step: Step, _: list[str | int]) -> Iterator[str]:
+def bad_members(replay: Replay, step: Step, _: list[int]) -> Iterator[str]:
     """A house is named twice."""
     named = houses_of(step)[1 if step.command in ("mkdir", "repoint") else 0 :]
     twice = sorted({it for it in named if named.count(it) > 1})
@@ -104,33 +104,35 @@ def joins(replay: Replay, house: int, directory: int) -> list[Message]:
     ]
 
 
-def members_words(epoch: Epoch, more: int | tuple[str, ...] | list[int] = ()) -> str:
+def members_words(epoch: Epoch, more: Iterable[int] = ()) -> str:
     """The master and the others of an epoch, as `epoch` takes them."""
     others = [("s" if it in epoch.secondary else "") + str(it) for it in epoch.others(epoch.master)]
     return " ".join([str(epoch.master), *others, *map(str, more)])
 
 
-def no_replica(replay: Replay, step: Step, _: list[str | int]) -> Iterator[str]:
+def no_replica(replay: Replay, step: Step, _: list[int]) -> Iterator[str]:
     """A house holds no replica."""
     directory, named = directory_of(step), houses_of(step)
-    house = next((it for it in named if replay.held.get((it, directory)) is None), None)
+    house = next((it for it in named if replay.held.get((it, directory)) is None), 0)
     epochs = replay.epochs.get(directory)
-    if house is None or not epochs:
+    if not house or not epochs:
         return
     last, posted = epochs[-1], joins(replay, house, directory)
     if house not in last.members:
         again = f"`epoch {directory} {members_words(last, [house])}`"
         yield f"House {house} is no member of directory {directory}, which has the houses {list_of(last.members)}."
         yield f"{again} adds it; then deliver its Join."
-    elif posted and posted[0].lost is None:
+    elif not posted:
+        return
+    elif (lost := posted[0].lost) is None:
         yield f"House {house} is a member, and has not got its Join yet: `deliver {posted[0].serial}`."
-    elif posted:
-        line = replay.steps[posted[0].lost].line
+    else:
+        line = replay.steps[lost].line
         yield f"The Join for house {house}, message {posted[0].serial}, was lost in line {line}."
         yield f"`epoch {directory} {members_words(last)}` posts another one."
 
 
-def not_master(replay: Replay, step: Step, _: list[str | int]) -> Iterator[str]:
+def not_master(replay: Replay, step: Step, _: list[int]) -> Iterator[str]:
     """A house is not the master."""
     directory, house = directory_of(step), houses_of(step)[0]
     held, last = replay.held.get((house, directory)), replay.epochs[directory][-1]
@@ -146,7 +148,7 @@ def not_master(replay: Replay, step: Step, _: list[str | int]) -> Iterator[str]:
     )
 
 
-def not_member(replay: Replay, step: Step, _: list[str | int]) -> Iterator[str]:
+def not_member(replay: Replay, step: Step, _: list[int]) -> Iterator[str]:
     """The new master is no member."""
     directory, last = directory_of(step), replay.epochs[directory_of(step)][-1]
     house = houses_of(step)[0]
@@ -165,7 +167,7 @@ def not_joined(replay: Replay, step: Step, _: list[int]) -> Iterator[str]:
         yield f"Its Join was lost. `epoch {directory} {members_words(last)}` posts another one; deliver that first."
 
 
-def no_message(replay: Replay, step: Step, _: list[str | int]) -> Iterator[str]:
+def no_message(replay: Replay, step: Step, _: list[int]) -> Iterator[str]:
     """A message was not posted, or lost."""
     serial = next((int(word) for word in reversed(step.words) if word.isdecimal()), 0)
     message = replay.messages.get(serial)
@@ -178,7 +180,7 @@ def no_message(replay: Replay, step: Step, _: list[str | int]) -> Iterator[str]:
         yield f"Message {serial} was not posted: {last}."
 
 
-def no_entry(replay: Replay, step: Step, _: list[str | int]) -> Iterator[str]:
+def no_entry(replay: Replay, step: Step, _: list[int]) -> Iterator[str]:
     """An entry is not there."""
     directory, name = int(step.words[1]), step.words[2]
     known = sorted({it for at, it in replay.entries if at == directory and replay.entries[at, it].kind})
@@ -192,7 +194,7 @@ def near(name: str, known: list[str]) -> str:
     return f" Is `{list_of(like)}` meant?" if like else ""
 
 
-def entry_exists(replay: Replay, step: Step, _: list[str | int]) -> Iterator[str]:
+def entry_exists(replay: Replay, step: Step, _: list[int]) -> Iterator[str]:
     """An entry is there."""
     directory, name = int(step.words[1]), step.words[2]
     for before in reversed(replay.steps):
@@ -239,24 +241,24 @@ def unreachable(replay: Replay, step: Step, numbers: list[int]) -> Iterator[str]
     for house in epochs[-1].members:
         if replay.is_down(house):
             yield f"House {house} is down since line {since(replay, house)}."
-        elif replay.held.get((house, directory)) is None:
+        elif (held := replay.held.get((house, directory))) is None:
             yield f"House {house} has no replica yet."
-        elif "high" in step.words and replay.held[house, directory].master != house:
+        elif "high" in step.words and held.master != house:
             yield f"House {house} is up, and not the master: `low` asks it."
 
 
-def up(replay: Replay, step: Step, _: list[str | int]) -> Iterator[str]:
+def up(replay: Replay, step: Step, _: list[int]) -> Iterator[str]:
     """A house is up."""
     yield f"House {step.words[0]} is up" + ("." if replay.downs.get(int(step.words[0])) else ", and was never down.")
 
 
-def not_acting(replay: Replay, step: Step, _: list[str | int]) -> Iterator[str]:
+def not_acting(replay: Replay, step: Step, _: list[int]) -> Iterator[str]:
     """Another house acts."""
     if step.command == "deliver" and step.message and step.message.receiver:
         yield f"Message {step.message.serial} goes to house {step.message.receiver}, which acts here."
 
 
-WHY = {
+WHY: dict[str, Callable[[Replay, Step, list[int]], Iterator[str]]] = {
     "Down": down, "NoHouse": no_house, "HouseExists": house_exists, "NoDirectory": no_directory,
     "BadMembers": bad_members, "NoReplica": no_replica, "NotMaster": not_master, "NotMember": not_member,
     "NotJoined": not_joined, "NoMessage": no_message, "NoSuchEntry": no_entry, "EntryExists": entry_exists,
@@ -264,19 +266,17 @@ WHY = {
 }  # fmt: skip
 
 
-def before(script: bytes, answers: list[str], line: int) -> tuple[Replay, Step]:
+def before(script: bytes, answers: list[str], line: int) -> tuple[Replay, Step] | None:
     """The replay up to a line of a script, without its answer, and the step of the line; or None where it can't be
     read."""
     lines = script.split(b"\n")
     said = [it for it in answers if int(it.split(" ", 1)[0]) < line]
     try:
         happened = replays.read(b"\n".join([*lines[: line - 1], b""]), "".join(f"{it}\n" for it in said).encode())
-        number, command, words, text, stop = next(
-            replays.steps_of([b"".decode()] * (line - 1) + [lines[line - 1].decode()])
-        )
-    except (replays.Fault, StopIteration, UnicodeDecodeError):
+        number, command, words, text, stop = next(replays.steps_of([""] * (line - 1) + [lines[line - 1].decode()]))
+    except (facts.Fault, StopIteration, UnicodeDecodeError):
         return None
-    step = replays.Step(len(happened.steps), number, command, words, text, stop)
+    step = Step(len(happened.steps), number, command, words, text, stop)
     try:
         replays.place(happened, step)
     except (TypeError, ValueError):

@@ -22,15 +22,15 @@ class Held:
 
     def take(self, lines: list[str], nodes: dict[str, str]) -> None:
         """Takes the lines of a dump, each without the number in front."""
-        entry = attribute = None
+        entry = attribute = ""
         for line in lines:
             words = line.split()
             if words[0] == "dump":
                 members = {it.split(":")[0]: it.split(":")[2] for it in words[6:]}
-                role = {"m": "master", "s": "secondary", "r": "read-only"}.get(members.get(str(self.house)), "?")
+                role = {"m": "master", "s": "secondary", "r": "read-only"}.get(members.get(str(self.house), ""), "?")
                 self.facts.update(epoch=words[2], role=role, allupto=short(words[4], nodes), members=" ".join(members))
             elif words[0] == "entry":
-                entry, attribute = words[1], None
+                entry, attribute = words[1], ""
                 dead = "" if words[4] == "live" else f" died {short(words[4], nodes)}"
                 self.cells[entry, "", ""] = f"{words[2]} {short(words[3], nodes)}{dead}"
             elif words[0] == "attr":
@@ -71,7 +71,7 @@ def row_name(key: tuple[str, str, str]) -> str:
     return entry if not attribute else f"  {attribute}" + (f" {texts.shown(value)}" if value else "")
 
 
-def table(cell: Desk | str, directory: int, width: int = 100) -> Iterator[str]:
+def table(cell: Desk, directory: int, width: int = 100) -> Iterator[str]:
     """The lines of the table of a directory. Rows in which the houses differ have a mark in front."""
     houses = held(cell, directory)
     if not houses:

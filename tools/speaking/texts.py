@@ -45,7 +45,7 @@ def shown(digits: str) -> str:
     return digits
 
 
-def full_name(word: str) -> str:
+def full_name(word: str) -> str | None:
     """A full name in place of one that is nearly one, or None."""
     bare = word.strip("\"'")
     rest = re.sub(r"^(/\.:|/\.\.\.(/[^/]+)?|/:|\./:|\.:|:)?/*", "", bare)

@@ -44,7 +44,8 @@ class Text(str):
 
 def words_of(line: str) -> list[str | Text]:
     """The words of a line, without its remark; a quoted text is one word."""
-    found, at = [], 0
+    found: list[str | Text] = []
+    at = 0
     while at < len(line):
         if line[at].isspace():
             at += 1

@@ -64,7 +64,7 @@ def piped(path: str, text: str, *form: str, folder: str | None = None) -> tuple[
     return ran.stdout.decode() + ran.stderr.decode(), ran.returncode
 
 
-def said_problem(said: str, wanted: list[str]) -> None:
+def said_problem(said: str, wanted: list[str]) -> str | None:
     """The first thing that was not said, or that was and must not be; or None."""
     for it in wanted:
         if it.startswith("!") == (it.removeprefix("!") in said):
@@ -74,7 +74,7 @@ def said_problem(said: str, wanted: list[str]) -> None:
 
 def typed(path: str, text: str) -> str:
     """What the console says to lines."""
-    said = []
+    said: list[str] = []
     at = console.Console(program.Program(path), said.append)
     for line in text.splitlines():
         if not at.is_over:
@@ -82,7 +82,7 @@ def typed(path: str, text: str) -> str:
     return "\n".join(said)
 
 
-def from_a_pipe(path: str) -> Iterator[tuple[str, None]]:
+def from_a_pipe(path: str) -> Iterator[tuple[str, str | None]]:
     """Lines that are typed."""
     for text, wanted in TYPED:
         yield repr(text), said_problem(typed(path, text), wanted)
@@ -100,7 +100,7 @@ def from_a_pipe(path: str) -> Iterator[tuple[str, None]]:
     yield "a program that is not there", None if status == 1 and "No such file" in said else said
 
 
-def files(path: str) -> Iterator[tuple[str, None]]:
+def files(path: str) -> Iterator[tuple[str, str | None]]:
     """Lines that are saved, loaded and drawn."""
     with tempfile.TemporaryDirectory() as folder:
         said, _ = piped(path, CELL + "save cell.cds\nsave cell.cds\nsave cell.cds over\npicture\n", folder=folder)
@@ -145,7 +145,7 @@ class Terminal:
                 *([key] if key in ("Enter", "Up", "Left", "BSpace", "Tab", "C-c", "C-d", "C-a") else ["-l", key]),
             )
 
-    def problem(self, wanted: list[str]) -> None:
+    def problem(self, wanted: list[str]) -> str | None:
         """What does not come to the screen in time, or None."""
         end, shown = time.monotonic() + PATIENCE, ""
         while time.monotonic() < end:
@@ -189,7 +189,7 @@ KEYS = (
 )
 
 
-def in_a_terminal(path: str) -> Iterator[tuple[str, None]]:
+def in_a_terminal(path: str) -> Iterator[tuple[str, str | None]]:
     """Keys in a terminal."""
     if not shutil.which("tmux"):
         print("console: tmux is not there, so no key was typed")
@@ -207,7 +207,7 @@ def in_a_terminal(path: str) -> Iterator[tuple[str, None]]:
             terminal.close()
 
 
-def trials(path: str) -> Iterator[tuple[str, None]]:
+def trials(path: str) -> Iterator[tuple[str, str | None]]:
     """All trials of tools/console."""
     yield from from_a_pipe(path)
     yield from files(path)

@@ -29,7 +29,7 @@ def ran(path: str, folder: str, command: str) -> str:
     return (done.stdout + done.stderr).decode()
 
 
-def shell(path: str, block: str) -> Iterator[tuple[str, None]]:
+def shell(path: str, block: str) -> Iterator[tuple[str, str | None]]:
     """The commands of a session of a shell."""
     with tempfile.TemporaryDirectory() as folder:
         for command, shown in re.findall(r"(?m)^\$ (.*)\n((?:(?!\$ ).*\n)*)", block):
@@ -43,7 +43,7 @@ def shell(path: str, block: str) -> Iterator[tuple[str, None]]:
 
 def typed(path: str, block: str) -> str:
     """What the console says to the lines of a session, with the lines."""
-    said = []
+    said: list[str] = []
     at = console.Console(program.Program(path), said.append)
     for line in re.findall(r"(?m)^\d+> (.*)$", block):
         said.append(at.prompt() + line)
@@ -51,7 +51,7 @@ def typed(path: str, block: str) -> str:
     return "".join(f"{line}\n" for line in said)
 
 
-def trials(path: str) -> Iterator[tuple[str, None]]:
+def trials(path: str) -> Iterator[tuple[str, str | None]]:
     """All trials of the page."""
     count = 0
     for block in blocks():

@@ -24,7 +24,7 @@ WHY = f"{os.path.dirname(os.path.dirname(HERE))}/why"
 
 def ask(path: str, script: bytes, form: str | None = None, line: int | None = None) -> tuple[str, int]:
     """What tools/why says of a script, and its exit status."""
-    said = []
+    said: list[str] = []
     status = findings.report(
         script, program.form_words(form) if form else program.first_line_form(script), line, path, said.append
     )
@@ -52,7 +52,7 @@ def octets(line: str) -> bytes:
     return ended.removesuffix("\\c").encode("latin-1").decode("unicode_escape").encode("latin-1")
 
 
-def problem_of(path: str, form: str | None, script: bytes, answer: str, phrases: list[str]) -> None:
+def problem_of(path: str, form: str | None, script: bytes, answer: str, phrases: list[str]) -> str | None:
     """What is wrong with the explanation of a wrong use, or None."""
     said, status = ask(path, script, form)
     # (A command of another form is no fault there.)
@@ -66,7 +66,7 @@ def problem_of(path: str, form: str | None, script: bytes, answer: str, phrases:
     return f"it does not say `{missing[0]}`, but\n{said}" if missing else None
 
 
-def wrong_uses(path: str) -> Iterator[tuple[str, None]]:
+def wrong_uses(path: str) -> Iterator[tuple[str, str | None]]:
     """Each block of the case."""
     count = 0
     for form, script, answer, phrases in blocks():
@@ -75,7 +75,7 @@ def wrong_uses(path: str) -> Iterator[tuple[str, None]]:
     yield "how many wrong uses there are", None if count >= 61 else f"{count} of 61"
 
 
-def faults_of_the_page(path: str) -> Iterator[tuple[str, None]]:
+def faults_of_the_page(path: str) -> Iterator[tuple[str, str | None]]:
     """Each faulty line that SCRIPT.md lists gets its place marked, and a line of what to do that is no mere form."""
     for line, fault, form in re.findall(r"(?m)^\| (`.*`) \| `1 fault ([A-Za-z]+ \d+)` \|()$", pages.text()):
         for script in re.findall("`([^`]+)`", line):
@@ -85,7 +85,7 @@ def faults_of_the_page(path: str) -> Iterator[tuple[str, None]]:
             yield script, None if good else said
 
 
-def tables(_: str | tuple[str | None, ...] | list[str | int | Step] | None) -> Iterator[tuple[str, None]]:
+def tables(_: str | tuple[str | None, ...] | list[str | int | Step] | None) -> Iterator[tuple[str, str | None]]:
     """The tables of SCRIPT.md are found, and each refusal has help."""
     yield "words", None if {"H", "NODE", "VALUE", "R.."} <= set(pages.words()) else str(sorted(pages.words()))
     lacking = [it for it in COMMANDS if it not in pages.commands()]
@@ -108,9 +108,9 @@ def called(script: bytes, *words: str) -> tuple[str, int]:
     return (ran.stdout + ran.stderr).decode(), ran.returncode
 
 
-def calls(path: str) -> Iterator[tuple[str, None]]:
+def calls(path: str) -> Iterator[tuple[str, str | None]]:
     """Calls of the tool, as a user makes them."""
-    for words, script, status, phrase in (
+    uses: tuple[tuple[list[str], bytes, int, str], ...] = (
         (["/"], b"", 1, "Is a directory"), (["/nowhere"], b"", 1, "No such file"), ([], b"", 2, "name a script"),
         (["--form", "load 3", "x"], b"", 2, "is no form"), (["--program", "/nowhere", WHY], b"", 3, "a program"),
         (["--help"], b"", 0, "tools/why"), (["--program", "/nowhere", "-"], b"root 1\n", 1, "No such file"),
@@ -123,12 +123,13 @@ def calls(path: str) -> Iterator[tuple[str, None]]:
             b"", 0, "House 3 is down since line 8",
         ),
         (["--program", path, "--line", "1", f"{pages.ROOT}/examples/missed.cds"], b"", 0, "has no answer"),
-    ):  # fmt: skip
+    )  # fmt: skip
+    for words, script, status, phrase in uses:
         said, ended = called(script, *words)
         yield f"tools/why {' '.join(words)}", None if ended == status and phrase in said else f"{ended}: {said}"
 
 
-def answers_of_lines(path: str) -> Iterator[tuple[str, None]]:
+def answers_of_lines(path: str) -> Iterator[tuple[str, str | None]]:
     """What --line says of deliveries that change nothing."""
     start = b"house 1 00000000000a\nhouse 2 00000000000b\nroot 1 2\ncreate 1 1 e\n"
     for more, line, phrase in (
@@ -139,10 +140,10 @@ def answers_of_lines(path: str) -> Iterator[tuple[str, None]]:
         (b"deliver 1\n", 5, "It is done"),
     ):  # fmt: skip
         said, status = ask(path, start + more, None, line)
-        yield f"--line {line} of {more}", None if status == 0 and phrase in said else said
+        yield f"--line {line} of {more.decode()}", None if status == 0 and phrase in said else said
 
 
-def trials(path: str) -> Iterator[tuple[str, None]]:
+def trials(path: str) -> Iterator[tuple[str, str | None]]:
     """All trials of tools/why."""
     yield from tables(path)
     yield from wrong_uses(path)

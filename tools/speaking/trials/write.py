@@ -24,7 +24,7 @@ def write(path: str, words: str, has_answers: bool = False) -> tuple[str, str, i
     """What tools/write writes, what it says beside, and its exit status."""
     sink, errors = io.StringIO(), io.StringIO()
     try:
-        writing.write(words, None, path, has_answers, sink, errors)
+        writing.write(words, (), path, has_answers, sink, errors)
     except writing.Faulty as fault:
         return sink.getvalue(), str(fault), 1
     return sink.getvalue(), errors.getvalue(), 0
@@ -43,7 +43,7 @@ def commands(text: str) -> list[str]:
     return [line for line in text.splitlines() if line.strip() and not line.strip().startswith("#")]
 
 
-def answer_problem(spoken: str, expected: str) -> None:
+def answer_problem(spoken: str, expected: str) -> str | None:
     """The first answer that does not come, in the order of the words, or None."""
     blocks = [block.splitlines() for block in re.split(r"(?m)^(?! )", spoken) if block]
     at = 0
@@ -62,7 +62,7 @@ def is_answered(block: list[str], words: str, answer: str) -> bool:
     return block[0].partition("  #")[0].strip() == words and answer in said
 
 
-def incident(path: str, file: str) -> Iterator[tuple[str, None]]:
+def incident(path: str, file: str) -> Iterator[tuple[str, str | None]]:
     """The problems of one incident."""
     with open(file, encoding="ascii") as it:
         _, log, words, expected = re.split(r"(?m)^--- (?:log|words|answers)\n", it.read())
@@ -165,7 +165,7 @@ BESIDE = (
 )  # fmt: skip
 
 
-def trials(path: str) -> Iterator[tuple[str, None]]:
+def trials(path: str) -> Iterator[tuple[str, str | None]]:
     """All trials of tools/write."""
     for file in sorted(glob.glob(f"{HERE}/incidents/*.incident")):
         yield from incident(path, file)
@@ -178,7 +178,7 @@ def trials(path: str) -> Iterator[tuple[str, None]]:
     for words, said in BESIDE:
         _, beside, status = write(path, words)
         yield repr(words), None if status == 0 and said in beside else f"status {status}: {beside}"
-    for words, script, status, phrase in (
+    uses: tuple[tuple[list[str], str, int, str], ...] = (
         ([], "", 2, "name a file"), (["/nowhere"], "", 1, "No such file"),
         (["--form", "towers", "-"], "", 2, "is no form"),
         (["--program", "/nowhere", "-"], "house a_ch\n", 1, "/nowhere: No such file"),
@@ -191,6 +191,7 @@ def trials(path: str) -> Iterator[tuple[str, None]]:
             ["--program", path, "-"], CELL + "create d_ch lpr\n",
             1, "write: line 3: create d_ch lpr\nThere is no house `d_ch`",
         ),
-    ):  # fmt: skip
-        said, ended = called(script, *words)
-        yield f"tools/write {' '.join(words)}", None if ended == status and phrase in said else f"{ended}: {said}"
+    )  # fmt: skip
+    for given, script, status, phrase in uses:
+        said, ended = called(script, *given)
+        yield f"tools/write {' '.join(given)}", None if ended == status and phrase in said else f"{ended}: {said}"
