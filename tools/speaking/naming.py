@@ -5,7 +5,7 @@ from __future__ import annotations
 import datetime
 import re
 
-from cds.commands import COMMANDS, SERVICES
+from cds.commands import COMMANDS
 from speaking import texts
 from speaking.tokens import Fault, Text
 
