@@ -47,11 +47,8 @@ The same kind and size is the same input, always.
 from __future__ import annotations
 
 import sys
-from collections.abc import Iterator
+from collections.abc import Callable, Iterable, Iterator
 from typing import IO
-
-from pictures.states import House
-from running.lone_house import LoneHouse
 
 
 def comments(count: int) -> Iterator[str]:
@@ -70,7 +67,7 @@ def adds(count: int) -> Iterator[str]:
     yield "read 1 low /.:/entry Attribute\n"
 
 
-def mixed(count: int) -> Iterator[object]:
+def mixed(count: int) -> Iterator[int]:
     """The numbers below the count, each once, in no order."""
     # A step that shares no divisor with the count visits each number once.
     step = next(s for s in range(count * 2 // 3 + 1, 2 * count + 2) if coprime(s, count))
@@ -113,7 +110,7 @@ def houses(count: int) -> Iterator[str]:
     yield "root 1\n"
 
 
-def pseudorandom(seed: int) -> Iterator[int | None]:
+def pseudorandom(seed: int) -> Iterator[int]:
     """Numbers below 2048 that look random."""
     while True:
         seed = (seed * 1103515245 + 12345) % 2147483648
@@ -518,10 +515,10 @@ def stamp(time: int) -> bytes:
 
 
 def image(
-    octets_of_format: object,
+    octets_of_format: bytes,
     count: int,
     all_up_to: bytes = b"\0",
-    house: int | str | House | LoneHouse | None = 1,
+    house: int = 1,
     lacks: int = 0,
 ) -> Iterator[bytes]:
     """An entry in each piece, the first one behind the head of the image. The house is the only member. The last one
@@ -539,7 +536,7 @@ def image(
         yield (b"" if i else head) + entry + b"".join(marks)
 
 
-def migrate(count: int) -> Iterator[object]:
+def migrate(count: int) -> Iterator[bytes]:
     return image(b"\x01", count)
 
 
@@ -550,11 +547,11 @@ def audits(count: int, lacks: int = 0) -> Iterator[bytes]:
     yield from image(b"\x01", count, all_up_to, house=2)
 
 
-def encoded(texts: Iterator[object]) -> Iterator[object]:
+def encoded(texts: Iterable[str]) -> Iterator[bytes]:
     return (text.encode() for text in texts)
 
 
-KINDS = {
+KINDS: dict[str, Callable[[int], Iterable[bytes]]] = {
     "comments": lambda count: encoded(comments(count)),
     "adds": lambda count: encoded(adds(count)),
     "values": lambda count: encoded(values(count)),

@@ -101,12 +101,12 @@ def run_once(program: str, form: list[str], script: str, answers: str) -> tuple[
         return seconds, processor, int(peak.read()) if TIME else after.ru_maxrss, status
 
 
-def instructions(program: str, form: list[str], script: str) -> object:
+def instructions(program: str, form: list[str], script: str) -> int:
     """How many instructions a run takes."""
     command = ["valgrind", "--tool=callgrind", "--callgrind-out-file=/dev/null", program, *form]
     with open(script, "rb") as source:
         ran = subprocess.run(command, stdin=source, stdout=subprocess.DEVNULL, stderr=subprocess.PIPE, text=True)
-    return int(re.search(r"Collected : (\d+)", ran.stderr)[1])
+    return int(re.findall(r"Collected : (\d+)", ran.stderr)[0])
 
 
 def generated(kind: str, size: int, folder: str) -> tuple[str, int]:
@@ -145,7 +145,7 @@ def measure(kind: str, size: int, programs: list[tuple[str, str]], runs: int, fo
     return times, agreed
 
 
-def count(kind: str, size: int, programs: list[tuple[str, str]], folder: str) -> object:
+def count(kind: str, size: int, programs: list[tuple[str, str]], folder: str) -> list[int]:
     """Prints the instructions of each program, and gives them."""
     script, items = generated(kind, size, folder)
     counts = [instructions(program, form_of(kind, size, program), script) for _, program in programs]
@@ -158,7 +158,7 @@ def grow(kind: str, size: int, programs: list[tuple[str, str]], runs: int, folde
     """Prints how each program's time and memory grow from an eighth of an input to all of it, and whether the runs
     ended well."""
     sizes, well = [size // it for it in (8, 4, 2, 1)], True
-    found = {name: [] for name, _ in programs}
+    found: dict[str, list[tuple[float, int]]] = {name: [] for name, _ in programs}
     for it in sizes:
         script, _ = generated(kind, it, folder)
         for name, program in programs:

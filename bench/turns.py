@@ -35,20 +35,21 @@ import subprocess
 import sys
 import tempfile
 import time
+from collections.abc import Callable, Sequence
+from typing import TypeVar
 
 ROOT = os.path.dirname(os.path.dirname(os.path.realpath(__file__)))
 sys.dont_write_bytecode = True
 sys.path.insert(0, f"{ROOT}/tools")
-from building.schedule import Room
 from cds import journals
 from cds.processes import Process
 
 TIME = shutil.which("time")
+Figures = dict[str, float]
+T = TypeVar("T")
 
 
-def making(
-    entries: dict[bytes, tuple[int, bytes, dict[bytes, dict[bytes, tuple[int, bytes]]]]], root: str = "root"
-) -> object:
+def making(entries: int, root: str = "root") -> list[str]:
     """The lines that make a house."""
     made = ["house 1 00000000000a", root]
     for number in range(entries):
@@ -56,14 +57,12 @@ def making(
     return made
 
 
-def turning(
-    entries: dict[bytes, tuple[int, bytes, dict[bytes, dict[bytes, tuple[int, bytes]]]]], turns: object
-) -> object:
+def turning(entries: int, turns: int) -> list[str]:
     """The lines of turns."""
     return [f"put 1 entry{turn % entries} A {turn:08x}" for turn in range(turns)]
 
 
-def timed(command: str, place: int | tuple[float, float | str] | None, read: object = ()) -> object:
+def timed(command: list[str], place: str, read: Sequence[str] = ()) -> tuple[float, float, int]:
     """Seconds, processor seconds and the peak in KiB of a program that reads lines. (A child's peak begins at that of
     this process, so GNU time measures it.)"""
     with open(f"{place}/lines", "w", encoding="ascii") as file:
@@ -86,30 +85,24 @@ def timed(command: str, place: int | tuple[float, float | str] | None, read: obj
 class House:
     """A house in a folder of its own."""
 
-    def __init__(
-        self,
-        program: str,
-        room: int | Room | str | None,
-        entries: dict[bytes, tuple[int, bytes, dict[bytes, dict[bytes, tuple[int, bytes]]]]],
-        root: str = "root",
-    ) -> None:
+    def __init__(self, program: str, room: str, entries: int, root: str = "root") -> None:
         self.program, self.room, self.folder = program, room, f"{room}/h"
         os.makedirs(self.folder)
         self.ran(making(entries, root))
 
-    def ran(self, lines: int | tuple[str, ...] | list[str] = ()) -> object:
+    def ran(self, lines: Sequence[str] = ()) -> tuple[float, float, int]:
         return timed([self.program, self.folder], self.room, lines)
 
-    def size(self) -> object:
+    def size(self) -> int:
         return sum(os.path.getsize(f"{self.folder}/{name}") for name in os.listdir(self.folder))
 
-    def texts(self, segments: object) -> object:
+    def texts(self, segments: int) -> int:
         """The octets of the texts of all turns after so many segments."""
         found = [record for segment in list(journals.segments(self.folder))[segments:] for record in segment.records]
         return sum(len(line) + 1 for record in found if record.image is None for line in record.lines)
 
 
-def measured(program: str, args: object, place: int | tuple[float, float | str] | None) -> object:
+def measured(program: str, args: argparse.Namespace, place: str | None) -> Figures:
     """The figures of one life of a house."""
     with tempfile.TemporaryDirectory(dir=place) as room:
         house, turns = House(program, room, args.entries), turning(args.entries, args.turns)
@@ -129,7 +122,7 @@ def measured(program: str, args: object, place: int | tuple[float, float | str] 
         }
 
 
-def looped(octets: bytes, args: object) -> object:
+def looped(octets: float, args: argparse.Namespace) -> float:
     """Turns a second of a loop that writes so many octets and then one, and syncs after each."""
     with tempfile.NamedTemporaryFile(dir=args.disk) as file:
         record, at, begin = bytes(int(octets) - 1), 1, time.perf_counter()
@@ -139,18 +132,14 @@ def looped(octets: bytes, args: object) -> object:
             os.pwrite(file.fileno(), b"\1", at - 1)
             os.fsync(file.fileno())
             at += len(record) + 1
-        return args.turns / (time.perf_counter() - begin)
+        seconds = time.perf_counter() - begin
+        return float(args.turns / seconds)
 
 
 # ---- ratios
 
 
-def grown(
-    program: str,
-    room: int | Room | str | None,
-    entries: dict[bytes, tuple[int, bytes, dict[bytes, dict[bytes, tuple[int, bytes]]]]],
-    turns: object,
-) -> object:
+def grown(program: str, room: str, entries: int, turns: int) -> tuple[float, float]:
     """What a folder grows by at a turn to the octets of the turn's text, and the microseconds of processor time for
     it."""
     house = House(program, room, entries, "root 2")
@@ -161,7 +150,7 @@ def grown(
     return (house.size() - before) / house.texts(segments), (processor - idle) / turns * 1e6
 
 
-def redone(program: str, room: int | Room | str | None) -> object:
+def redone(program: str, room: str) -> tuple[float, float]:
     """The milliseconds of processor time of 10,000 turns, and of a start that does them again."""
     house = House(program, room, 100, "root 2")
     house.ran()
@@ -171,11 +160,7 @@ def redone(program: str, room: int | Room | str | None) -> object:
     return (processor - idle) * 1000, (again - idle) * 1000
 
 
-def piped(
-    program: str,
-    room: int | Room | str | None,
-    entries: dict[bytes, tuple[int, bytes, dict[bytes, dict[bytes, tuple[int, bytes]]]]],
-) -> object:
+def piped(program: str, room: str, entries: int) -> float:
     """The turns in a second of 1,000 lines at once, to those of 500 that come one by one."""
     house, (once, one) = House(program, room, entries, "root 2"), (1000, 500)
     house.ran()
@@ -192,49 +177,54 @@ def piped(
     return once / (seconds - empty) / (one / slow)
 
 
-def explained(program: str, explainer: object, room: int | Room | str | None) -> object:
+def explained(program: str, explainer: str, room: str) -> float:
     """The peak in MB of an explainer."""
     house = House(program, room, 300)
     house.ran(turning(300, 4600))
     return timed([explainer, house.folder], room)[2] / 1024
 
 
-def compared(program: str, args: object, place: int | tuple[float, float | str] | None) -> object:
+def compared(program: str, args: argparse.Namespace, place: str | None) -> Figures:
     """The figures of which the ratios are."""
 
-    def fresh(measure: object, *more: str) -> object:
+    def fresh(measure: Callable[[str], T]) -> T:
         with tempfile.TemporaryDirectory(dir=place) as room:
-            return measure(program, room, *more)
+            return measure(room)
 
-    octets, large = fresh(grown, args.entries, args.turns)
-    _, small = fresh(grown, 10, args.turns)
-    turns, again = fresh(redone)
+    octets, large = fresh(lambda room: grown(program, room, args.entries, args.turns))
+    _, small = fresh(lambda room: grown(program, room, 10, args.turns))
+    turns, again = fresh(lambda room: redone(program, room))
     found = {"octets": octets, "microseconds": large, "at 10 entries": small, "10,000 turns": turns, "again": again}
     if args.disk:
-        found["pipe"] = fresh(piped, args.entries)
+        found["pipe"] = fresh(lambda room: piped(program, room, args.entries))
     if args.explainer:
-        found["explained"] = fresh(lambda house, room: explained(house, path_of(args.explainer), room))
+        found["explained"] = fresh(lambda room: explained(program, path_of(args.explainer), room))
     return found
 
 
-def ratios(found: bytes | tuple[tuple[int, int, tuple[object, ...]], str] | list[tuple[str, int, int]]) -> object:
+def ratios(found: Figures) -> Figures:
     return found | {
         "processor": found["microseconds"] / found["at 10 entries"],
         "start": found["again"] / found["10,000 turns"],
     }
 
 
-def path_of(program: str) -> object:
+def path_of(program: str) -> str:
     return shutil.which(program) or os.path.abspath(program)
 
 
-def best(measure: object, program: str, args: object, place: int | tuple[float, float | str] | None) -> object:
+def best(
+    measure: Callable[[str, argparse.Namespace, str | None], Figures],
+    program: str,
+    args: argparse.Namespace,
+    place: str | None,
+) -> Figures:
     """The least of each figure of some runs; of turns in a second the greatest."""
     lives = [measure(program, args, place) for _ in range(args.runs)]
     return {key: (max if key in ("turns a second", "pipe") else min)(life[key] for life in lives) for key in lives[0]}
 
 
-def arguments() -> object:
+def arguments() -> argparse.Namespace:
     parser = argparse.ArgumentParser(description=__doc__, formatter_class=argparse.RawDescriptionHelpFormatter)
     parser.add_argument("--ratios", action="store_true")
     parser.add_argument("--runs", type=int, default=3)
