@@ -4,31 +4,19 @@ from __future__ import annotations
 
 import re
 import subprocess
+from typing import Any
 
-from pictures.facts import Step
-from pictures.states import House
-from running.lone_house import LoneHouse
-from running.runs import Mending, Run
-from speaking.desk import Desk
-from speaking.tokens import Text
+# A house and a directory.
+Place = tuple[int, int]
 
 
 class Cut:
     """A script that is cut after a line, with questions after it."""
 
-    def __init__(
-        self, program: str, words: str | tuple[str, ...] | list[str | Text], lines: int | tuple[str, ...] | list[str]
-    ) -> None:
+    def __init__(self, program: str, words: list[str], lines: list[str]) -> None:
         self.program, self.words, self.lines = program, words, lines
 
-    def dumps(
-        self,
-        last: Step | int,
-        houses: set[int] | None,
-        directories: list[bytes | tuple[int, str | None, list[tuple[str, str | None]]]]
-        | dict[int, dict[bytes, tuple[int, bytes, dict[bytes, dict[bytes, object]]]]],
-        downs: object,
-    ) -> object:
+    def dumps(self, last: int, houses: list[int], directories: list[int], downs: list[int]) -> dict[Place, list[str]]:
         """The dumps after a line, by house and directory. Those that are down are started for it."""
         asked = [(house, directory) for house in houses for directory in directories]
         lines = [
@@ -42,7 +30,8 @@ class Cut:
             stdout=subprocess.PIPE,
             check=True,
         )
-        first, found = last + len(downs) + 1, {it: [] for it in asked}
+        first = last + len(downs) + 1
+        found: dict[Place, list[str]] = {it: [] for it in asked}
         for line in ran.stdout.decode().split("\n")[:-1]:
             number, _, said = line.partition(" ")
             if int(number) >= first and said != "end":
@@ -50,18 +39,16 @@ class Cut:
         return {place: shown(said, place[0]) for place, said in found.items() if not said[0].startswith("refused")}
 
 
-def shown(
-    said: bytes | str | tuple[str | None, ...] | list[str], house: int | str | House | LoneHouse | None
-) -> object:
+def shown(said: list[str], house: int) -> list[str]:
     """What the page shows of a dump: of the members what the house itself is, and the rest as it is."""
     words = said[0].split()
     own = next((it for it in words[6:] if it.startswith(f"{house}:")), "none:none:none").split(":")
     return [f"epoch {words[2]} allupto {words[4]} since {own[1]} {own[2]}", *said[1:]]
 
 
-def of_tables(tables: object, nodes: dict[str, str]) -> object:
+def of_tables(tables: list[Any], nodes: dict[str, str]) -> dict[Place, list[str]]:
     """What the tables of the page say, by house and directory."""
-    found = {}
+    found: dict[Place, list[str]] = {}
     for table in tables:
         heads = {row[0]: row[1:] for row in table["heads"][1:]}
         for at, name in enumerate(table["heads"][0][1:]):
@@ -74,36 +61,31 @@ def of_tables(tables: object, nodes: dict[str, str]) -> object:
     return found
 
 
-def houses_of(name: str | bytes | None) -> object:
+def houses_of(name: str) -> list[int]:
     """The houses of a column's head."""
-    found = []
+    found: list[int] = []
     for one, other in re.findall(r"(\d+)(?: to (\d+))?", name):
         found += range(int(one), int(other or one) + 1)
     return found
 
 
-def stamp(text: Text | str, nodes: dict[str, str]) -> object:
+def stamp(text: str, nodes: dict[str, str]) -> str:
     """A whole stamp: after its time the house or the node."""
     time, _, house = text.partition("@")
     return f"{time}@{nodes.get(house) or house.rjust(12, '0')}"
 
 
-def head_of(role: object, up_to: str | None, nodes: dict[str, str]) -> object:
+def head_of(role: str, up_to: str, nodes: dict[str, str]) -> str:
     """The first line of a dump, as far as the page shows it."""
-    kind, epoch, since = re.fullmatch(
-        r"(master|secondary|read-only|unlisted), epoch (\d+)(?:, since (\d+))?", role
-    ).groups()
+    ((kind, epoch, since),) = re.findall(
+        r"^(master|secondary|read-only|unlisted), epoch (\d+)(?:, since (\d+))?$", role
+    )
     known = {"master": "m", "secondary": "s", "read-only": "r", "unlisted": "none"}[kind]
     since = "none" if kind == "unlisted" else since or "1"
     return f"epoch {epoch} allupto {up_to if up_to == 'none' else stamp(up_to, nodes)} since {since} {known}"
 
 
-def line_of(
-    kind: int | str | type[Mending | Run] | None,
-    key: str | tuple[str, str, str],
-    cell: Desk | int | str,
-    nodes: dict[str, str],
-) -> object:
+def line_of(kind: str, key: str, cell: str, nodes: dict[str, str]) -> str | None:
     """A line of a dump, or nothing where the house has not this fact."""
     if cell in ("–", "", "gone"):
         return None
@@ -112,5 +94,5 @@ def line_of(
         return f"value {key} {is_present} {stamp(at, nodes)}"
     if kind == "attr":
         return f"attr {key} none" if cell == "never cleared" else f"attr {key} {stamp(cell.split()[1], nodes)}"
-    what, birth, death = re.fullmatch(r"(\w+), born (\S+), (live|deleted \S+)", cell).groups()
+    ((what, birth, death),) = re.findall(r"^(\w+), born (\S+), (live|deleted \S+)$", cell)
     return f"entry {key} {what} {stamp(birth, nodes)} {'live' if death == 'live' else stamp(death.split()[1], nodes)}"

@@ -2,7 +2,8 @@
 
 from __future__ import annotations
 
-from signal import Signals
+from collections.abc import Iterable
+
 
 HOUSES = 60
 
@@ -63,16 +64,16 @@ class Long:
         self.serial = 0
         self.deliver(it for it in self.post() if it != 12)
 
-    def post(self, count: int = HOUSES - 1) -> object:
+    def post(self, count: int = HOUSES - 1) -> range:
         """The serials of so many messages."""
         self.serial += count
         return range(self.serial - count + 1, self.serial + 1)
 
-    def deliver(self, serials: range | list[int]) -> None:
+    def deliver(self, serials: Iterable[int]) -> None:
         """Delivers messages."""
         self.lines += [f"deliver {it}" for it in serials]
 
-    def update(self, number: int | Signals) -> None:
+    def update(self, number: int) -> None:
         """An entry and its value at one of two houses, of which some hear; each ninth is deleted again."""
         house = 1 + number % 2
         self.lines.append(f"create {house} 1 e{number}")
@@ -90,7 +91,7 @@ class Long:
         self.post(10)
 
 
-def long_script(lines: int | tuple[str, ...] | list[str] = 2000) -> object:
+def long_script(lines: int = 2000) -> str:
     """A script of so many lines, of sixty houses."""
     script, number = Long(), 0
     while len(script.lines) < lines - 200:
