@@ -24,7 +24,7 @@ SECONDS = 60
 # Tries something in a room, which is a folder that is not there yet, and returns what differs.
 Call = Callable[[str, str], str | None]
 # The processor time that a wrapper may take, in seconds, with its program, which takes next to none here.
-QUICK = 0.02
+QUICK = 0.01
 # Ends as the first word of its input says, after it wrote the others; or waits for a signal, and says which one came.
 STUB = """#!/bin/sh
 trap 'echo ended; exit 9' TERM
@@ -126,6 +126,13 @@ TABLE = (
         "sleep 0.1; echo >>crates/low/src/lib.rt; echo 0 1 ok | ./cdsreplay run",
         0,
         "unproved\n",
+        "cdsreplay: these answers are unproved.\n",
+    ),
+    (
+        "a source that has changed a second after it was looked at",
+        "echo 0 1 ok | ./cdsreplay run; echo >>crates/low/src/lib.rt; sleep 1.1; echo 0 1 ok | ./cdsreplay run",
+        0,
+        "1 ok\nunproved\n",
         "cdsreplay: these answers are unproved.\n",
     ),
     (
