@@ -155,6 +155,17 @@ def chained(number: int, before: bytes, bodies: Iterable[bytes]) -> Iterator[byt
     yield b"\0"
 
 
+def sealed(number: int, bodies: Iterable[bytes], before: bytes = NO_SUM) -> bytes:
+    """The octets of a segment with records of these bodies after a sum."""
+    return b"".join(chained(number, before, bodies))
+
+
+def bodies_of(path: str) -> list[bytes]:
+    """The bodies of the records of a segment."""
+    with open(path, "rb") as file:
+        return [record[:-SUM] for record in listed(file.read())[0][1:]]
+
+
 def numbers(folder: str) -> list[int]:
     """The numbers of the segments of a folder."""
     found = (int(name) for name in os.listdir(folder) if name.isdigit() and name[0] != "0")
@@ -226,6 +237,12 @@ def entries(folder: str, fewest: int = 2, version: int = VERSION) -> list[Record
     if fault:
         raise fault
     return found
+
+
+def houses_of(folders: Iterable[str]) -> dict[int, list[Record]]:
+    """The entries of houses, by their numbers."""
+    found = map(entries, folders)
+    return {int(own[0].line.split(" ")[1]): own for own in found}
 
 
 def add_entries(found: list[Record], records: Iterable[Record]) -> None:

@@ -6,7 +6,8 @@ import argparse
 import os
 import signal
 import sys
-from collections.abc import Callable
+import unittest
+from collections.abc import Callable, Iterable
 from typing import NoReturn
 
 
@@ -26,6 +27,13 @@ def summed(passed: int, failed: int) -> int:
     """Prints how many things passed and failed, and returns the exit status."""
     print(f"{passed} passed, {failed} failed")
     return 1 if failed else 0
+
+
+def tested(tests: Iterable[unittest.TestCase]) -> int:
+    """Runs tests, prints what fails and the sum, and returns the exit status."""
+    found = unittest.TextTestRunner(sys.stdout, verbosity=0).run(unittest.TestSuite(tests))
+    failed = len({id(getattr(test, "test_case", test)) for test, _ in (*found.failures, *found.errors)})
+    return summed(found.testsRun - failed, failed)
 
 
 def fail(tool: str, fault: object, status: int = 1) -> int:

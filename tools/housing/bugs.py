@@ -1,5 +1,9 @@
 """Bugs of the plain house that trials have to find: a check that finds none of them would show nothing."""
+
+from __future__ import annotations
+
 import shutil
+from typing import Any
 
 from building.sources import ROOT
 from cds import programs
@@ -49,7 +53,8 @@ BEHIND = "next.is_some_and(|record| record_at(&opened, 1 + LENGTH + record.len()
 ANY_BEHIND = "next.is_some_and(|record| opened.get(1 + LENGTH + record.len()) == Some(&1))"
 
 # What the bug is, the file, and its edits: the present text, and the text in its place.
-BUGS = [
+Bug = tuple[Any, ...]
+BUGS: list[Bug] = [
     ("a turn is answered before it is put", MAIN, (PUT + SAY, SAY + PUT)),
     ("a turn that leaves the image as it is is not put", MAIN, (RESPOND + PUT, BEFORE + RESPOND + PUT_CHANGED)),
     ("a line that is refused leaves a record", TURNS, (REFUSED, PUT_REFUSED)),
@@ -81,7 +86,7 @@ TESTS = {
 }
 
 
-def planted(bug, room):
+def planted(bug: Bug, room: str) -> str:
     """A house with a bug, in a copy of bench/ of its own."""
     name, file, *edits = bug
     shutil.copytree(f"{ROOT}/bench", f"{room}/bench")

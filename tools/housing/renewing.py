@@ -1,4 +1,5 @@
 """Writes the folder of a house of version 1 as one of version 2 (docs/HOUSE.md): its turns have no images, and each process one segment."""
+
 from __future__ import annotations
 
 import os
@@ -37,7 +38,7 @@ def renew(folder: str, target: str) -> str:
     first = found[0][0]
     before = first.before
     for number, (_, bodies) in enumerate(found, first.number):
-        octets = b"".join(journals.chained(number, before, bodies))
+        octets = journals.sealed(number, bodies, before)
         with open(f"{target}/{number}", "xb") as file:
             size += file.write(octets)
         before = octets[-journals.SUM - 1 : -1]
