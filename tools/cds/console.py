@@ -50,7 +50,10 @@ class Console:
         elif words[0] == "epoch":
             members = words[3 : words.index("-")] if "-" in words else words[3:]
             parts = [word.split(":") for word in members]
-            self.directories[int(words[1])] = (int(words[2]), {int(at): (int(since), kind) for at, since, kind in parts})
+            self.directories[int(words[1])] = (
+                int(words[2]),
+                {int(at): (int(since), kind) for at, since, kind in parts},
+            )
 
     def master(self, directory: int) -> int:
         """The master of a directory."""

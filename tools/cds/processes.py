@@ -26,7 +26,12 @@ class Process:
         variables = dict(os.environ, **(environment or {}))
         # (a session of its own: Ctrl-C at the prompt is not for houses)
         self.child = subprocess.Popen(
-            [program, folder], stdin=subprocess.PIPE, stdout=subprocess.PIPE, env=variables, bufsize=0, start_new_session=True
+            [program, folder],
+            stdin=subprocess.PIPE,
+            stdout=subprocess.PIPE,
+            env=variables,
+            bufsize=0,
+            start_new_session=True,
         )
         assert self.child.stdin and self.child.stdout
         self.sink, self.source = self.child.stdin, self.child.stdout

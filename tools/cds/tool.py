@@ -1,4 +1,5 @@
-"""How a tool begins and ends: its words by what its docstring says of them, its sum, and a reader of its output that goes away."""
+"""How a tool begins and ends: its words by what its docstring says of them, its sum, and a reader of its output that
+goes away."""
 
 from __future__ import annotations
 
@@ -12,7 +13,8 @@ from typing import NoReturn
 
 
 class Words(argparse.ArgumentParser):
-    """The words of a tool. `--help` prints its docstring, and a wrong word the lines of it that begin with the tool's path."""
+    """The words of a tool. `--help` prints its docstring, and a wrong word the lines of it that begin with the tool's
+    path."""
 
     def __init__(self, doc: str) -> None:
         ways = [line.strip() for line in doc.split("\n\n")[1].splitlines()]
@@ -48,7 +50,8 @@ def leave_output() -> None:
 
 
 def run(main: Callable[[list[str]], int]) -> NoReturn:
-    """Runs a tool, and ends with its status. It ends quietly if nobody reads its output any more, or somebody interrupts it."""
+    """Runs a tool, and ends with its status. It ends quietly if nobody reads its output any more, or somebody
+    interrupts it."""
     try:
         try:
             status = main(sys.argv[1:])

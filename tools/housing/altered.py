@@ -1,5 +1,5 @@
-"""The journals of a cell, with one thing altered at a time: what `cdsexplain` is tried with. Numbers and sums are made right again, unless
-a row says that they are as they were."""
+"""The journals of a cell, with one thing altered at a time: what `cdsexplain` is tried with. Numbers and sums are made
+right again, unless a row says that they are as they were."""
 
 from __future__ import annotations
 
@@ -47,7 +47,11 @@ clear 3 1 b A
 epoch 1 1 2 s3
 crash 3
 start 3
-""".split("\n")[1:-1]
+""".split(
+    "\n"
+)[
+    1:-1
+]
 LOST, DELAYED = 10, 20
 # A segment is changed for the next one once it has so many octets, and so many times those that it begins with.
 SMALL_SEGMENTS = {"HOUSE_SEGMENT": "1000", "HOUSE_TIMES": "2"}
@@ -112,7 +116,9 @@ class Journal:
 
     def places(self) -> list[tuple[int, int]]:
         """The segment and the place there of each entry, in their order."""
-        return [(at, place) for at, items in enumerate(self.segments) for place, item in enumerate(items) if item.is_entry]
+        return [
+            (at, place) for at, items in enumerate(self.segments) for place, item in enumerate(items) if item.is_entry
+        ]
 
     def item(self, entry: int) -> Item:
         """The entry of this number."""
@@ -124,7 +130,8 @@ class Journal:
         return [(number, self.item(number)) for number in range(1, len(self.places()) + 1)]
 
     def images(self) -> Numbered:
-        """The first records of its segments that have an image, each with the number of the entry whose image that is."""
+        """The first records of its segments that have an image, each with the number of the entry whose image that
+        is."""
         return [(item.number, item) for items in self.segments for item in items[:1] if item.image is not None]
 
     def turns(self) -> Numbered:

@@ -1,4 +1,5 @@
-"""Tries `cdsexplain` on altered journals (altered.py), and compares what it says with tools/houses and with a replay by another program."""
+"""Tries `cdsexplain` on altered journals (altered.py), and compares what it says with tools/houses and with a replay by
+another program."""
 
 from __future__ import annotations
 
@@ -17,7 +18,8 @@ from housing.tests import PATIENCE, HouseTest, Kit
 PAGE = f"{ROOT}/tools/housing/README.md"
 UNEXPLAINED = "# unexplained: "
 FOLDER = re.compile(r"folder (\d+): ")
-# What comes of a case: the journals are explained; or what is said first is of the entry that was altered, another one, or a folder.
+# What comes of a case: the journals are explained; or what is said first is of the entry that was altered, another one,
+# or a folder.
 COLUMNS = ("cases", "explained", "that entry", "a later entry", "another house", "a folder")
 # The entries of folders.
 Journals = list[list[journals.Record]]
@@ -44,8 +46,8 @@ class Located(explaining.Explainer):
 
 
 def entries_of(folders: Sequence[str]) -> tuple[Journals, list[int]]:
-    """The entries of each folder that has some, whose places are `house H entry N`; and the places of those that are not good to the
-    end."""
+    """The entries of each folder that has some, whose places are `house H entry N`; and the places of those that are
+    not good to the end."""
     found, damaged = Journals(), list[int]()
     for at, folder in enumerate(folders, 1):
         # (a segment with its first record alone, which no house leaves, has no entry to explain)
@@ -70,7 +72,8 @@ def twin_in(entries: Journals) -> str | None:
 
 
 def due(kit: Kit, entries: Journals) -> tuple[list[str] | None, str]:
-    """What `cdsexplain` has to say of entries: a script; or what it says of one, or the first words of that, which end in a colon."""
+    """What `cdsexplain` has to say of entries: a script; or what it says of one, or the first words of that, which end
+    in a colon."""
     if twin := twin_in(entries):
         return None, twin
     explainer, stuck = Located({int(own[0].line.split(" ")[1]): own for own in entries}), ""
@@ -153,7 +156,8 @@ def written(row: str, counts: collections.Counter[str]) -> str:
 
 
 def test_of(row: str) -> Callable[[HouseTest], None]:
-    """The test of a row: each case is explained, or something is said of it, as it has to be; and the page has the counts."""
+    """The test of a row: each case is explained, or something is said of it, as it has to be; and the page has the
+    counts."""
 
     def test(self: HouseTest) -> None:
         counts, faults = counted(self.kit, self.room, row)

@@ -1,4 +1,5 @@
-"""Cases of a house: what it reads and what it says, with starts between. They are in house.case and on the page docs/HOUSE.md."""
+"""Cases of a house: what it reads and what it says, with starts between. They are in house.case and on the page
+docs/HOUSE.md."""
 
 from __future__ import annotations
 
@@ -41,7 +42,9 @@ def life(text: str) -> Life:
     """What is read in a life, and what is said. (The line that ends a case is blank, and no line of it.)"""
     lines = text.removesuffix("\n").split("\n")
     lines = lines[:-1] if lines and not lines[-1] else lines
-    return [line for line in lines if not line.startswith("=> ")], [line[3:] for line in lines if line.startswith("=> ")]
+    return [line for line in lines if not line.startswith("=> ")], [
+        line[3:] for line in lines if line.startswith("=> ")
+    ]
 
 
 def failure(program: str, lives: list[Life]) -> str | None:

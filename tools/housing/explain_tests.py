@@ -1,4 +1,5 @@
-"""Tests of `cdsexplain`: its scripts, its statuses, and what it says of journals that no cell has. (With the plain house of bench/.)"""
+"""Tests of `cdsexplain`: its scripts, its statuses, and what it says of journals that no cell has. (With the plain
+house of bench/.)"""
 
 from __future__ import annotations
 
@@ -89,7 +90,8 @@ class OfExplainers(HouseTest):
         assert self.explained(folders) == (0, script_of(folders))
 
     def test_refused_memory(self) -> None:
-        """If any one of its allocations is refused, it ends with status 6 and the first lines of the script, or does without."""
+        """If any one of its allocations is refused, it ends with status 6 and the first lines of the script, or does
+        without."""
         folders = [f"{EXAMPLE}/h{house}" for house in (1, 2, 3)]
         if not shutil.which("cc"):
             return
@@ -112,7 +114,8 @@ class OfExplainers(HouseTest):
             assert subprocess.run([str(self.kit.explainer), *folders], stdout=full, check=False).returncode == 5
 
     def test_what_else_is_in_a_folder(self) -> None:
-        """Names that are no number are passed over. What has a number, and is no file, is not read: nobody knows whether that would end."""
+        """Names that are no number are passed over. What has a number, and is no file, is not read: nobody knows
+        whether that would end."""
         folders = self.worked()
         for name in [b"0", b"01", b"18446744073709551616", b"lpr", b"\xff\xfe"]:
             write(os.path.join(os.fsencode(folders[0]), name), b"")
@@ -223,13 +226,16 @@ class OfExplainers(HouseTest):
         """A cell of 255 houses, as many as there can be."""
         lines = [f"house {house} {house:012x}" for house in range(1, 256)]
         lines += ["root 1 " + " ".join(str(house) for house in range(2, 65)), "create 1 1 a", "epoch 1 1 254 s255"]
-        self.session(f"{self.room}/cell", [*lines, "mkdir 255 1 sub 255 200 s100", "skulk 1 1", "create 100 2 b", "skulk 255 2"])
+        self.session(
+            f"{self.room}/cell", [*lines, "mkdir 255 1 sub 255 200 s100", "skulk 1 1", "create 100 2 b", "skulk 255 2"]
+        )
         folders = [f"{self.room}/cell/h{house}" for house in range(1, 256)]
         status, script = self.explained(folders)
         assert (status, script) == (0, script_of(folders)) and len(script) > 450, (status, len(script), script[-1])
 
     def large_script_with_too_many_lines(self) -> None:
-        """A house that started so often that a script would have one line too many. (It takes 3 GB, and some minutes.)"""
+        """A house that started so often that a script would have one line too many. (It takes 3 GB, and some
+        minutes.)"""
         folder = self.folder("h")
         self.given(folder, ["house 1 00000000000a"])
         self.given(folder, [])
@@ -244,7 +250,8 @@ class OfExplainers(HouseTest):
             assert (done.returncode, sum(1 for _ in script)) == (7, MOST_LINES), done
 
     def test_altered_entries(self) -> None:
-        """One octet of a record is another, and all sums are right: that is reported, unless it is a clock that no stamp shows."""
+        """One octet of a record is another, and all sums are right: that is reported, unless it is a clock that no
+        stamp shows."""
         for house in (1, 2):
             folders = self.worked(str(house))
             path = f"{folders[house - 1]}/1"

@@ -1,5 +1,5 @@
-"""Writes a script of `cdsreplay run` that explains the journals of houses (docs/EXPLAINED.md), or says the first entry that no order
-explains. (It is an oracle of `cdsexplain`, written apart from it, as bench/explain.rs is.)
+"""Writes a script of `cdsreplay run` that explains the journals of houses (docs/EXPLAINED.md), or says the first entry
+that no order explains. (It is an oracle of `cdsexplain`, written apart from it, as bench/explain.rs is.)
 
 A script's line comes with the answer that the journals have for it, or None if they have none.
 """

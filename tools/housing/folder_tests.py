@@ -73,7 +73,8 @@ class OfFolders(HouseTest):
         assert self.ran(folder)[0] == ["0 new"]
 
     def test_what_else_is_in_a_folder(self) -> None:
-        """Names that are no number are passed over. What has a number, and is no file, is not read: nobody knows whether that would end."""
+        """Names that are no number are passed over. What has a number, and is no file, is not read: nobody knows
+        whether that would end."""
         folder = self.made()
         for name in [b"0", b"-1", b"+2", b"1 ", b"18446744073709551616", b"lpr", b"\xff\xfe"]:
             write(os.path.join(os.fsencode(folder), name), b"")
@@ -105,10 +106,14 @@ class OfFolders(HouseTest):
             folder = self.made()
         finally:
             os.umask(before)
-        assert {name: stat.S_IMODE(os.stat(f"{folder}/{name}").st_mode) for name in os.listdir(folder)} == {"1": 0o600, "lock": 0o600}
+        assert {name: stat.S_IMODE(os.stat(f"{folder}/{name}").st_mode) for name in os.listdir(folder)} == {
+            "1": 0o600,
+            "lock": 0o600,
+        }
 
     def test_a_start_syncs_what_it_reads(self) -> None:
-        """A process died between opening a gate and its sync; the next one reads the record. Then a loss of power must not take it away."""
+        """A process died between opening a gate and its sync; the next one reads the record. Then a loss of power must
+        not take it away."""
         folder = self.folder("h")
         variables = self.on_disk(folder, "5 0 0 0")
         assert self.ran(folder, MADE, env=variables) == (SAID, 0)
@@ -131,12 +136,19 @@ class OfFolders(HouseTest):
         write(f"{folder}/new", b"\x01" * 100_000)
         assert self.last_said(folder) == (["0 last create 1 b", "0 ok 2@00000000000a"], 0)
         assert sorted(contents(folder)) == ["2", "3", "lock"]
-        assert [record.kind for segment in journals.segments(folder) for record in segment.records] == ["start", "create", "start"]
+        assert [record.kind for segment in journals.segments(folder) for record in segment.records] == [
+            "start",
+            "create",
+            "start",
+        ]
 
     def test_turns_have_no_image(self) -> None:
         folder = self.made()
         self.ran(folder, ["create 1 b"])
-        found = [[(record.kind, record.image is not None) for record in segment.records] for segment in journals.segments(folder)]
+        found = [
+            [(record.kind, record.image is not None) for record in segment.records]
+            for segment in journals.segments(folder)
+        ]
         due = [["new", "house", "root", "create"], ["start", "create"]]
         assert found == [[(kind, kind == "start") for kind in kinds] for kinds in due], found
 
@@ -155,8 +167,8 @@ class OfFolders(HouseTest):
         assert last[0] in (f"0 last create 1 e{done - 1}", f"0 last create 1 e{done}"), (said, last)
 
     def test_damage(self) -> None:
-        """A change of one octet of the last segment is damage. Of the last record's gate it is as if that had not been put; of the version
-        in its head it is a segment of another version."""
+        """A change of one octet of the last segment is damage. Of the last record's gate it is as if that had not been
+        put; of the version in its head it is a segment of another version."""
         folder = self.made()
         path = f"{folder}/1"
         octets = octets_of(path)
@@ -173,7 +185,8 @@ class OfFolders(HouseTest):
             assert (status != 0) == is_damaged(path), at
 
     def test_an_octet_behind_a_record_that_is_not_put(self) -> None:
-        """A crash in the first write of a put may leave all of the record, and any octet at its end. With a record behind it that is damage."""
+        """A crash in the first write of a put may leave all of the record, and any octet at its end. With a record
+        behind it that is damage."""
         folder = self.made()
         path = f"{folder}/1"
         octets = octets_of(path)
@@ -205,7 +218,16 @@ class OfFolders(HouseTest):
     def test_a_house_that_would_do_otherwise(self) -> None:
         """A record is another, and its sums are right: the next start does its line again, and ends with status 12."""
         folder, altered, count = self.made(), f"{self.room}/altered", 0
-        lines = ["clock 500", "put 1 a A 01", "skulk 1", "create 1 lpr", "create 1 x", "clock 600", "delete 1 lpr", "create 1 lpr"]
+        lines = [
+            "clock 500",
+            "put 1 a A 01",
+            "skulk 1",
+            "create 1 lpr",
+            "create 1 x",
+            "clock 600",
+            "delete 1 lpr",
+            "create 1 lpr",
+        ]
         assert self.ran(folder, lines)[1] == 0
         segment = journals.Segment(f"{folder}/2", 2)
         bodies = journals.bodies_of(segment.path)

@@ -124,10 +124,14 @@ class House:
         more = turns[len(before) :]
         if turns[: len(before)] != before:
             at = next(at for at, turn in enumerate(before) if at >= len(turns) or turn != turns[at])
-            raise Difference(f"house {self.number}: answered {short(before[at])}, its journal has {short(turns[at : at + 1])}")
+            raise Difference(
+                f"house {self.number}: answered {short(before[at])}, its journal has {short(turns[at : at + 1])}"
+            )
         done = self.jobs[:1] if more else []
         if len(more) > 1 or more and (not done or (more[0][0], more[0][3]) != (done[0].line, self.clock)):
-            raise Difference(f"house {self.number}: its journal has {short(more)}, under way was {[job.line[:80] for job in done]}")
+            raise Difference(
+                f"house {self.number}: its journal has {short(more)}, under way was {[job.line[:80] for job in done]}"
+            )
         self.check_partial(more)
         self.last = [*before, *more][-1] if before or more else self.last
         if not self.last:
@@ -154,7 +158,8 @@ class House:
         return found, records[-1].number, numbers[-1]
 
     def died(self) -> tuple[list[Message], list[Job]]:
-        """After its last answer: what it posted of an answer that never ended goes out, too. Starts it again, as `start`."""
+        """After its last answer: what it posted of an answer that never ended goes out, too. Starts it again, as
+        `start`."""
         self.partial = self.process.fetched()
         self.ended()
         posts, done = self.start()

@@ -1,4 +1,5 @@
-"""A net that loses, repeats, delays and reorders messages. It never makes one up, and gives each to its receiver alone."""
+"""A net that loses, repeats, delays and reorders messages. It never makes one up, and gives each to its receiver
+alone."""
 
 from __future__ import annotations
 

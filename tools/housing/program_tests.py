@@ -84,8 +84,8 @@ class OfPrograms(HouseTest):
         assert process.status == 0
 
     def test_refused_memory(self) -> None:
-        """If any one of its allocations is refused, it ends with status 6 and its first answers, or does without. Its entries are the first
-        ones of the whole run, and the next process goes on from them."""
+        """If any one of its allocations is refused, it ends with status 6 and its first answers, or does without. Its
+        entries are the first ones of the whole run, and the next process goes on from them."""
         if not shutil.which("cc"):
             return
         for name, runs in memory.lives_of(self.kit.house, memory.compiled(self.room), self.room):
@@ -97,7 +97,10 @@ class OfPrograms(HouseTest):
                 assert not memory.fault(status, said, whole), (name, at, memory.fault(status, said, whole))
                 answered = len(journals.entries(runs.folder))
                 assert self.ran(runs.folder)[1] == 0, (name, at)
-                assert [record.turn for record in journals.entries(runs.folder)][:answered] == turns[:answered], (name, at)
+                assert [record.turn for record in journals.entries(runs.folder)][:answered] == turns[:answered], (
+                    name,
+                    at,
+                )
 
     def test_second_process(self) -> None:
         folder = self.made()
@@ -156,7 +159,9 @@ class OfPrograms(HouseTest):
         longest, longer = f"take {'00' * rest}\ntake 00\n", f"more {'00' * (rest + 1)}\ntake 00\n"
         said, status = self.ran(folder, more + longest.encode() + more + longer.encode())
         at = len(CREATED[0]) + 1 + count
-        assert said[at] == f"{count + 1} refused BadTag 1" and said[at + 1] == f"{count + 2} refused BadTag 1", said[at : at + 2]
+        assert said[at] == f"{count + 1} refused BadTag 1" and said[at + 1] == f"{count + 2} refused BadTag 1", said[
+            at : at + 2
+        ]
         assert said[-2:] == [f"{2 * count + 3} refused TooLong", f"{2 * count + 4} refused BadTag 1"], said[-2:]
         assert status == 0
 
@@ -171,12 +176,17 @@ class OfPrograms(HouseTest):
         process.kill()
         process.drained()
         said, status = self.ran(folder, ["image", "create 1 c"])
-        assert (said[1:3], said[-1], status) == (["0 last create 1 b", "0 ok 502@00000000000a"], f"2 ok {503}@00000000000a", 0), said
+        assert (said[1:3], said[-1], status) == (
+            ["0 last create 1 b", "0 ok 502@00000000000a"],
+            f"2 ok {503}@00000000000a",
+            0,
+        ), said
         assert [line.split(" ", 1)[1] for line in said[3:-1]] == image, said
         assert [record.clock for record in journals.entries(folder)] == [0, 0, 0, 0, 500, 500, 7, 0, 0]
 
     def test_a_start_of_each_folder_gives_the_same_octets_twice(self) -> None:
-        """Whoever does the lines of a folder again gets one answer and one segment, and so does whoever does those of the copy."""
+        """Whoever does the lines of a folder again gets one answer and one segment, and so does whoever does those of
+        the copy."""
         for number, (title, lives) in enumerate([*cases.of_file(), *cases.of_page()]):
             folder = self.folder(str(number))
             for life, (read, due) in enumerate(lives):

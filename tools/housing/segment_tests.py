@@ -13,7 +13,8 @@ from cds.processes import Process, take_lines
 from housing.net import Message
 from housing.tests import HouseTest, octets_of
 
-# Once its records have so many octets, and so many times those that it begins with, a segment is changed for the next one.
+# Once its records have so many octets, and so many times those that it begins with, a segment is changed for the next
+# one.
 LARGE, TIMES = 4_194_304, 3
 # What the file has besides for each record: a gate, and the record's length.
 FRAME = 9
@@ -31,7 +32,8 @@ def first_octets(path: str) -> int:
 
 
 class Skulking:
-    """A skulk of house 1 with houses 2 and 3, step by step at its master: it begins, both gather, and both have the news."""
+    """A skulk of house 1 with houses 2 and 3, step by step at its master: it begins, both gather, and both have the
+    news."""
 
     STEPS = 5
 
@@ -105,7 +107,8 @@ class OfSegments(HouseTest):
     """A house whose segment becomes large."""
 
     def test_a_large_segment_is_changed_for_the_next_one(self) -> None:
-        """Of a small house at LARGE octets; of one whose image is larger, at TIMES of those that the segment begins with."""
+        """Of a small house at LARGE octets; of one whose image is larger, at TIMES of those that the segment begins
+        with."""
         folder = self.made()
         lines = [f"put 1 a A {number:02048x}" for number in range(1100)]
         said, status = self.ran(folder, lines)
@@ -126,7 +129,11 @@ class OfSegments(HouseTest):
         """In each call of a change, and in those around it: what was answered is kept, and the house goes on."""
         folder, found = self.folder("h"), collections.Counter[str]()
         # (of 64 members each turn posts 63 messages, so that some thirty turns fill a segment)
-        lines = ["root " + " ".join(map(str, range(2, 65))), "create 1 a", *(f"put 1 a A {number:02048x}" for number in range(40))]
+        lines = [
+            "root " + " ".join(map(str, range(2, 65))),
+            "create 1 a",
+            *(f"put 1 a A {number:02048x}" for number in range(40)),
+        ]
         assert self.ran(folder, ["house 1 00000000000a"]) == (["0 new", "1 ok"], 0)
         whole = shutil.copytree(folder, f"{self.room}/whole")
         assert self.ran(whole, lines)[1] == 0
@@ -147,7 +154,8 @@ class OfSegments(HouseTest):
         assert found["start"] > 5 and found["segment"] > 5, found
 
     def test_skulks_that_run_where_a_segment_begins(self) -> None:
-        """The next segment begins after each step of a skulk; after its last one the master is killed, and does the others again."""
+        """The next segment begins after each step of a skulk; after its last one the master is killed, and does the
+        others again."""
         rounds = []
         for filled in range(Skulking.STEPS):
             skulk = Skulking(self.kit.house, f"{self.room}/{filled}")
@@ -163,5 +171,9 @@ class OfSegments(HouseTest):
             rounds.append([" ".join(line.split(" ")[3:]) for line in segment.records[0].running])
             assert len(segment.records) == Skulking.STEPS - filled, (filled, len(segment.records))
             said, status = self.ran(skulk.folders[0])
-            assert (said[1], said[-1].split(" ")[:3], status) == ("0 last take", ["0", "ok", "complete"], 0), (filled, said, status)
+            assert (said[1], said[-1].split(" ")[:3], status) == ("0 last take", ["0", "ok", "complete"], 0), (
+                filled,
+                said,
+                status,
+            )
         assert rounds == [["gather 1"], ["gather 3"], ["spread 1"], ["spread 3"], []], rounds

@@ -1,4 +1,5 @@
-"""What the tests of houses have in common: the programs, a folder of its own for each, and what is asked of houses and cells."""
+"""What the tests of houses have in common: the programs, a folder of its own for each, and what is asked of houses and
+cells."""
 
 from __future__ import annotations
 

@@ -1,4 +1,5 @@
-"""Tests of the tools of houses: the cell at a prompt, the reader of folders, the explanations of journals, and the disk of the trials."""
+"""Tests of the tools of houses: the cell at a prompt, the reader of folders, the explanations of journals, and the disk
+of the trials."""
 
 from __future__ import annotations
 
@@ -73,7 +74,17 @@ class OfCells(HouseTest):
         assert said[4:] == ["ok posted 1", "  1 to 2: 53 octets", "ok 1@00000000000a posted 2"], said[4:]
 
     def test_cell_of_houses_that_die(self) -> None:
-        lines = [*TWO, "crash 2", "create 1 1 a", "dump 2 1", "crash 2", "start 1", "start 3", "start 2", "look 2 1 a A"]
+        lines = [
+            *TWO,
+            "crash 2",
+            "create 1 1 a",
+            "dump 2 1",
+            "crash 2",
+            "start 1",
+            "start 3",
+            "start 2",
+            "look 2 1 a A",
+        ]
         lines += ["crash 1 create 2 1 b"]
         said = self.session(f"{self.room}/cell", lines)
         assert said[6:8] == ["house 2 is killed", "ok 1@00000000000a posted 2"], said[6:8]
@@ -87,7 +98,9 @@ class OfCells(HouseTest):
             "end 0",
             "house 2 would do that",
         ], said[8:]
-        said = self.session(f"{self.room}/cell", ["crash 1 epoch 1 1 2", "epoch 1 1 2", "start 1", "epoch 1 1 2", "look 2 1 a A"])
+        said = self.session(
+            f"{self.room}/cell", ["crash 1 epoch 1 1 2", "epoch 1 1 2", "start 1", "epoch 1 1 2", "look 2 1 a A"]
+        )
         done = [line for line in said if "last epoch 1 2 1:1:m 2:1:r" in line]
         due = "ok 3" if done else "ok 2"
         assert "start 1 first: whether it did epoch 1 2 1:1:m 2:1:r is not known" in said, said
@@ -157,7 +170,9 @@ class OfExplanations(HouseTest):
     def test_what_is_read_of_a_damaged_folder(self) -> None:
         """All records up to the first one that is not good are shown, and then what is wrong."""
         folder = self.worked()[1]
-        whole = subprocess.run([HOUSES, "--read", folder], capture_output=True, text=True, check=True).stdout.splitlines()
+        whole = subprocess.run(
+            [HOUSES, "--read", folder], capture_output=True, text=True, check=True
+        ).stdout.splitlines()
         path = f"{folder}/{journals.numbers(folder)[-1]}"
         with open(path, "r+b") as file:
             octets = file.read()
@@ -166,7 +181,10 @@ class OfExplanations(HouseTest):
             file.write(b"?")
         done = subprocess.run([HOUSES, "--read", folder], capture_output=True, text=True, check=False)
         said = done.stdout.splitlines()
-        assert (done.returncode, done.stderr) == (1, f"houses: {path} record {len(records) - 1}: the sum is another\n"), done
+        assert (done.returncode, done.stderr) == (
+            1,
+            f"houses: {path} record {len(records) - 1}: the sum is another\n",
+        ), done
         assert len(said) > 20 and said == whole[: len(said)] and whole[len(said)].split(" ")[1] == "clock", said[-3:]
 
     def test_explanation_of_what_no_console_did(self) -> None:
@@ -207,7 +225,12 @@ class OfExplanations(HouseTest):
     def test_explanation_of_altered_entries(self) -> None:
         houses = journals.houses_of(self.worked())
         every = [entry for own in houses.values() for entry in own]
-        for entry, at in [(entry, at) for entry in every if entry.number > 1 and entry.kind != "start" for at in range(len(entry.lines))]:
+        for entry, at in [
+            (entry, at)
+            for entry in every
+            if entry.number > 1 and entry.kind != "start"
+            for at in range(len(entry.lines))
+        ]:
             line, entry.lines[at] = entry.lines[at], other(entry.lines[at])
             try:
                 assert self.differences(houses), (entry.place, line)

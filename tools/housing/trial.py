@@ -1,4 +1,5 @@
-"""One run of houses: they work while the net and the disk are awful and the processes die; then all heals, and all is compared."""
+"""One run of houses: they work while the net and the disk are awful and the processes die; then all heals, and all is
+compared."""
 
 from __future__ import annotations
 
@@ -40,7 +41,8 @@ class Plan:
         self.fail = chance.choice([0, 0, 150])
         # Some houses have a full disk: so many octets at first.
         self.room = chance.choice([0, 0, 0, 60_000])
-        # After so many octets, and so many times those that it begins with, a segment is changed, where the program takes that.
+        # After so many octets, and so many times those that it begins with, a segment is changed, where the program
+        # takes that.
         self.segment = chance.choice([None, 1, 5_000, 20_000]) if args.small else None
         self.times = chance.choice([1, 2, 3])
         if args.steady:
@@ -108,7 +110,8 @@ class Trial:
                 house.kill()
 
     def round(self) -> int:
-        """Some houses get some lines each; one of them may be killed; all answers are read. Returns how many lines it was."""
+        """Some houses get some lines each; one of them may be killed; all answers are read. Returns how many lines it
+        was."""
         chosen = self.random.sample(list(self.houses.values()), self.random.randrange(1, len(self.houses) + 1))
         has_number = False
         for house in chosen:
@@ -183,7 +186,8 @@ class Trial:
         return found[1]
 
     def heal(self) -> None:
-        """All houses end and start; each directory gets an epoch and a skulk that nothing disturbs; then the dumps agree."""
+        """All houses end and start; each directory gets an epoch and a skulk that nothing disturbs; then the dumps
+        agree."""
         for house in self.houses.values():
             status = house.close()
             if status != 0 and status not in ENDS:
@@ -230,7 +234,9 @@ class Trial:
         for number, house in self.houses.items():
             turns = sum(entry.kind != "start" for entry in entries[number])
             if turns != house.turns + len(house.answered):
-                raise Difference(f"house {number}: {turns} turns in its journal, {house.turns + len(house.answered)} known")
+                raise Difference(
+                    f"house {number}: {turns} turns in its journal, {house.turns + len(house.answered)} known"
+                )
             self.count["turns"] += turns
             self.count["segments"] += len(journals.numbers(house.folder))
         explainer = explaining.explained(entries, self.asked)
@@ -259,7 +265,8 @@ class Trial:
         self.count["lines of cdsexplain"] += len(lines)
 
     def explain_beginnings(self, entries: explaining.Houses) -> None:
-        """The beginnings of all journals are explained, too, as far as no house took what only an entry left out posted."""
+        """The beginnings of all journals are explained, too, as far as no house took what only an entry left out
+        posted."""
         begun = {number: own[: self.random.randrange(1, len(own) + 1)] for number, own in entries.items()}
         explainer = explaining.Explainer(begun)
         try:
@@ -297,7 +304,9 @@ def shown_by(words: list[str], values: Values) -> list[str]:
     if words[0] == "look":
         due = values[name].get(words[3], [])
         return [*(f"value {value}" for value in due), f"end {len(due)}"]
-    lines = [[f"attr {attribute}", *(f"value {value}" for value in due)] for attribute, due in values[name].items() if due]
+    lines = [
+        [f"attr {attribute}", *(f"value {value}" for value in due)] for attribute, due in values[name].items() if due
+    ]
     return ["object", *(line for own in lines for line in own), "end"]
 
 

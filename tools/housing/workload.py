@@ -11,7 +11,17 @@ from housing.net import Net
 ATTRIBUTES = ["A", "Note", "CDS_Class"]
 NAMES = ["a", "b", "lpr", "x" * 40]
 MOST_DIRECTORIES = 5
-WRONG = ["take 0201", "bogus", "skulk", "house 9 0000000000ff", "root 1 1", "mkdir 1 q", "take 0g", "epoch 1 2 1:1:m -", "clock 01"]
+WRONG = [
+    "take 0201",
+    "bogus",
+    "skulk",
+    "house 9 0000000000ff",
+    "root 1 1",
+    "mkdir 1 q",
+    "take 0g",
+    "epoch 1 2 1:1:m -",
+    "clock 01",
+]
 
 
 class Job:
