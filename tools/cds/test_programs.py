@@ -5,6 +5,7 @@ from __future__ import annotations
 import os
 import tempfile
 import unittest
+from typing import Any
 from unittest import mock
 
 from cds import programs
@@ -29,7 +30,8 @@ class OfChoices(unittest.TestCase):
         with open(f"{self.tools}/build", "w", encoding="utf-8") as it:
             it.write(BUILD)
         os.chmod(f"{self.tools}/build", 0o755)
-        for patch in (mock.patch.object(programs, "ROOT", place.name), mock.patch.dict(os.environ)):
+        patches: tuple[Any, ...] = (mock.patch.object(programs, "ROOT", place.name), mock.patch.dict(os.environ))
+        for patch in patches:
             patch.start()
             self.addCleanup(patch.stop)
         os.environ.pop(SAID, None)
@@ -65,13 +67,12 @@ class OfChoices(unittest.TestCase):
     def test_a_failure_is_one(self) -> None:
         with open(f"{self.tools}/fails", "w", encoding="utf-8"):
             pass
-        for call in (
-            lambda: chosen("cdsmend"),
-            lambda: chosen("cdsmend", None, True),
-            lambda: proved("cdsmend", False),
-        ):
-            with self.assertRaises(NoProgram):
-                call()
+        with self.assertRaises(NoProgram):
+            chosen("cdsmend")
+        with self.assertRaises(NoProgram):
+            chosen("cdsmend", None, True)
+        with self.assertRaises(NoProgram):
+            proved("cdsmend", False)
 
 
 if __name__ == "__main__":

@@ -5,6 +5,7 @@ from __future__ import annotations
 import os
 import tempfile
 import unittest
+from typing import Any
 from unittest import mock
 
 from planting import copies
@@ -127,7 +128,8 @@ class OfTrials(unittest.TestCase):
         self.write("bin/rt", PROVER)
         os.chmod(f"{self.root}/bin/rt", 0o755)
         there = {"PATH": f"{self.root}/bin:{os.environ['PATH']}", "NOTED": f"{self.root}/noted"}
-        for patch in (mock.patch.object(copies, "ROOT", self.root), mock.patch.dict(os.environ, there)):
+        patches: tuple[Any, ...] = (mock.patch.object(copies, "ROOT", self.root), mock.patch.dict(os.environ, there))
+        for patch in patches:
             patch.start()
             self.addCleanup(patch.stop)
 
