@@ -5,7 +5,6 @@ from __future__ import annotations
 import os
 import tempfile
 import unittest
-from typing import Any
 from unittest import mock
 
 from cds import programs
@@ -30,10 +29,8 @@ class OfChoices(unittest.TestCase):
         with open(f"{self.tools}/build", "w", encoding="utf-8") as it:
             it.write(BUILD)
         os.chmod(f"{self.tools}/build", 0o755)
-        patches: tuple[Any, ...] = (mock.patch.object(programs, "ROOT", place.name), mock.patch.dict(os.environ))
-        for patch in patches:
-            patch.start()
-            self.addCleanup(patch.stop)
+        self.enterContext(mock.patch.object(programs, "ROOT", place.name))
+        self.enterContext(mock.patch.dict(os.environ))
         os.environ.pop(SAID, None)
 
     def words(self) -> list[str]:
@@ -67,10 +64,9 @@ class OfChoices(unittest.TestCase):
     def test_a_failure_is_one(self) -> None:
         with open(f"{self.tools}/fails", "w", encoding="utf-8"):
             pass
-        with self.assertRaises(NoProgram):
-            chosen("cdsmend")
-        with self.assertRaises(NoProgram):
-            chosen("cdsmend", None, True)
+        for is_to_be_proved in (False, True):
+            with self.assertRaises(NoProgram):
+                chosen("cdsmend", None, is_to_be_proved)
         with self.assertRaises(NoProgram):
             proved("cdsmend", False)
 

@@ -5,7 +5,6 @@ from __future__ import annotations
 import os
 import tempfile
 import unittest
-from typing import Any
 from unittest import mock
 
 from planting import copies
@@ -128,10 +127,8 @@ class OfTrials(unittest.TestCase):
         self.write("bin/rt", PROVER)
         os.chmod(f"{self.root}/bin/rt", 0o755)
         there = {"PATH": f"{self.root}/bin:{os.environ['PATH']}", "NOTED": f"{self.root}/noted"}
-        patches: tuple[Any, ...] = (mock.patch.object(copies, "ROOT", self.root), mock.patch.dict(os.environ, there))
-        for patch in patches:
-            patch.start()
-            self.addCleanup(patch.stop)
+        self.enterContext(mock.patch.object(copies, "ROOT", self.root))
+        self.enterContext(mock.patch.dict(os.environ, there))
 
     def write(self, path: str, text: str) -> None:
         with open(f"{self.root}/{path}", "w", encoding="utf-8") as it:
