@@ -352,6 +352,9 @@ impl Home {
         if size < octets.len() {
             return Err(At("Trailing", size as u64 + 1));
         }
+        if let Some(stamp) = message.later_own(home.node, home.floor) {
+            return Err(Refusal::Restored(stamp));
+        }
         let (said, letters) = home.take(message);
         Ok(match said {
             Said::Taken | Said::Complete(_) => Turn(said, letters.into_iter().collect()),
