@@ -17,8 +17,6 @@ pub enum Refusal {
     NotJoined(u64, u64),
     /// No stamp was left behind so many updates, which stay and posted these messages.
     Spent(usize, Posted),
-    /// A message has this stamp of the house's own node, which is later than its floor.
-    Restored(Stamp),
 }
 
 use Refusal::Because;

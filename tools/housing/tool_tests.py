@@ -228,6 +228,33 @@ def test_explanation_of_an_old_copy(room, kit):
     assert explained(kit, folders) == "took a message that no house posted"
 
 
+def test_a_house_that_was_put_back_from_an_old_copy(room, kit):
+    session(kit, f"{room}/cell", [*TWO, "create 1 1 a"])
+    shutil.copytree(f"{room}/cell/h1", f"{room}/copy")
+    said = session(kit, f"{room}/cell", ["create 1 1 b", "create 1 1 c", "delete 1 1 a", "skulk 1 1"])
+    assert said[-2] == "  8 to 1: ok complete 5@00000000000a posted 9", said
+    shutil.rmtree(f"{room}/cell/h1")
+    os.rename(f"{room}/copy", f"{room}/cell/h1")
+    said = session(kit, f"{room}/cell", ["create 1 1 d", "skulk 1 1", "skulk 1 1"])
+    # (the other house tells of the skulk that this one forgot)
+    assert [line for line in said if "Restored" in line] == [f"  {n} to 1: refused Restored 5@00000000000a" for n in (4, 6)], said
+    assert not any("complete" in line for line in said), said
+
+
+def test_a_house_with_the_node_of_another(room, kit):
+    os.makedirs(f"{room}/h")
+    join = "0207" + "00000001" + "01" + f"{1:016x}" + f"{9:016x}" + "02" + f"01{1:016x}01" + f"02{1:016x}03" + "00" * 9
+    update = "0201" + "00000001" + "01" + f"{1:016x}" + f"{9:016x}" + "0161" + "01" + f"{9:016x}" + "00000000000a" + "00" * 9
+    lines = ["house 2 00000000000a", *take_lines(update), *take_lines(join), *take_lines(update), "look 1 a A"]
+    process = Process(kit.program, f"{room}/h")
+    process.answer()
+    process.send(lines)
+    said = [process.answer()[-1] for _ in lines]
+    process.close()
+    # (a floor that another house raised hides it)
+    assert said == ["ok", "refused Restored 9@00000000000a", "ok taken", "ok taken", "end 0"], said
+
+
 def test_explanation_of_lost_segments(room, kit):
     folders = worked(room, kit)
     given(kit, folders[0], ["create 1 c"])

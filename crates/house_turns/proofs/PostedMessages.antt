@@ -1,5 +1,5 @@
 -- A house of a cell refuses no message that was posted to it before it asks the model.
-use Rattle.std.proofs.Common.{◌≡◌, ℕ, Bool, true, false, List, length, refl, sym, ap, subst, ◌∙◌, append-nil, arith}
+use Rattle.std.proofs.Common.{◌≡◌, ℕ, Bool, true, false, List, [], length, refl, sym, ap, subst, ◌∙◌, append-nil, arith}
 use Rattle.std.specs.Prelude.{Option, None, Result, Ok, Err, nat_lt}
 use Rattle.std.proofs.lemmas.Bool.Decides.{nat_tests}
 use Rattle.cds_stamps.specs.Outcomes.{Answers}
@@ -24,11 +24,11 @@ use Rattle.house_turns.proofs.Comes.{take_whole}
 -- octets that are the whole of a message are decoded to it
 whole_message : (octets : List ℕ) (m : Message) → IsWhole records.message m octets → decode_by records.message octets ≡ Ok (m, length octets)
 whole_message octets m whole =
-    go (decode_by records.message octets) ((decoding_decodes records.message octets).only m octets _ whole (sym (append-nil octets)))
+    go (decode_by records.message octets) ((decoding_decodes records.message octets).only m octets [] whole (sym (append-nil octets)))
   where
     go : (r : Result (Message × ℕ) RecordFault) → Answers (with_memory r) (Ok (m, length octets)) → r ≡ Ok (m, length octets)
     go (Ok x) is = sym is
-    go (Err f) is = sym is
+    go (Err f) is = absurd (cc)
 
 -- so a house takes it, or does not, by the model alone
 pub not_refused_early : (g : model.Cell) (m : model.Message) (c : Clearinghouse) (octets : List ℕ) → IsReached g → In m g.bag

@@ -1,2 +1,2 @@
-mod Given
-mod Carried
+pub mod Given
+pub mod Carried
