@@ -35,10 +35,10 @@ pub fn each_house_has_a_turn()
         → Responds h number line said h' → HasTurn h.home h.last → HasTurn h'.home h'.last }
 {}
 
-/// A house of a cell never answers that it was restored. Take a cell that commands of the model lead
-/// to, as those of each run of honest houses do, and a message that was posted to a house of it.
-/// Whenever the house takes the octets of that message, no refusal comes before the model's answer:
-/// each stamp of its node that the message has is one that it gave.
+/// A house of a cell never answers that it was restored. Take a cell that commands of the model
+/// lead to, as those of a run of honest houses do, and a message that was posted to a house of it.
+/// If the house takes the octets of that message, no refusal comes before the model's answer: each
+/// stamp of its node that the message has is one that it gave.
 pub fn no_posted_message_is_refused()
     ensures { (g : model.Cell) (m : model.Message) (c : Clearinghouse) (octets : List ℕ)
         → IsReached g → In m g.bag → has m.receiver g.made ≡ true

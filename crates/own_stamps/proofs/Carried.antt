@@ -1,5 +1,5 @@
--- Where no stamp of a node in a message of the model is later than a floor, none is in what stands
--- for it.
+-- If no stamp of a node in a message of the model is later than a floor, none is in a message that
+-- means it.
 use Rattle.std.proofs.Common.{◌≡◌, ℕ, ◌≤◌, Bool, true, false, List, [], ◌∷◌, Option, None, Some, inl, inr, refl, sym, ap, subst, ◌∙◌, ◌↔◌, arith}
 use Rattle.std.specs.Prelude.{◌&&◌, ◌||◌, not, ◌==◌, nat_lt, max, IfSome, if◌then◌else◌}
 use Rattle.std.specs.declared.cmp.Ordering.{Ordering}
@@ -31,7 +31,7 @@ use Rattle.purge_rule.specs.declared.replica.Replica.{Replica}
 use Rattle.purge_rule.specs.Latest.{greatest_of}
 use Rattle.purge_rule.specs.Replicas.{delta_in, replica_of}
 use Rattle.purge_rule.proofs.MapValues.{greatest_value-≤}
-use Rattle.purge_rule.proofs.Times.{join_of-holds}
+use Rattle.purge_rule.proofs.Times.{maybe-holds}
 use Rattle.cds_messages.specs.declared.message.Body.{Body}
 use Rattle.cds_messages.specs.declared.message.Body.TheVariants as body
 use Rattle.cds_messages.specs.declared.message.Message.{Message}
@@ -49,6 +49,12 @@ greater-holds P R x y p q = by_case (is_lt (R x y))
     by_case : (b : Bool) → P (if b then y else x)
     by_case true = q
     by_case false = p
+
+-- what holds of all that is joined holds of the join
+join_of-holds : {A X : Type 0} (P : X → Type 0) (f : X → X → X) → ((x y : X) → P x → P y → P (f x y)) → (g : A → Option X) (xs : List A)
+    → AllByRecursion (λ x. IfSome (g x) P) xs → IfSome (join_of f g xs) P
+join_of-holds P f keeps g [] h = tt
+join_of-holds P f keeps g (x ∷ xs) h = maybe-holds P f keeps (g x) (join_of f g xs) h.0 (join_of-holds P f keeps g xs h.1)
 
 -- ---- what holds of each stamp
 
@@ -336,7 +342,7 @@ module _ (node floor : ℕ) where
   none_later : (m : Message) → own_in_body node m.body ≤ floor → later_own node floor m ≡ None
   none_later m low = let test : nat_lt floor (own_in_body node m.body) ≡ false = grind (arith, low) in rw test refl
 
--- what stands for such a message has no later one
+-- a message that means such a one has no later stamp
 pub not_later : (node floor to : ℕ) (message : Message) (m : model.Message) → StandsMessage to message m → NoneIsLater node floor m
     → later_own node floor message ≡ None
 not_later node floor to message m stands none =

@@ -33,10 +33,10 @@ abbrev GaveIt : (all : List Command) (g : Cell) (t : Stamp) → ℕ → Type 0
 GaveIt all g t h = (home_of (replay all) t.node ≡ h) × (t.time ≤ (g.house h).floor)
 
 module _ (all early late : List Command) (c : Command) (whole : early ++ c ∷ late ≡ all) where
-  now : Cell
+  abbrev now : Cell
   now = replay early
 
-  then : Cell
+  abbrev then : Cell
   then = (outcome now c).cell
 
   -- the act that completes a skulk is one of the house that gave its stamp
@@ -74,7 +74,7 @@ module _ (all early late : List Command) (c : Command) (whole : early ++ c ∷ l
 -- ---- each stamp of a message
 
 module _ (all : List Command) where
-  last : Cell
+  abbrev last : Cell
   last = replay all
 
   at_home : (x : ℕ) → has x last.made ≡ true → home_of last (last.house x).node ≡ x

@@ -18,8 +18,8 @@ pub record NoneIsLater (node floor : ℕ) (m : Message) : Type 0 where
   pub all_up_to : (t : Stamp) → up_to_in m.body ≡ Some t → IsKnown node floor t
   pub round : (t : Stamp) → round_of m.body ≡ Some t → IsKnown node floor t
 
--- so is each message of a cell, whichever house was made: each stamp of its node is one that it gave
--- (own)
+-- so is each message of a cell for each house that was made: it gave the stamps of its node, and
+-- its floor is not below them (own)
 abbrev pub HousesGaveTheirs : Cell → Type 0
 HousesGaveTheirs g =
     (m : Message) (x : ℕ) → In m g.bag → has x g.made ≡ true

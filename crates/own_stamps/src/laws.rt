@@ -14,7 +14,7 @@ pub fn houses_gave_their_stamps()
     ensures { (g : model.Cell) → IsReached g → HousesGaveTheirs g }
 {}
 
-/// What stands for such a message has none either.
+/// So no house finds such a stamp in a message that means one of these.
 pub fn no_house_is_restored()
     ensures { (node floor to : ℕ) (message : Message) (m : model.Message)
         → StandsMessage to message m → NoneIsLater node floor m
