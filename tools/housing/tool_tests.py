@@ -228,17 +228,30 @@ def test_explanation_of_an_old_copy(room, kit):
     assert explained(kit, folders) == "took a message that no house posted"
 
 
+def put_back(room, kit, house, lines, *options):
+    """What a cell says of lines after the folder of a house was put back. The house made two entries since, which a skulk brought to both."""
+    cell = f"{room}/{house}{''.join(options)}"
+    session(kit, cell, ["house 1 00000000000a", "house 2 00000000000b", "root 1 s2", "create 1 1 a"], *options)
+    shutil.copytree(f"{cell}/h{house}", f"{cell}/copy")
+    said = session(kit, cell, [f"create {house} 1 b", f"create {house} 1 c", "skulk 1 1", "audit 1"], *options)
+    assert said[-1].startswith("1 2: agree 1 ") and "ok complete" in said[-3], said
+    shutil.rmtree(f"{cell}/h{house}")
+    os.rename(f"{cell}/copy", f"{cell}/h{house}")
+    return session(kit, cell, lines, *options)
+
+
 def test_a_house_that_was_put_back_from_an_old_copy(room, kit):
-    session(kit, f"{room}/cell", [*TWO, "create 1 1 a"])
-    shutil.copytree(f"{room}/cell/h1", f"{room}/copy")
-    said = session(kit, f"{room}/cell", ["create 1 1 b", "create 1 1 c", "delete 1 1 a", "skulk 1 1"])
-    assert said[-2] == "  8 to 1: ok complete 5@00000000000a posted 9", said
-    shutil.rmtree(f"{room}/cell/h1")
-    os.rename(f"{room}/copy", f"{room}/cell/h1")
-    said = session(kit, f"{room}/cell", ["create 1 1 d", "skulk 1 1", "skulk 1 1"])
+    said = put_back(room, kit, 1, ["create 1 1 d", "skulk 1 1"])
     # (the other house tells of the skulk that this one forgot)
-    assert [line for line in said if "Restored" in line] == [f"  {n} to 1: refused Restored 5@00000000000a" for n in (4, 6)], said
+    assert said[-1] == "  4 to 1: refused Restored 4@00000000000a", said
     assert not any("complete" in line for line in said), said
+
+
+def test_a_house_that_was_put_back_and_does_not_notice(room, kit):
+    for house, options, fault in [(1, ["--clock"], "1 2: differ 1 2 birth b "), (2, [], "1 2: differ 1 1 birth b 2@00000000000b")]:
+        said = put_back(room, kit, house, ["skulk 1 1", "audit 1", "audit x", "audit 2"], *options)
+        assert "ok complete" in said[-5] and not any("Restored" in line for line in said), said
+        assert said[-3].startswith(fault) and said[-2:] == ["audit D", "1 2: refused NoReplica 1"], said
 
 
 def test_a_house_with_the_node_of_another(room, kit):

@@ -69,7 +69,7 @@ module _ (all early late : List Command) (c : Command) (whole : early ++ c ∷ l
       let plain = (step_onward now c (run_onward early empty_cell empty_plain).plain).plain in
       let cell : replay_from then late ≡ replay all = sym (replay-append early (c ∷ late) empty_cell) ∙ ap replay whole in
       let rest : Onward then (replay all) = subst (λ (z : Cell). Onward then z) cell (run_onward late then plain) in
-      (w.0, w.1.0, le_trans w.1.1 (rest.rises w.0))
+      (w.0, (w.1.0, le_trans w.1.1 (rest.rises w.0)))
 
 -- ---- each stamp of a message
 
