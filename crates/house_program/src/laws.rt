@@ -5,6 +5,7 @@ ghost use Rattle.house_runs.specs.Runs.{AreOfCell};
 ghost use Rattle.house_program.specs.Files.{Files};
 ghost use Rattle.house_program.specs.HouseCells.{AreHouseFolders, IsLeft, segments_of};
 ghost use Rattle.house_program.specs.HouseFolders.{IsHouseFolder};
+ghost use Rattle.house_program.specs.Restarts.{IsTakenUp};
 
 use crate::folder::Folder;
 use house_runs::running_houses_are_cells;
@@ -23,3 +24,11 @@ pub fn houses_that_run_are_cells<F: Folder>()
 {
     running_houses_are_cells();
 }
+
+/// A house starts again. Take a folder as above, whatever crashes left there: its last file is a
+/// segment of this version, and a house goes on from it, unless it does other than the records say.
+/// So `run` ends with 9 or 11 over it only if a call of the folder failed. The one exception is a
+/// crash that makes up a record after the last one, which ends in the digest of that one.
+pub fn a_house_starts_again<F: Folder>()
+    ensures { (files : Files) → IsLeft F.kept F.left_ever files → IsTakenUp files }
+{}
