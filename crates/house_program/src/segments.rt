@@ -26,7 +26,7 @@ use std::alloc::Global;
 
 // A segment is changed for the next one once it has so many octets, and three times as many as it
 // began with.
-const MOST_SEGMENT: u64 = 4_194_304;
+pub(crate) const MOST_SEGMENT: u64 = 4_194_304;
 
 /// A segment that is to be made: its number, the digest before it, its first record, and what the
 /// house says once it has its number.
