@@ -116,8 +116,8 @@ abbrev pub IsOver : {H : Type 0} → (responds : H → ℕ → List ℕ → Said
 IsOver responds number at over = (over ≡ []) ⊎ IsNextLine responds number at over
 
 -- the record of one more line, which was taken, has no room after these bodies (own)
-pub record LacksRoom {H : Type 0} (responds : H → ℕ → List ℕ → Said → H → Type 0) (number : ℕ)
-    (at : H) (over : List (List ℕ)) (one : List ℕ) (bodies : List (List ℕ)) : Type 0 where
+pub record LacksRoom {H : Type 0} (responds : H → ℕ → List ℕ → Said → H → Type 0)
+    (number : ℕ) (at : H) (over : List (List ℕ)) (one : List ℕ) (bodies : List (List ℕ)) : Type 0 where
   pub next : IsNextLine responds number at over
   pub line : one ≡ next.line ++ 10 ∷ []
   pub large : 2 ^ 40 < size_with (bodies ++ over)
@@ -136,7 +136,7 @@ pub record Served {H D : Type 0} (responds : H → ℕ → List ℕ → Said →
   pub work : Work responds g before bodies (lines_so_far lines + 1) house (disk_of segment) (disk_of segment') run.written run.written' turns over text at
   pub read : GrowsByReading run.left run.left' (octets_ahead lines) (lines_text turns ++ (one ++ octets_ahead lines'))
   pub ends : EndsSo g before bodies segment' turns over last text at house' one lines' (lines_so_far lines + length turns + 1) run.left' ending
-  pub room : ending ≡ Full
-      → LacksRoom responds (lines_so_far lines + length turns + 1) at over one (bodies ++ bodies_of turns)
+  pub room : ending ≡ Full → LacksRoom responds (lines_so_far lines + length turns + 1) at over one
+      (bodies ++ bodies_of turns)
   pub counted : ending ≡ Grown → lines_so_far lines' ≡ lines_so_far lines + length turns
   pub cause : HasEndingCause run.reads run.reads' run.writes run.writes' (g.faults (disk_of segment)) (g.faults (disk_of segment')) ending
