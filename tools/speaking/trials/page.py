@@ -14,7 +14,7 @@ from speaking import console, pages, program
 def blocks():
     """The fenced blocks of the page."""
     with open(f"{pages.ROOT}/docs/TOOLS.md", encoding="ascii") as it:
-        return re.findall(r"(?ms)^```\n(.*?)^```$", it.read())
+        return re.findall(r"(?ms)^```console\n(.*?)^```$", it.read())
 
 
 def ran(path, folder, command):
