@@ -25,10 +25,10 @@ import time
 
 ROOT = os.path.dirname(os.path.dirname(os.path.realpath(__file__)))
 sys.dont_write_bytecode = True
-sys.path.insert(0, f"{ROOT}/tools/housing")
-import building
-from console import Console
-from processes import Process, take_lines
+sys.path.insert(0, f"{ROOT}/tools")
+from cds.processes import Process, take_lines
+from cds.programs import plain_house
+from housing.console import Console
 
 TIME = shutil.which("time")
 HOUSES = range(1, 6)
@@ -153,7 +153,7 @@ def main():
     parser.add_argument("programs", nargs="+", metavar="NAME=PROGRAM")
     args = parser.parse_args()
     programs = [(name, shutil.which(path) or os.path.abspath(path)) for name, _, path in (word.partition("=") for word in args.programs)]
-    house = os.path.abspath(args.house) if args.house else building.compiled("bench/house.rs", "out/plain-house")
+    house = plain_house(args.house)
     times, counts = [], []
     with tempfile.TemporaryDirectory(dir="/dev/shm" if os.access("/dev/shm", os.W_OK) else None) as room:
         folders, octets = made(house, args.entries, room)

@@ -32,9 +32,9 @@ import time
 
 ROOT = os.path.dirname(os.path.dirname(os.path.realpath(__file__)))
 sys.dont_write_bytecode = True
-sys.path.insert(0, f"{ROOT}/tools/housing")
-import journals
-from processes import Process
+sys.path.insert(0, f"{ROOT}/tools")
+from cds import journals
+from cds.processes import Process
 
 TIME = shutil.which("time")
 

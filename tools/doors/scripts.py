@@ -12,11 +12,11 @@ import tempfile
 import time
 from collections.abc import Callable, Iterable, Iterator
 
-from housing.building import ROOT
+from building.sources import ROOT
+from cds.answers import answers_of
+from cds.processes import ENDS, Process, take_lines
 from housing.console import Console
 from doors.lines import ASKS, PLANS
-from housing.processes import ENDS, Process, take_lines
-from housing.replaying import answers_of
 from running.case_files import all_cases
 
 # What a house does by itself: the words after the house are those of its own line.

@@ -15,8 +15,8 @@ from doors.test_lines import MESSAGE
 from doors.trials.machines import MACHINES, Machines
 from doors.trials.nets import Namespaces
 from doors.trials.transports import Ssh, Tcp, Tls
-from housing import building
-from housing.processes import ENDS
+from cds.processes import ENDS
+from cds.programs import compiled
 
 INTERFACE = "a0000000-0000-0000-0000-000000000001:1.0"
 LONGEST = 30.0
@@ -70,7 +70,7 @@ class TransportTest(unittest.TestCase):
             self.skipTest(f"rustc or {self.kind.name} is not there")
         room = tempfile.TemporaryDirectory(dir="/dev/shm" if os.access("/dev/shm", os.W_OK) else None)
         self.addCleanup(room.cleanup)
-        house, clerk = building.compiled("bench/house.rs", "out/plain-house"), executables.clerk()
+        house, clerk = compiled("bench/house.rs", "out/plain-house"), executables.clerk()
         self.machines = Stranger(room.name, house, clerk, 3.0, not Namespaces.are_allowed(), self.kind)
         self.addCleanup(self.machines.close)
         self.machines.begin()

@@ -3,53 +3,24 @@
 import collections
 import re
 
-WALK = "RootName Unreachable NoSuchName NotDirectory TooManyLinks NameTooLong LinkCycle"
-# What a house that has to act may be refused, and what speaks against an update of an entry.
-ACTS = "NoDirectory NoHouse Down NoReplica NotMaster"
-UPDATES = f"ok {ACTS} StampsSpent"
-SERVICE = f"ok {WALK} NotObject StampsSpent"
+from cds.answers import REFUSALS
 
+# What each command is answered if it is not refused: its first word.
+DONE = {
+    "skulk": "ok complete",
+    "deliver": "",
+    "import": "binding end",
+    "dump": "dump",
+    # (by whether the step was done, was answered as it is without a stop, or was refused)
+    "stop": "before after done refused",
+    "grouplist": "member end",
+    "entrylist": "interface object end",
+    "proflist": "element end",
+    "lookup": "batch binding end",
+}
 # The answers of each command: `ok`, or why it is refused.
 ANSWERS = {
-    "house": "ok HouseExists",
-    "clock": "ok NoHouse",
-    "root": "ok DirectoryExists NoHouse BadMembers Down",
-    "mkdir": f"{UPDATES} BadMembers EntryExists",
-    "repoint": f"{UPDATES} BadMembers NoSuchEntry WrongKind",
-    "create": f"{UPDATES} EntryExists",
-    "link": f"{UPDATES} EntryExists",
-    "delete": f"{UPDATES} NoSuchEntry WrongKind",
-    "add": f"{UPDATES} NoSuchEntry WrongKind",
-    "remove": f"{UPDATES} NoSuchEntry WrongKind",
-    "put": f"{UPDATES} NoSuchEntry WrongKind",
-    "clear": f"{UPDATES} NoSuchEntry WrongKind",
-    "epoch": "ok NoDirectory NoHouse BadMembers NotMember Down NoReplica NotJoined",
-    "skulk": f"ok complete {ACTS} StampsSpent",
-    "deliver": "NoMessage Down",
-    "lose": "ok NoMessage",
-    "crash": "ok NoHouse Down",
-    "start": "ok NoHouse Up",
-    "read": f"ok NoHouse {WALK}",
-    "readlink": f"ok NoHouse {WALK} NotLink",
-    "export": f"{SERVICE} NothingToExport",
-    "unexport": f"{SERVICE} NothingToUnexport",
-    "groupadd": SERVICE,
-    "groupdel": f"{SERVICE} NoSuchMember",
-    "profadd": f"{SERVICE} BadPriority ElementTooLong",
-    "profdel": f"{SERVICE} NoSuchElement",
-    "import": f"binding end NoHouse {WALK} NotObject",
-    "dump": "dump NoDirectory NoHouse Down NoReplica",
-    "octets": "ok NoMessage NoHouse",
-    "decode": "ok Short BadTag BadLength BadName OutOfOrder BadFlag NotAbove",
-    # What other forms have: `stop` by whether the step was done, was answered as it is without a stop, or was refused, and reads by a
-    # clerk.
-    "image": "ok NoHouse",
-    "stop": "before after done NoHouse NoMessage NotActing refused",
-    "read by clerk": f"ok NoHouse {WALK} Vanished",
-    "grouplist": f"member end NoHouse {WALK} NotObject",
-    "entrylist": f"interface object end NoHouse {WALK} NotObject",
-    "proflist": f"element end NoHouse {WALK} NotObject",
-    "lookup": f"batch binding end NoHouse {WALK} NotObject",
+    **{command: f"{DONE.get(command, 'ok')} {reasons}" for command, reasons in REFUSALS.items()},
     # A delivery by the kind of its message. An Update and a Gather alone can be early, since all else comes after an answer of its
     # receiver in that epoch, and a house goes back to no earlier one.
     "deliver Update": "taken late early noreplica",

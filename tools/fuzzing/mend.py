@@ -30,7 +30,7 @@ from collections import Counter
 ROOT = os.path.dirname(os.path.dirname(os.path.dirname(os.path.realpath(__file__))))
 sys.dont_write_bytecode = True
 sys.path.insert(0, f"{ROOT}/tools")
-from building.choosing import NoProgram, chosen  # noqa: E402
+from cds.programs import NoProgram, chosen  # noqa: E402
 FOUND = f"{ROOT}/out/fuzz-input"
 SECONDS = 60
 LAST_TIME = 2**64 - 1

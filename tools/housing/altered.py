@@ -5,10 +5,10 @@ import os
 import random
 import shutil
 
-import journals
+from cds import journals
 from doors.prompt import Cell
-from net import Net
-from processes import Process, take_lines
+from housing.net import Net
+from cds.processes import Process, take_lines
 
 # What the houses of the cell do. Of the messages some are lost, and some come later.
 SESSION = """

@@ -4,13 +4,13 @@ import itertools
 import re
 import subprocess
 
-import building
-import explaining
-import journals
-import replaying
-from altered import ROWS, Alterations
+from building.sources import ROOT
+from housing import explaining
+from cds import journals
+from cds.answers import answers_of
+from housing.altered import ROWS, Alterations
 
-PAGE = f"{building.ROOT}/tools/housing/README.md"
+PAGE = f"{ROOT}/tools/housing/README.md"
 UNEXPLAINED = "# unexplained: "
 FOLDER = re.compile(r"folder (\d+): ")
 # What comes of a case: the journals are explained; or what is told first is the entry that was altered, another one, or a folder.
@@ -78,7 +78,7 @@ def due(kit, entries):
 def first_difference(program, script):
     """The place of the first line of a script that is answered otherwise."""
     lines = "".join(f"{line}\n" for line, _ in script)
-    answers = replaying.answers_of(subprocess.run([program, "run"], input=lines.encode(), capture_output=True, check=False).stdout)
+    answers = answers_of(subprocess.run([program, "run"], input=lines.encode(), capture_output=True, check=False).stdout)
     for number, (_, own) in enumerate(script, 1):
         answer = answers.get(number, [""])
         if answer != own if own is not None else not answer[-1].startswith("ok"):

@@ -1,7 +1,8 @@
 """Bugs of the plain house that trials have to find: a check that finds none of them would show nothing."""
 import shutil
 
-import building
+from building.sources import ROOT
+from cds import programs
 
 SEGMENTS, TURNS, MAIN = "bench/plain/house_segments.rs", "bench/plain/house_turns.rs", "bench/house.rs"
 
@@ -83,7 +84,7 @@ TESTS = {
 def planted(bug, room):
     """A house with a bug, in a copy of bench/ of its own."""
     name, file, *edits = bug
-    shutil.copytree(f"{building.ROOT}/bench", f"{room}/bench")
+    shutil.copytree(f"{ROOT}/bench", f"{room}/bench")
     path = f"{room}/{file}"
     with open(path, encoding="utf-8") as it:
         text = it.read()
@@ -93,4 +94,4 @@ def planted(bug, room):
         text = text.replace(old, new)
     with open(path, "w", encoding="utf-8") as it:
         it.write(text)
-    return building.compiled("bench/house.rs", "out/house", root=room)
+    return programs.compiled("bench/house.rs", "out/house", root=room)

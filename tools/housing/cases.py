@@ -3,11 +3,11 @@ import os
 import re
 import tempfile
 
-import building
-from processes import Process
+from building.sources import ROOT
+from cds.processes import Process
 
-CASES = f"{building.ROOT}/tools/housing/house.case"
-PAGE = f"{building.ROOT}/docs/HOUSE.md"
+CASES = f"{ROOT}/tools/housing/house.case"
+PAGE = f"{ROOT}/docs/HOUSE.md"
 
 
 def of_file():

@@ -5,16 +5,16 @@ import re
 import shutil
 import subprocess
 
-import building
-import explaining
-import journals
-from processes import Process, take_lines
-from program_tests import loaded
-from tool_tests import given, session, worked
+from building.sources import ROOT
+from housing import explaining
+from cds import journals
+from cds.processes import Process, take_lines
+from housing.program_tests import loaded
+from housing.tool_tests import given, session, worked
 
 # The most lines of a script.
 MOST_LINES = 1 << 24
-EXAMPLE = f"{building.ROOT}/examples/killed"
+EXAMPLE = f"{ROOT}/examples/killed"
 UNEXPLAINED = "# unexplained: "
 
 

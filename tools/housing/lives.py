@@ -1,9 +1,9 @@
 """A house over its many lives: what it answered, and whether its journal and its next life say the same."""
 import os
 
-import journals
-from processes import Process
-from workload import Job
+from cds import journals
+from cds.processes import Process
+from housing.workload import Job
 
 # The statuses of a process that the disk ended: it lost its power (it aborts), or a call failed.
 NO_POWER, DISK_FAULT, KILLED = -6, 8, -9

@@ -11,23 +11,23 @@ import stat
 import subprocess
 import time
 
-import building
-import cases
-import journals
-import renewing
-from processes import Process, take_lines
+from building.sources import ROOT
+from housing import cases
+from cds import journals
+from housing import renewing
+from cds.processes import Process, take_lines
 
 MADE = ["house 1 00000000000a", "root 2", "create 1 a"]
 SAID = ["0 new", "1 ok", "2 ok", "3 ok 1@00000000000a"]
 # A folder of version 1.
-EARLIER = f"{building.ROOT}/tools/housing/earlier"
+EARLIER = f"{ROOT}/tools/housing/earlier"
 # A message at its longest, and the octets of a line of `more`.
 LONGEST_MESSAGE, PIECE = 16_777_216, 2037
 
 
 def loaded(tool):
     """A tool of this repository, as a module."""
-    loader = importlib.machinery.SourceFileLoader(tool.replace("-", "_"), f"{building.ROOT}/tools/{tool}")
+    loader = importlib.machinery.SourceFileLoader(tool.replace("-", "_"), f"{ROOT}/tools/{tool}")
     module = importlib.util.module_from_spec(importlib.util.spec_from_loader(loader.name, loader))
     loader.exec_module(module)
     return module

@@ -3,7 +3,7 @@ from __future__ import annotations
 
 import os
 
-import journals
+from cds import journals
 
 
 def body_of(record: journals.Record) -> bytes:

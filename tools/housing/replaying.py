@@ -1,14 +1,10 @@
 """Replays a script, and compares the answers with those that the journals have."""
+
+from __future__ import annotations
+
 import subprocess
 
-
-def answers_of(octets: bytes) -> dict[int, list[str]]:
-    """The answers of an output: the lines of each number without it."""
-    found: dict[int, list[str]] = {}
-    for line in octets.decode("ascii").splitlines():
-        number, _, text = line.partition(" ")
-        found.setdefault(int(number), []).append(text)
-    return found
+from cds.answers import answers_of
 
 
 def differences(program: str, script: list[tuple[str, list[str] | None]]) -> tuple[list[tuple[str, str, str]], int]:

@@ -4,15 +4,15 @@ import shutil
 import signal
 import subprocess
 
-import building
-import explaining
-import journals
-import replaying
-from console import Console
+from building.sources import ROOT
+from housing import explaining
+from cds import journals
+from housing import replaying
+from housing.console import Console
 from doors.ledger import Ledger
-from processes import Process, take_lines
+from cds.processes import Process, take_lines
 
-CELL, HOUSES = f"{building.ROOT}/tools/cell", f"{building.ROOT}/tools/houses"
+CELL, HOUSES = f"{ROOT}/tools/cell", f"{ROOT}/tools/houses"
 
 
 def session(kit, folder, lines, *options):

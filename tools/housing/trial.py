@@ -6,14 +6,14 @@ import shutil
 import subprocess
 import time
 
-import explaining
-import journals
-import replaying
-from console import Console
-from lives import DISK_FAULT, KILLED, NO_POWER, Difference, House
-from net import Net
-from processes import Silent
-from workload import Job, Workload, take_job
+from housing import explaining
+from cds import journals
+from housing import replaying
+from housing.console import Console
+from housing.lives import DISK_FAULT, KILLED, NO_POWER, Difference, House
+from housing.net import Net
+from cds.processes import Silent
+from housing.workload import Job, Workload, take_job
 
 # The refusals that a script gives, too.
 REFUSED = ("NoReplica", "NotMaster", "EntryExists", "NoSuchEntry", "WrongKind")

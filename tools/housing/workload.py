@@ -1,5 +1,5 @@
 """Random lines for houses: updates, skulks, messages, questions, wrong lines, and what the console has to number."""
-from processes import take_lines
+from cds.processes import take_lines
 
 ATTRIBUTES = ["A", "Note", "CDS_Class"]
 NAMES = ["a", "b", "lpr", "x" * 40]

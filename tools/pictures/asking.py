@@ -6,7 +6,7 @@ nothing; the answers to the script's own lines are compared with those of a run 
 import subprocess
 import tempfile
 
-from . import commands
+from cds import commands
 from .facts import Fault
 from .shapes import Undrawable
 

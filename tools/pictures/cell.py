@@ -3,7 +3,7 @@
 What an answer does not say follows from the commands before it: which houses get the messages that it posts, what these messages are,
 and what a house holds once it has taken one.
 """
-from .commands import COMMANDS, SERVICES, UPDATES
+from cds.commands import COMMANDS, SERVICES, UPDATES
 from .facts import Epoch, Fault, Message, Rise, Skulk, numbers, order, plural, secondary
 from .walks import Walks
 

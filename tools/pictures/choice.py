@@ -1,5 +1,5 @@
 """Which steps of a replay a picture has: those between two lines, of a directory, of houses, of an entry, or of a message."""
-from . import commands
+from cds import answers, commands
 from .shapes import Undrawable
 
 MOST_STEPS = 20_000
@@ -44,7 +44,7 @@ class Choice:
         members = {house for epoch in replay.epochs[self.dir] for house in epoch.members}
 
         def is_of(step):
-            is_of_house = step.command in commands.OF_HOUSES or step.outcome in commands.STOPS.values()
+            is_of_house = step.command in commands.OF_HOUSES or step.outcome in answers.STOPS.values()
             return self.dir in step.dirs or is_of_house and step.house in members
 
         return is_of

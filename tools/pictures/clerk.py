@@ -2,7 +2,7 @@
 
 Each read is answered here too, and where the program answers otherwise the list is given up.
 """
-from . import commands
+from cds import commands
 from .facts import numbers
 
 LONGEST_NAME = 1023

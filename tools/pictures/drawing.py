@@ -1,7 +1,7 @@
 """Draws what happened in a replay as one SVG: houses as lines from left to right, steps as marks on them, messages as arrows."""
 import math
 
-from . import commands
+from cds import records
 from .clerks import Clerked
 from .facts import plural
 from .rows import EDGE, LEAST, MARK, OVERHANG, SLOPE
@@ -12,7 +12,7 @@ ROOM = 1_500  # for a heading, and for what is another place where a part begins
 # What the legend says, by groups; the messages begin with their kinds.
 LEGEND = {
     "messages": {
-        **{kind: kind for kind in commands.KINDS},
+        **{kind: kind for kind in records.KINDS},
         "lost": "lost",
         "pale": "never delivered",
         "elsewhere": "goes on elsewhere",
@@ -100,7 +100,7 @@ class Picture(Clerked):
         lines = f"line {first}" if first == last else f"lines {first} to {last}"
         shapes = [text(EDGE, 24, f"{short(self.name, 60)}: {lines}{self.choice.words()}", "title ink")]
         shapes.append(text(EDGE, 43, self.counts(), "dim"))
-        message = next((it for it in commands.KINDS if it in self.used), "Update")
+        message = next((it for it in records.KINDS if it in self.used), "Update")
         y = 46
         if any(it.command in ("import", "lookup") for it in self.steps):
             shapes.append(text(EDGE, 60, "--names draws the tree of its names", "dim"))

@@ -1,5 +1,5 @@
 """The names of a cell at a line of the script: entries with what they have, and the order of a search."""
-from . import commands
+from cds import commands
 
 
 class Entry:

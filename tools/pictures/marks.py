@@ -1,5 +1,5 @@
 """What a picture in time has but arrows: houses as lines, steps as marks on them, skulks, epochs, rises of AllUpTo."""
-from . import commands
+from cds import answers, commands
 from .layout import Layout
 from .rows import EDGE, LANE, LEVEL, MARK, OVERHANG, SLOPE
 from .shapes import badge, bolt, circle, line, number, rect, text, titled, width_of
@@ -120,7 +120,7 @@ class Marks(Layout):
         kind = step.message.kind if is_delivery else "step"
         radius = MARK / 2 if is_delivery else 2
         fill = "full"
-        is_stopped = step.outcome in commands.STOPS.values()
+        is_stopped = step.outcome in answers.STOPS.values()
         if is_stopped:
             fill = "full" if step.is_done() else "hollow"
         elif is_delivery and not step.has_changed:

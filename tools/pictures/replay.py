@@ -2,7 +2,8 @@
 import re
 
 from .cell import STEPS, Replay
-from .commands import ANSWERS, COMMANDS, FAULT, FORMS, LONG, NEED_NO_HOUSE, PLACES, QUESTIONS, REASONS, REFUSED, SERVICES, STOP, STOPPED, STOPS
+from cds.answers import ANSWERS, FAULT, LONG, REASONS, REFUSED, STOPS
+from cds.commands import COMMANDS, LINES, NEED_NO_HOUSE, PLACES, QUESTIONS, SERVICES, STOP, STOPPED
 from .facts import Fault, Step, numbers
 
 
@@ -33,7 +34,7 @@ def steps_of(script, first=1):
             if command not in COMMANDS:
                 raise Fault("script", number, f"there is no command `{command[:40]}`")
             # Most lines have one space between words, and no other.
-            found = FORMS[command].fullmatch(line) or FORMS[command].fullmatch(" ".join(line.split()))
+            found = LINES[command].fullmatch(line) or LINES[command].fullmatch(" ".join(line.split()))
             if not found:
                 raise Fault("script", number, f"it has not the form `{command} {COMMANDS[command]}`")
             yield number, command, found.groups(), found.string if stop is None else " ".join(text.split()), stop

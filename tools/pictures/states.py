@@ -1,5 +1,7 @@
 """What each house has after each step of a replay, as the program answers it, in differences from step to step."""
-from . import asking, octets
+from cds import octets
+
+from . import asking
 
 
 class House:

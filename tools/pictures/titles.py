@@ -1,5 +1,5 @@
 """The words of a picture: hover texts, and what is above the columns."""
-from . import commands
+from cds import commands
 from .shapes import end_of, short
 
 LONGEST_LABEL, LONGEST_READ, LONGEST_LINE, MOST_LINES = 24, 36, 160, 12

@@ -1,5 +1,5 @@
 """Walks of full names over what a script made, for the commands that name no house."""
-from .commands import MOST_LINKS
+from cds.commands import MOST_LINKS
 from .facts import Entry
 
 

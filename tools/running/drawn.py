@@ -9,6 +9,7 @@ import re
 import subprocess
 import tempfile
 
+from cds.commands import words_of
 from running.runs import ROOT, SECONDS, Run, difference, open_octets, status_of
 
 PICTURE = f"{ROOT}/tools/picture"
@@ -60,7 +61,7 @@ class Example:
     def fault(self, program):
         """Returns what differs, or None."""
         octets = [open_octets(it) for it in (self.script, self.picture)]
-        answers = subprocess.run([program, *picture_tool().words_of(octets[0])], input=octets[0], stdout=subprocess.PIPE, timeout=SECONDS).stdout
+        answers = subprocess.run([program, *words_of(octets[0])], input=octets[0], stdout=subprocess.PIPE, timeout=SECONDS).stdout
         ran = subprocess.run([PICTURE, self.script], input=answers, capture_output=True, timeout=SECONDS)
         if ran.stdout == octets[1]:
             return None
@@ -117,5 +118,5 @@ def of_examples():
     runs = []
     for name in examples():
         script, answers = (open_octets(f"{ROOT}/examples/{name}.{it}") for it in ("cds", "out"))
-        runs.append(Run(f"examples/{name}.cds", picture_tool().words_of(script), script, answers, status_of(answers)))
+        runs.append(Run(f"examples/{name}.cds", words_of(script), script, answers, status_of(answers)))
     return runs

@@ -2,7 +2,7 @@
 
 import random
 
-from running import records
+from cds import records
 from running.runs import Run
 
 NODES = "00000000000a", "00000000000b"

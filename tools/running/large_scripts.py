@@ -3,7 +3,7 @@
 import random
 from collections import OrderedDict
 
-from running import records
+from cds import records
 from running.lone_house import LoneHouse
 from running.runs import Limited, Run
 

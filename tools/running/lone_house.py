@@ -1,6 +1,6 @@
 """A cell of one house: what docs/SCRIPT.md says that its commands are answered, and what docs/FORMATS.md says that its image is."""
 
-from running import records
+from cds import records
 
 NODE = "00000000000a"
 

@@ -4,6 +4,7 @@ import re
 import subprocess
 import textwrap
 
+from cds.commands import COMMANDS, FORMS
 from pictures import replay as replays
 from speaking import desk, language, pages, program, show, texts, tokens, writing
 
@@ -37,10 +38,10 @@ class Console:
     def completions(self, text, line):
         """What a word may be."""
         if not line.strip() or line.strip() == text:
-            known = [*language.FORMS[self.cell.program.form[0]], *(it.split()[0] for it in OWN)]
+            known = [*FORMS[self.cell.program.form[0]], *(it.split()[0] for it in OWN)]
         else:
             known = [*self.cell.names.houses, *self.cell.names.directories]
-            known += language.COMMANDS if line.split()[0] == "help" else ["all", "through", "but", "to", "low", "high"]
+            known += COMMANDS if line.split()[0] == "help" else ["all", "through", "but", "to", "low", "high"]
         return sorted({f"{it} " for it in known if it.startswith(text)})
 
     def take(self, line):
@@ -88,19 +89,19 @@ class Console:
     def help(self, words):
         """Says what there is, or what a command does."""
         if not words:
-            known = " ".join(language.FORMS[self.cell.program.form[0]])
+            known = " ".join(FORMS[self.cell.program.form[0]])
             self.say(f"Commands of the cell: {known}. `help COMMAND` explains one.")
             for name, what in OWN.items():
                 self.say(f"  {name:<24}{what}")
             self.say("Houses may have names (`house a_ch b_ch`), and values may be texts in quotes: `tools/write --help` has it all.")
             return
         command = tokens.command_of(words[0])
-        if command not in language.COMMANDS:
+        if command not in COMMANDS:
             known = next((f"{name}: {what}" for name, what in OWN.items() if name.split()[0] == words[0]), None)
             self.say(known or f"There is no command `{words[0]}`. `help` lists all.")
             return
         self.say(f"{language.pattern(command)}: {pages.commands().get(command, '')}")
-        for kind in dict.fromkeys(language.COMMANDS[command].split()):
+        for kind in dict.fromkeys(COMMANDS[command].split()):
             what, form = pages.words().get(kind, ("", ""))
             self.say(f"  {kind}: {what}: {form}")
         for line in textwrap.wrap(pages.paragraph(command), self.width):

@@ -2,9 +2,9 @@
 import copy
 import re
 
+from cds.commands import FORMS
 from pictures import replay as replays
 from speaking import explain, findings, naming, post, program, refusals, talk, tokens
-from speaking.language import FORMS
 from speaking.tokens import Fault
 
 QUESTIONS = replays.QUESTIONS

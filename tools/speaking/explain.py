@@ -1,4 +1,5 @@
 """A fault in words: the line, the word, what it should be, and the usual slip."""
+from cds.commands import COMMANDS, STOPPED
 from speaking import language, lines, pages, slips
 
 WIDEST = 160
@@ -87,14 +88,14 @@ def octets(it):
 
 def count(it, found, words):
     """A line with too few or too many words: marks the surplus, or the end."""
-    inner = words[4:] if words[0] == "stop" and len(words) > 4 and words[4] in language.STOPPED else words
+    inner = words[4:] if words[0] == "stop" and len(words) > 4 and words[4] in STOPPED else words
     least, most = language.expects(inner[0])
     first = len(words) - len(inner) + (most or least) + 1
     if len(words) > first:
         it.begin, it.end = found[first][1], found[-1][2]
     else:
         it.begin, it.end = len(it.text.rstrip()) + 1, len(it.text.rstrip()) + 2
-    kinds = dict.fromkeys(language.COMMANDS[inner[0]].split())
+    kinds = dict.fromkeys(COMMANDS[inner[0]].split())
     it.should = [language.pattern(inner[0]), *(f"  {row}" for kind in kinds for row in should_be(kind))]
     it.slip, better = lines.miscounted(inner)
     it.better = [" ".join([*words[: len(words) - len(inner)], line]) for line in better]

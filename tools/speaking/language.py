@@ -1,25 +1,6 @@
-"""The commands of the script, by form: which words each takes. `docs/SCRIPT.md` has what the words are."""
+"""What words of commands are, beside what `docs/SCRIPT.md` says of them, and which of them a line has."""
+from cds.commands import COMMANDS, FORMS, LISTS, STOPPED
 
-# What each command takes. `R..` and `H..` are any number of words, `COMMAND` is a command with its words.
-RUN = {
-    "house": "H NODE", "clock": "H TIME", "root": "M R..", "mkdir": "H D S M R..", "repoint": "H D S M H..",
-    "create": "H D S", "link": "H D S NAME", "delete": "H D S", "add": "H D S ATTR VALUE", "remove": "H D S ATTR VALUE",
-    "put": "H D S ATTR VALUE", "clear": "H D S ATTR", "epoch": "D M R..", "skulk": "H D", "deliver": "N", "lose": "N",
-    "crash": "H", "start": "H", "read": "H C NAME ATTR", "readlink": "H C NAME", "export": "NAME IF BS OS",
-    "unexport": "NAME IFN OS", "groupadd": "NAME NAME", "groupdel": "NAME NAME", "profadd": "NAME IFD NAME PRI NOTE",
-    "profdel": "NAME IFD NAME", "import": "H C NAME IF OBJ PS", "dump": "H D", "octets": "WHAT N", "decode": "OCTETS",
-}  # fmt: skip
-JOURNAL = {"image": "H", "stop": "H K W COMMAND"}
-INQUIRE = {
-    "grouplist": "H C NAME", "entrylist": "H C NAME", "proflist": "H C NAME KIND IFN VERS MBR",
-    "lookup": "H C NAME IF OBJ PS MAX",
-}  # fmt: skip
-COMMANDS = RUN | JOURNAL | INQUIRE
-# The forms that replay a script, with the commands that each knows.
-FORMS = {"run": RUN, "clerk": RUN, "journal": RUN | JOURNAL, "inquire": RUN | INQUIRE}
-LISTS = ("R..", "H..")
-# Inside which a house can lose its power.
-STOPPED = ("root", "repoint", "create", "link", "delete", "add", "remove", "put", "clear", "epoch", "skulk", "deliver")
 # The words of the forms `journal` and `inquire`, which the table of words in SCRIPT.md does not have.
 OTHER_WORDS = {
     "K": ("which of the four calls of the put fails", "a number from 1 to 4"),
@@ -42,7 +23,6 @@ FAULTS = {
     "WrongCount": "the line has too few words or too many",
     "BadWord": "this word has not the form that its place wants",
 }
-REFUSED_OCTETS = ("BadFlag", "BadLength", "BadName", "BadTag", "NotAbove", "OutOfOrder", "Short")
 
 
 def form_of(command):

@@ -5,8 +5,8 @@ Each answers what to do, and the lines to write in place of this one, or none wh
 import difflib
 import re
 
+from cds.commands import COMMANDS, FORMS, LISTS
 from speaking import language, texts
-from speaking.language import COMMANDS, FORMS
 
 # What other tools of a cell call the same.
 OTHERS = {
@@ -133,7 +133,7 @@ def octets_missing(word):
 def split(words):
     """One word was written as several."""
     command, rest, kinds = words[0], words[1:], COMMANDS[words[0]].split()
-    if kinds[-1] in language.LISTS or len(rest) <= len(kinds):
+    if kinds[-1] in LISTS or len(rest) <= len(kinds):
         return None
     if kinds[-1] == "VALUE":
         parts, front = rest[len(kinds) - 1 :], words[: len(kinds)]

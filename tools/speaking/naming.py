@@ -2,12 +2,11 @@
 import datetime
 import re
 
+from cds.commands import COMMANDS, SERVICES
 from speaking import texts
-from speaking.language import COMMANDS
 from speaking.tokens import Fault, Text
 
 STAMPED = ("mkdir", "repoint", "create", "link", "delete", "add", "remove", "put", "clear", "skulk", "stop")
-SERVICES = ("export", "unexport", "groupadd", "groupdel", "profadd", "profdel")
 
 
 class Names:

@@ -4,6 +4,7 @@ import os
 import pathlib
 import re
 
+from cds.commands import COMMANDS
 from speaking import language
 
 ROOT = os.path.dirname(os.path.dirname(os.path.dirname(os.path.realpath(__file__))))
@@ -58,7 +59,7 @@ def commands():
     for title in ("All commands", "`journal`", "`inquire`"):
         for cells in rows(title):
             for name in re.findall(r"`([a-z]+)[^`]*`", plain(cells[0])):
-                if name in language.COMMANDS:
+                if name in COMMANDS:
                     found.setdefault(name, plain(cells[1]))
     return found
 

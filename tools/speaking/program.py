@@ -2,9 +2,9 @@
 import re
 import subprocess
 
-from building import choosing
 from building.sources import ROOT  # noqa: F401
-from speaking import language
+from cds import programs
+from cds.commands import FORMS
 
 STATUSES = {1: "could not be built", 4: "could not read", 5: "could not write", 6: "ran out of memory", 7: "has a full journal"}
 
@@ -16,8 +16,8 @@ class Failed(Exception):
 def path(given, is_to_be_proved=False):
     """The path of the program: the one that is given, the proved one of these sources, or one that is not proved."""
     try:
-        return choosing.chosen("cdsreplay", given, is_to_be_proved)
-    except choosing.NoProgram as error:
+        return programs.chosen("cdsreplay", given, is_to_be_proved)
+    except programs.NoProgram as error:
         raise Failed("there is no program to ask") from error
 
 
@@ -53,7 +53,7 @@ def form_words(text):
     if words[:1] == ["clerk"]:
         good = len(words) == 2 and re.fullmatch("[1-9][0-9]{0,3}", words[1]) and int(words[1]) <= 1000
     else:
-        good = len(words) == 1 and words[0] in language.FORMS
+        good = len(words) == 1 and words[0] in FORMS
     return tuple(words) if good else None
 
 

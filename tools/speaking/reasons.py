@@ -4,9 +4,9 @@ Each answers sentences. Where nothing certain can be said, the general help of `
 """
 import difflib
 
+from cds.commands import COMMANDS
 from pictures import replay as replays
 from speaking import refusals
-from speaking.language import COMMANDS
 
 
 def since(replay, house):

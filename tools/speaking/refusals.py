@@ -1,6 +1,6 @@
 """What refusals and fruitless deliveries mean, and what helps. `docs/SCRIPT.md` has their causes."""
+from cds.answers import OF_OCTETS
 from speaking import pages
-from speaking.language import REFUSED_OCTETS
 
 # What helps, where nothing more is known than the refusal.
 HELP = {
@@ -38,7 +38,7 @@ HELP = {
     "Up": "`crash H` takes it down first.",
     "Vanished": "The clerk has kept the name from an earlier answer. `read` at `high` asks the master and not the clerk.",
     "WrongKind": "`CDS_LinkTarget` changes by `delete` and `link`, `CDS_Replicas` by `repoint`; a child can't be deleted.",
-} | {reason: "Take octets that `octets msg N` has printed; FORMATS.md says what is at this place." for reason in REFUSED_OCTETS}
+} | {reason: "Take octets that `octets msg N` has printed; FORMATS.md says what is at this place." for reason in OF_OCTETS}
 # Where `reasons` says what helps, if it knows the cause.
 HELPED = ("Down", "NoDirectory", "NoHouse", "NoReplica", "NotJoined", "NotMaster", "NotMember")
 # The answers to deliveries that change nothing.

@@ -2,8 +2,9 @@
 import difflib
 import re
 
+from cds.commands import STOPPED
 from speaking import numbers, texts
-from speaking.language import GREATEST, STOPPED
+from speaking.language import GREATEST
 from speaking.texts import UUID
 
 PROTOCOLS = {"tcp": "ncacn_ip_tcp", "udp": "ncadg_ip_udp", "ncacn_ip_udp": "ncadg_ip_udp", "ncadg_ip_tcp": "ncacn_ip_tcp"}

@@ -1,8 +1,8 @@
 """A line of an operator, in words: quoted texts, remarks, a time in front, a house in front."""
 import re
 
+from cds.commands import COMMANDS
 from speaking import texts
-from speaking.language import COMMANDS
 
 # Words of logs for commands.
 DONE = {

@@ -13,8 +13,9 @@ from collections.abc import Iterator
 from typing import Any
 
 from doors.trials.clients import Told
-from housing import explaining, journals
-from housing.replaying import answers_of
+from cds import journals
+from cds.answers import answers_of
+from housing import explaining
 
 # A place in the journals: the house, and the number of the entry before.
 Place = tuple[int, int]

@@ -10,6 +10,7 @@ import re
 import subprocess
 import sys
 
+from cds.commands import COMMANDS
 from speaking import findings, language, pages, program, refusals
 
 HERE = os.path.dirname(os.path.realpath(__file__))
@@ -78,15 +79,15 @@ def faults_of_the_page(path):
 def tables(_):
     """The tables of SCRIPT.md are found, and each refusal has help."""
     yield "words", None if {"H", "NODE", "VALUE", "R.."} <= set(pages.words()) else str(sorted(pages.words()))
-    lacking = [it for it in language.COMMANDS if it not in pages.commands()]
+    lacking = [it for it in COMMANDS if it not in pages.commands()]
     yield "what each command does", str(lacking) if lacking else None
-    lacking = [it for it in language.COMMANDS if it not in ("image",) and not pages.paragraph(it)]
+    lacking = [it for it in COMMANDS if it not in ("image",) and not pages.paragraph(it)]
     yield "paragraphs of commands", str(lacking) if lacking else None
     patterns = set(re.findall(r"(?m)^\| \[?`([a-z]+ [^`]*)`", pages.text()))
-    lacking = [it for it in language.COMMANDS if it != "octets" and language.pattern(it).replace("H..", "R..") not in patterns]
+    lacking = [it for it in COMMANDS if it != "octets" and language.pattern(it).replace("H..", "R..") not in patterns]
     yield "forms of commands", str(lacking) if lacking else None
     yield "help for each refusal", str(set(pages.refusals()) - set(refusals.HELP)) if set(pages.refusals()) - set(refusals.HELP) else None
-    kinds = {kind for taken in language.COMMANDS.values() for kind in taken.split()}
+    kinds = {kind for taken in COMMANDS.values() for kind in taken.split()}
     yield "rows of words", str(kinds - set(pages.words())) if kinds - set(pages.words()) else None
 
 

@@ -1,4 +1,7 @@
 """A house as a process: lines in, answers out."""
+
+from __future__ import annotations
+
 import os
 import select
 import signal
@@ -33,6 +36,7 @@ class Process:
 
     @property
     def status(self) -> int | None:
+        """The status with which it ended, or None while it runs."""
         return self.child.returncode
 
     def send(self, lines: list[str]) -> None:
@@ -83,6 +87,7 @@ class Process:
         return posts
 
     def kill(self) -> None:
+        """Kills it, if it runs."""
         if self.child.poll() is None:
             self.child.send_signal(signal.SIGKILL)
 

@@ -7,8 +7,8 @@ import tempfile
 import unittest
 from unittest import mock
 
-from building import choosing
-from building.choosing import SAID, NoProgram, chosen, proved
+from cds import programs
+from cds.programs import SAID, NoProgram, chosen, proved
 
 # Notes its words, and prints a path, unless the file `fails` is there.
 BUILD = """#!/bin/sh
@@ -29,7 +29,7 @@ class OfChoices(unittest.TestCase):
         with open(f"{self.tools}/build", "w", encoding="utf-8") as it:
             it.write(BUILD)
         os.chmod(f"{self.tools}/build", 0o755)
-        for patch in (mock.patch.object(choosing, "ROOT", place.name), mock.patch.dict(os.environ)):
+        for patch in (mock.patch.object(programs, "ROOT", place.name), mock.patch.dict(os.environ)):
             patch.start()
             self.addCleanup(patch.stop)
         os.environ.pop(SAID, None)

@@ -1,0 +1,54 @@
+"""How a tool begins and ends: its words by what its docstring says of them, its sum, and a reader of its output that goes away."""
+
+from __future__ import annotations
+
+import argparse
+import os
+import signal
+import sys
+from collections.abc import Callable
+from typing import NoReturn
+
+
+class Words(argparse.ArgumentParser):
+    """The words of a tool. `--help` prints its docstring, and a wrong word the lines of it that begin with the tool's path."""
+
+    def __init__(self, doc: str) -> None:
+        ways = [line.strip() for line in doc.split("\n\n")[1].splitlines()]
+        super().__init__(ways[0].split()[0], usage="\n       ".join(ways), allow_abbrev=False)
+        self.doc = doc
+
+    def format_help(self) -> str:
+        return f"{self.doc.strip()}\n"
+
+
+def summed(passed: int, failed: int) -> int:
+    """Prints how many things passed and failed, and returns the exit status."""
+    print(f"{passed} passed, {failed} failed")
+    return 1 if failed else 0
+
+
+def fail(tool: str, fault: object, status: int = 1) -> int:
+    """Says why a tool ends, and returns the exit status."""
+    print(f"{tool}: {fault}", file=sys.stderr)
+    return status
+
+
+def leave_output() -> None:
+    """What could not be written is not tried again at the end."""
+    os.dup2(os.open(os.devnull, os.O_WRONLY), 1)
+
+
+def run(main: Callable[[list[str]], int]) -> NoReturn:
+    """Runs a tool, and ends with its status. It ends quietly if nobody reads its output any more, or somebody interrupts it."""
+    try:
+        try:
+            status = main(sys.argv[1:])
+        finally:
+            sys.stdout.flush()
+    except BrokenPipeError:
+        leave_output()
+        status = 128 + signal.SIGPIPE
+    except KeyboardInterrupt:
+        status = 128 + signal.SIGINT
+    sys.exit(status)
