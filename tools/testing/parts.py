@@ -51,6 +51,8 @@ EXPLAINING = ("tools/house-tests", "--explainer", "{cdsexplain}")
 FOURTH = ("--every", "4")
 OVER_PROGRAMS = (
     Part("cases", "the cases, the examples of the pages, the wrappers", ("tools/cases", *REPLAYERS), (REPLAYER, MENDER), 0.7),
+    Part("commands", "the commands of the pages, each page in a fresh copy",
+         ("tools/testing/page-commands", *(f"{{{it}}}" for it in PROGRAMS)), PROGRAMS, 0.5),
     Part("tools", "tools/why, tools/write and tools/console, as a user runs them", ("tools/try-tools", "--program", "{cdsreplay}"), (REPLAYER,), 0.6),
     Part("pages", "the pages of tools/picture in a browser", ("tools/try-page", "{cdsreplay}"), (REPLAYER,), 2.1),
     Part("random", "random scripts, octets and mended cells against the plain program, for 20 seconds",
