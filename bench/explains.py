@@ -3,14 +3,15 @@
 
     explains.py [--runs K] [--entries N] [--instructions E] [--house PATH] NAME=PROGRAM [NAME=PROGRAM ..]
 
-Five houses work until their journals have N entries (100,000): processes of --house, without which it is the plain house of bench/, which
-`rustc` compiles. Three of them accept updates of 16 entries of a directory, and all take what that posts; each thousand entries a skulk is
-complete, each five thousand a house starts again, and each ten thousand an epoch changes the list. Then each program explains the folders,
-K times (3), one run at a time; the fastest counts. Each line has the entries and the MB that it took in one second, the processor time, and
-the greatest peak of memory. The programs have to write the same script, with status 0.
+Five houses work until their journals have N entries (100,000): processes of --house, without which it is the plain
+house of bench/, which `rustc` compiles. Three of them accept updates of 16 entries of a directory, and all take what
+that posts; each thousand entries a skulk is complete, each five thousand a house starts again, and each ten thousand an
+epoch changes the list. Then each program explains the folders, K times (3), one run at a time; the fastest counts. Each
+line has the entries and the MB that it took in one second, the processor time, and the greatest peak of memory. The
+programs have to write the same script, with status 0.
 
-With --instructions the instructions are counted, too, by valgrind, of journals of N / E entries. The last lines are the ratios of the first
-program to the last. The folders are in memory (/dev/shm), if they can be.
+With --instructions the instructions are counted, too, by valgrind, of journals of N / E entries. The last lines are the
+ratios of the first program to the last. The folders are in memory (/dev/shm), if they can be.
 """
 import argparse
 import os
@@ -28,7 +29,7 @@ sys.dont_write_bytecode = True
 sys.path.insert(0, f"{ROOT}/tools")
 from cds.processes import Process, take_lines
 from cds.programs import plain_house
-from housing.console import Console
+from cds.console import Console
 
 TIME = shutil.which("time")
 HOUSES = range(1, 6)
@@ -83,7 +84,9 @@ class Cell:
                 self.entries += sum(re.match(TURN, answer) is not None for answer in answers)
                 posts += process.fetched()
             receivers = dict.fromkeys(to for to, _ in posts)
-            asked = [(to, [line for at, octets in posts if at == to for line in take_lines(octets)]) for to in receivers]
+            asked = [
+                (to, [line for at, octets in posts if at == to for line in take_lines(octets)]) for to in receivers
+            ]
 
     def number(self, line):
         self.ask(1, [line])
@@ -152,7 +155,10 @@ def main():
     parser.add_argument("--house")
     parser.add_argument("programs", nargs="+", metavar="NAME=PROGRAM")
     args = parser.parse_args()
-    programs = [(name, shutil.which(path) or os.path.abspath(path)) for name, _, path in (word.partition("=") for word in args.programs)]
+    programs = [
+        (name, shutil.which(path) or os.path.abspath(path))
+        for name, _, path in (word.partition("=") for word in args.programs)
+    ]
     house = plain_house(args.house)
     times, counts = [], []
     with tempfile.TemporaryDirectory(dir="/dev/shm" if os.access("/dev/shm", os.W_OK) else None) as room:
@@ -169,7 +175,13 @@ def main():
             fewer, _ = made(house, args.entries // args.instructions, room)
             for name, program in programs:
                 counts.append(instructions(program, fewer))
-                print(f"{name:<10} {counts[-1]:,} instructions, {counts[-1] * args.instructions / args.entries:,.0f} an entry", flush=True)
+                print(
+                    (
+                        f"{name:<10} {counts[-1]:,} instructions,"
+                        f" {counts[-1] * args.instructions / args.entries:,.0f} an entry"
+                    ),
+                    flush=True,
+                )
     print(f"processor time of the first to the last: {times[0] / max(times[-1], 0.001):.2f}")
     if counts:
         print(f"instructions of the first to the last: {counts[0] / counts[-1]:.2f}")

@@ -9,7 +9,8 @@
     generate.py towers N     the octets of N RPC towers of five floors, 75 octets each, for the form `towers`
     generate.py untowers N   the text of the same towers, a line each, for the form `untowers`
     generate.py bag N        a directory at three houses, and N updates whose messages are delivered twice and then lost
-    generate.py two_masters N  N updates at a master and two secondary members in turn, each told to the others, with a skulk each thousand
+    generate.py two_masters N  N updates at a master and two secondary members in turn, each told to the others, with a
+                               skulk each thousand
     generate.py skulks N     a directory of 10,000 entries with four values each at four houses, and N skulks of it
     generate.py quiet N      the same, but that each update comes through to each house before the skulk
     generate.py crashes N    a house with 10,000 entries that goes down and starts again N times
@@ -19,17 +20,23 @@
     generate.py imports N    a profile of 200 elements over 50 groups of 200 members, and N imports from it
     generate.py lookups N    the same, but N lookups in batches of 1, 10 and 65,535, for the form `inquire`
     generate.py inquiries N  a profile of 5,000 elements, and N inquiries for them by each kind, for the form `inquire`
-    generate.py cached N     200 entries at two houses, and N reads at low confidence in mixed order, for the form `clerk 1000`
+    generate.py cached N     200 entries at two houses, and N reads at low confidence in mixed order, for the form
+                             `clerk 1000`
     generate.py crowded N    the same of 2,000 entries, of which few fit into the room of the clerk
-    generate.py journals N   N updates of a house of 100 entries, of which each hundredth is stopped, for the form `journal`
-    generate.py idle N       two houses of 100 entries, and N commands that change nothing of them, for the form `journal`
-    generate.py resumed N    a journal of N images, and then 100 times its last image, a `crash` and a `start`, for the form `journal`
-    generate.py wide N       a directory at 64 houses, and N updates at its master, whose messages are delivered to four houses and lost to the others
+    generate.py journals N   N updates of a house of 100 entries, of which each hundredth is stopped, for the form
+                             `journal`
+    generate.py idle N       two houses of 100 entries, and N commands that change nothing of them, for the form
+                             `journal`
+    generate.py resumed N    a journal of N images, and then 100 times its last image, a `crash` and a `start`, for the
+                             form `journal`
+    generate.py wide N       a directory at 64 houses, and N updates at its master, whose messages are delivered to four
+                             houses and lost to the others
     generate.py deep N       a path of 200 directories, and N reads at its end
     generate.py linked N     a chain of 63 links, and N reads through all of it
     generate.py small N      one command: what it costs to begin
     generate.py mends N      a cell of 64 houses in trouble, N lines, for the program `cdsmend`
-    generate.py migrate N    the image, in format 1, of a house with N entries of four values each, for the form `migrate`
+    generate.py migrate N    the image, in format 1, of a house with N entries of four values each, for the form
+                             `migrate`
     generate.py audits N     two such images, of N entries each, of houses that agree, for the form `audit 1`
     generate.py differing N  the same, but that the last value of the second one is missing in the first
     generate.py script N     the script of the form `load` with N rounds, as text; `loads N` is the same
@@ -242,7 +249,10 @@ def exports(count):
     for i in mixed(count):
         host = f"10.{i >> 16 & 255}.{i >> 8 & 255}.{i & 255}"
         bindings = f"ncacn_ip_tcp:{host}[1025],ncadg_ip_udp:{host}[1026],ncacn_ip_tcp:{host}"
-        yield f"export /.:/servers/server-{i:08} {interface(i % 10)}:1.0 {bindings} 00000000-0000-0000-0000-{i + 1:012x}\n"
+        yield (
+            f"export /.:/servers/server-{i:08} {interface(i % 10)}:1.0"
+            f" {bindings} 00000000-0000-0000-0000-{i + 1:012x}\n"
+        )
 
 
 # What imports search: servers of ten interfaces, aliases of some of them, and groups.
@@ -263,7 +273,8 @@ def members(group):
 
 
 def elements():
-    """For each group an element for an interface, for a later minor version of it, for another interface, and for any."""
+    """For each group an element for an interface, for a later minor version of it, for another interface, and for
+    any."""
     for group in range(GROUPS):
         member, priority = f"/.:/groups/group-{group:02}", group % 8
         yield f"{interface(0)}:1.0 {member} {priority} -"
@@ -277,7 +288,10 @@ def searched():
     yield from houses(1)
     yield "mkdir 1 1 servers 1\nmkdir 1 1 aliases 1\nmkdir 1 1 groups 1\n"
     for i in mixed(SERVERS):
-        yield f"export /.:/servers/server-{i:04} {interface(i % 10)}:1.{i % 4} ncacn_ip_tcp:10.0.{i >> 8}.{i & 255}[1025] -\n"
+        yield (
+            "export"
+            f" /.:/servers/server-{i:04} {interface(i % 10)}:1.{i % 4} ncacn_ip_tcp:10.0.{i >> 8}.{i & 255}[1025] -\n"
+        )
     for i in range(ALIASES):
         yield f"link 1 3 alias-{i:04} /.:/servers/server-{i * 3:04}\n"
     for group in range(GROUPS):
@@ -309,7 +323,13 @@ def inquiries(count):
     for i in range(count):
         asked, member = f"{interface(i % 9)}:{i % 5}.1", f"/.:/member-{i % 50:02}"
         version = ("all", "compatible", "exact", "major_only", "upto")[i // 7 % 5]
-        choices = ("all - all -", "default - all -", f"byif {asked} {version} -", f"bymbr - all {member}", f"byboth {asked} {version} {member}")
+        choices = (
+            "all - all -",
+            "default - all -",
+            f"byif {asked} {version} -",
+            f"bymbr - all {member}",
+            f"byboth {asked} {version} {member}",
+        )
         yield f"proflist 1 low /.:/profile {choices[i % 5]}\n"
 
 
@@ -333,7 +353,11 @@ def journals(count):
     random = pseudorandom(count)
     for at in range(1, count + 1):
         x = next(random)
-        update = f"{'add' if x & 3 else 'remove'} 1 1 entry-{x >> 4:02} Attribute {x >> 4:08x}" if x >> 4 < 100 else f"put 1 1 entry-{x % 100:02} B {x % 4:02x}"
+        update = (
+            f"{'add' if x & 3 else 'remove'} 1 1 entry-{x >> 4:02} Attribute {x >> 4:08x}"
+            if x >> 4 < 100
+            else f"put 1 1 entry-{x % 100:02} B {x % 4:02x}"
+        )
         if at % 100:
             yield f"{update}\n"
         else:
@@ -348,7 +372,12 @@ def idle(count):
         yield f"create 1 1 entry-{i:02}\nadd 1 1 entry-{i:02} Attribute {i:08x}\n"
         yield f"deliver {2 * at + 2}\ndeliver {2 * at + 3}\n"
     for i in range(count):
-        yield (f"deliver {i % 200 + 2}\n", f"create 1 1 entry-{i % 100:02}\n", f"add 2 1 entry-{i % 100:02} Attribute 01\n", "clock 1 0\n")[i % 4]
+        yield (
+            f"deliver {i % 200 + 2}\n",
+            f"create 1 1 entry-{i % 100:02}\n",
+            f"add 2 1 entry-{i % 100:02} Attribute 01\n",
+            "clock 1 0\n",
+        )[i % 4]
 
 
 def resumed(count):
@@ -395,7 +424,8 @@ def small(count):
 
 
 def mends(count):
-    """House 1 is the master, 2 to 8 are secondary, and 9 to 64 read-only. Joins were lost or wait; houses are down; a skulk waits for them."""
+    """House 1 is the master, 2 to 8 are secondary, and 9 to 64 read-only. Joins were lost or wait; houses are down; a
+    skulk waits for them."""
     for house in range(1, 65):
         yield f"house {house} {house:012x}\n"
     listed = " ".join([*(f"s{it}" for it in range(2, 9)), *map(str, range(9, 65))])
@@ -457,7 +487,8 @@ def coprime(a, b):
 
 
 def floors(count):
-    """The floors of towers: an interface, NDR, connections, a TCP port and an address, which differ from tower to tower."""
+    """The floors of towers: an interface, NDR, connections, a TCP port and an address, which differ from tower to
+    tower."""
     ndr = bytes.fromhex("0d045d888aeb1cc9119fe808002b1048600200")
     for i in range(count):
         interface = b"\x0d" + (i * 2654435761 % 2**128).to_bytes(16, "little") + b"\x03\x00"
@@ -480,7 +511,8 @@ def stamp(time):
 
 
 def image(octets_of_format, count, all_up_to=b"\0", house=1, lacks=0):
-    """An entry in each piece, the first one behind the head of the image. The house is the only member. The last one lacks values."""
+    """An entry in each piece, the first one behind the head of the image. The house is the only member. The last one
+    lacks values."""
     member = b"\x01" + bytes([house]) + (1).to_bytes(8, "big") + b"\x01"
     head = octets_of_format + b"\x09" + bytes([house]) + bytes.fromhex("00000000000a") + (5 * count).to_bytes(8, "big")
     head += (1).to_bytes(8, "big") + (1).to_bytes(4, "big")
@@ -560,7 +592,9 @@ def write(kind, count, out):
 
 
 def items_in(kind, piece):
-    return len(piece) if kind in ("towers", "migrate", "audits", "differing") else sum(text.count(b"\n") for text in piece)
+    return (
+        len(piece) if kind in ("towers", "migrate", "audits", "differing") else sum(text.count(b"\n") for text in piece)
+    )
 
 
 def main():

@@ -4,18 +4,19 @@
     measure.py [--runs K] [--divide D] [--instructions E | --growth] [--kinds KIND,KIND] NAME=PROGRAM [NAME=PROGRAM ..]
 
 Each PROGRAM is run as `PROGRAM FORM`, with the input on its standard input, K times (3); one run at a time. The form is
-`run`, or that of the kind, as `towers`; of `loads` it is `load N`, which reads nothing; of `mends` it is `1` for a program whose
-file is named `cdsmend`, which mends directory 1, and whose answers are not compared with those of others. For each input and each program one line tells the number of lines or towers of
-the input, the seconds of the fastest run, the lines or towers and the MB that it took in one second, the processor time of
-that run, and the greatest peak of memory of its runs in KiB. The programs have to give the same answers and status 0; if not,
-it says so and ends with status 1. D divides the sizes of the inputs.
+`run`, or that of the kind, as `towers`; of `loads` it is `load N`, which reads nothing; of `mends` it is `1` for a
+program whose file is named `cdsmend`, which mends directory 1, and whose answers are not compared with those of others.
+For each input and each program one line tells the number of lines or towers of the input, the seconds of the fastest
+run, the lines or towers and the MB that it took in one second, the processor time of that run, and the greatest peak of
+memory of its runs in KiB. The programs have to give the same answers and status 0; if not, it says so and ends with
+status 1. D divides the sizes of the inputs.
 
-With --instructions the instructions are counted too, by valgrind, which a busy machine does not change. That is slow, so the
-inputs are E times smaller for it (20, say). At the end a table has the ratios of the first program to the last.
+With --instructions the instructions are counted too, by valgrind, which a busy machine does not change. That is slow,
+so the inputs are E times smaller for it (20, say). At the end a table has the ratios of the first program to the last.
 
-With --growth each kind is measured at an eighth, a quarter, a half and the whole of its size. A line of a table has the processor times and
-the peaks of memory of a program at these four sizes, and how many times as long the last one takes as the third: 2 where time grows as the
-input does, and 4 where it grows as its square.
+With --growth each kind is measured at an eighth, a quarter, a half and the whole of its size. A line of a table has the
+processor times and the peaks of memory of a program at these four sizes, and how many times as long the last one takes
+as the third: 2 where time grows as the input does, and 4 where it grows as its square.
 """
 
 import argparse
@@ -125,7 +126,13 @@ def measure(kind, size, programs, runs, folder):
         processor = min(result[1] for result in results)
         peak = max(result[2] for result in results)
         times.append(processor)
-        print(f"{kind:<10}{name:<12}{items:>12,}{seconds:>10.2f}{items / seconds:>14,.0f}{megabytes / seconds:>8,.0f}{processor:>11.2f}{peak:>11,}", flush=True)
+        print(
+            (
+                f"{kind:<10}{name:<12}{items:>12,}{seconds:>10.2f}{items / seconds:>14,.0f}"
+                f"{megabytes / seconds:>8,.0f}{processor:>11.2f}{peak:>11,}"
+            ),
+            flush=True,
+        )
         if any(result[3] != 0 for result in results):
             print(f"{name} ended with a status other than 0")
             agreed = False
@@ -146,7 +153,8 @@ def count(kind, size, programs, folder):
 
 
 def grow(kind, size, programs, runs, folder):
-    """Prints how each program's time and memory grow from an eighth of an input to all of it, and whether the runs ended well."""
+    """Prints how each program's time and memory grow from an eighth of an input to all of it, and whether the runs
+    ended well."""
     sizes, well = [size // it for it in (8, 4, 2, 1)], True
     found = {name: [] for name, _ in programs}
     for it in sizes:
@@ -158,13 +166,21 @@ def grow(kind, size, programs, runs, folder):
     for name, points in found.items():
         times, peaks = (f"{points[i][0]:.2f}" for i in range(4)), (f"{points[i][1] / 1000:,.1f}" for i in range(4))
         ratio = points[3][0] / max(points[2][0], 0.001)
-        print(f"| `{kind}` | {name} | {size:,} | {', '.join(times)} | {', '.join(peaks)} | {ratio:.1f} |{'' if well else ' a run failed'}", flush=True)
+        print(
+            (
+                f"| `{kind}` | {name} | {size:,} | {', '.join(times)} | {', '.join(peaks)} |"
+                f" {ratio:.1f} |{'' if well else ' a run failed'}"
+            ),
+            flush=True,
+        )
     return well
 
 
 def grow_all(kinds, divide, programs, runs):
     """Prints the table of all kinds that have a size, and returns whether all runs ended well."""
-    print("| kind | program | N | seconds at N/8, N/4, N/2, N | MB | the last to the third |\n|---|---|---|---|---|---|")
+    print(
+        "| kind | program | N | seconds at N/8, N/4, N/2, N | MB | the last to the third |\n|---|---|---|---|---|---|"
+    )
     sizes = {kind: SIZES[kind] // divide for kind in kinds}
     with tempfile.TemporaryDirectory() as folder:
         return all([grow(kind, size, programs, runs, folder) for kind, size in sizes.items() if size >= 8])
@@ -187,7 +203,10 @@ def main():
         programs.append((name, os.path.abspath(path)))
     if args.growth:
         sys.exit(0 if grow_all(args.kinds.split(","), args.divide, programs, args.runs) else 1)
-    print(f"{'input':<10}{'program':<12}{'items':>12}{'seconds':>10}{'items/second':>14}{'MB/s':>8}{'processor':>11}{'peak KiB':>11}")
+    print(
+        f"{'input':<10}{'program':<12}{'items':>12}{'seconds':>10}{'items/second':>14}"
+        f"{'MB/s':>8}{'processor':>11}{'peak KiB':>11}"
+    )
     all_agreed, rows = True, []
     with tempfile.TemporaryDirectory() as folder:
         for kind in args.kinds.split(","):
@@ -198,7 +217,10 @@ def main():
             rows.append((kind, times, counts))
     print(f"\n| workload | processor time, {programs[0][0]} to {programs[-1][0]} | instructions |\n|---|---|---|")
     for kind, times, counts in rows:
-        print(f"| `{kind}` | {times[0] / max(times[-1], 0.001):.2f} | {f'{counts[0] / counts[-1]:.2f}' if counts else ''} |")
+        print(
+            f"| `{kind}` | {times[0] / max(times[-1], 0.001):.2f} |"
+            f" {f'{counts[0] / counts[-1]:.2f}' if counts else ''} |"
+        )
     sys.exit(0 if all_agreed else 1)
 
 

@@ -1,25 +1,28 @@
 #!/usr/bin/env python3
 """Measures houses, programs that are run as `PROGRAM FOLDER` (docs/HOUSE.md):
 
-    turns.py [--runs K] [--turns N] [--entries E] [--disk FOLDER] NAME=PROGRAM [NAME=PROGRAM ..]
-    turns.py --ratios [--runs K] [--turns N] [--entries E] [--disk FOLDER] [--explainer PROGRAM] NAME=PROGRAM [NAME=PROGRAM ..]
+    turns.py [--runs K] [--turns N] [--entries E] [--disk FOLDER] NAME=PROGRAM [NAME=PROGRAM ..] turns.py --ratios
+    [--runs K] [--turns N] [--entries E] [--disk FOLDER] [--explainer PROGRAM] NAME=PROGRAM [NAME=PROGRAM ..]
 
-Each house is made in a new folder, gets E entries (100) with a value each, and then N turns (2,000) that change one of them, all
-from one pipe. One run at a time, K times (3); the fastest counts. Each line has the turns, the octets of a turn's record, the turns in a
-second, the microseconds of processor time for a turn, and the peak of memory after N turns and after 2 N. `start` is the time of a start
-after them, in milliseconds.
+Each house is made in a new folder, gets E entries (100) with a value each, and then N turns (2,000) that change one of
+them, all from one pipe. One run at a time, K times (3); the fastest counts. Each line has the turns, the octets of a
+turn's record, the turns in a second, the microseconds of processor time for a turn, and the peak of memory after N
+turns and after 2 N. `start` is the time of a start after them, in milliseconds.
 
-The folders are in memory (/dev/shm), where a sync costs nothing. With --disk they are in that folder, and the last line is a loop that
-writes and syncs as many octets in two calls a turn, as a house has to. The ratios of the first program to the last follow.
+The folders are in memory (/dev/shm), where a sync costs nothing. With --disk they are in that folder, and the last line
+is a loop that writes and syncs as many octets in two calls a turn, as a house has to. The ratios of the first program
+to the last follow.
 
-With --ratios the houses have a second member in their directory, so that each turn posts a message, and E is 10,000 if it is not given, N is
-20,000. Each line has these ratios of a program, and what they are made of:
+With --ratios the houses have a second member in their directory, so that each turn posts a message, and E is 10,000 if
+it is not given, N is 20,000. Each line has these ratios of a program, and what they are made of:
 
     octets       what the folder grows by at a turn, images and all, to the octets of its line, messages and answer
     processor    processor time of a turn at E entries to that of one at 10
-    start        processor time of a start that does 10,000 turns of a house of 100 entries again, to that of these turns
+    start        processor time of a start that does 10,000 turns of a house of 100 entries again, to that of these
+                 turns
     pipe         turns in a second of 1,000 lines that come at once, to those that come one by one, with --disk
-    explained    the peak in MB of the program --explainer over the folder of a house of 300 entries and 4,600 turns more
+    explained    the peak in MB of the program --explainer over the folder of a house of 300 entries and 4,600 turns
+                 more
 """
 import argparse
 import os
@@ -53,8 +56,8 @@ def turning(entries, turns):
 
 
 def timed(command, place, read=()):
-    """Seconds, processor seconds and the peak in KiB of a program that reads lines. (A child's peak begins at that of this process, so
-    GNU time measures it.)"""
+    """Seconds, processor seconds and the peak in KiB of a program that reads lines. (A child's peak begins at that of
+    this process, so GNU time measures it.)"""
     with open(f"{place}/lines", "w", encoding="ascii") as file:
         file.writelines(f"{line}\n" for line in read)
     peak = f"{place}/peak"
@@ -129,7 +132,8 @@ def looped(octets, args):
 
 
 def grown(program, room, entries, turns):
-    """What a folder grows by at a turn to the octets of the turn's text, and the microseconds of processor time for it."""
+    """What a folder grows by at a turn to the octets of the turn's text, and the microseconds of processor time for
+    it."""
     house = House(program, room, entries, "root 2")
     house.ran()
     _, idle, _ = house.ran()
@@ -191,7 +195,10 @@ def compared(program, args, place):
 
 
 def ratios(found):
-    return found | {"processor": found["microseconds"] / found["at 10 entries"], "start": found["again"] / found["10,000 turns"]}
+    return found | {
+        "processor": found["microseconds"] / found["at 10 entries"],
+        "start": found["again"] / found["10,000 turns"],
+    }
 
 
 def path_of(program):
@@ -231,7 +238,10 @@ def main():
     first, last = list(found.values())[0], list(found.values())[-1]
     if args.disk and not args.ratios:
         loop = max(looped(last["octets"], args) for _ in range(args.runs))
-        print(f"{'loop':<10} turns a second {loop:,.1f}; a turn of the first takes {loop / first['turns a second']:.2f} of a turn of the loop")
+        print(
+            f"{'loop':<10} turns a second {loop:,.1f}; a turn of the first takes"
+            f" {loop / first['turns a second']:.2f} of a turn of the loop"
+        )
     print(f"processor time of the first to the last: {first['microseconds'] / max(last['microseconds'], 0.001):.2f}")
 
 

@@ -1,5 +1,5 @@
-"""Which functions are the dearest to prove, for tools/gate-times: `rattle check --progress` says as it ends with each one, and the
-processor time that the check has taken until then is looked at."""
+"""Which functions are the dearest to prove, for tools/gate-times: `rattle check --progress` says as it ends with each
+one, and the processor time that the check has taken until then is looked at."""
 
 import os
 import re
@@ -37,8 +37,15 @@ def words_of(crate, rows):
 
 
 def functions_of(crate, rows):
-    """Checks a crate, and returns each of its functions with the seconds that its proof took. The first one's also has all before it."""
-    how = {"cwd": f"{ROOT}/crates/{crate}", "stdin": subprocess.DEVNULL, "stdout": subprocess.PIPE, "stderr": subprocess.STDOUT, "text": True}
+    """Checks a crate, and returns each of its functions with the seconds that its proof took. The first one's also has
+    all before it."""
+    how = {
+        "cwd": f"{ROOT}/crates/{crate}",
+        "stdin": subprocess.DEVNULL,
+        "stdout": subprocess.PIPE,
+        "stderr": subprocess.STDOUT,
+        "text": True,
+    }
     found, before, tail = [], 0.0, ""
     with subprocess.Popen(words_of(crate, rows), **how) as check:
         for line in check.stdout:
@@ -56,7 +63,9 @@ def build_below(crate, rows):
     """Builds the libraries below a crate, if they are not there, and returns whether that went well."""
     for name in rows:
         if name != crate and not os.path.isdir(f"{ROOT}/crates/{name}/out/rlib/{name}.rlib"):
-            ran = subprocess.run(["rt", "lib"], cwd=f"{ROOT}/crates/{name}", stdin=subprocess.DEVNULL, stdout=sys.stderr, check=False)
+            ran = subprocess.run(
+                ["rt", "lib"], cwd=f"{ROOT}/crates/{name}", stdin=subprocess.DEVNULL, stdout=sys.stderr, check=False
+            )
             if ran.returncode:
                 print(f"gate-times: {name} was not built, so {crate} is left out", file=sys.stderr)
                 return False
@@ -70,12 +79,16 @@ def table(found):
     for seconds, name in sorted(found, reverse=True)[:DEAREST]:
         crate, _, function = name.partition("::")
         lines.append(f"| `{crate}` | `{function}` | {seconds:.1f} |")
-    lines.append(f"\n{len(found)} functions took {whole / 60:.1f} processor minutes, of which {len(drops)} drops took {sum(it[0] for it in drops) / 60:.1f}.")
+    lines.append(
+        f"\n{len(found)} functions took {whole / 60:.1f} processor minutes, of which {len(drops)} drops took"
+        f" {sum(it[0] for it in drops) / 60:.1f}."
+    )
     return "\n".join(lines)
 
 
 def profile(crates):
-    """Prints the dearest functions of these crates, or of all, and returns the exit status. Checks one at a time, from nothing."""
+    """Prints the dearest functions of these crates, or of all, and returns the exit status. Checks one at a time, from
+    nothing."""
     with open(f"{ROOT}/crates.txt", encoding="utf-8") as file:
         every = [line.partition(":")[0] for line in file.read().splitlines() if line.partition("#")[0].strip()]
     found, is_well = [], True
@@ -84,6 +97,10 @@ def profile(crates):
         functions = functions_of(crate, rows) if crate in rows and build_below(crate, rows) else []
         is_well = is_well and bool(functions)
         found += functions
-        print(f"{crate}: {len(functions)} functions, {sum(it[0] for it in functions):.0f} seconds", file=sys.stderr, flush=True)
+        print(
+            f"{crate}: {len(functions)} functions, {sum(it[0] for it in functions):.0f} seconds",
+            file=sys.stderr,
+            flush=True,
+        )
     print(table(found))
     return 0 if is_well else 1

@@ -1,8 +1,9 @@
-"""Cases of the wrappers ./cdsreplay, ./cdsmend, ./cdshouse and ./cdsexplain, for tools/cases: which words they know, what they say of how a program ends, which
-program they run, and what a signal does.
+"""Cases of the wrappers ./cdsreplay, ./cdsmend, ./cdshouse and ./cdsexplain, for tools/cases: which words they know,
+what they say of how a program ends, which program they run, and what a signal does.
 
-They are tried on copies: beside a program that ends as the first word of its input says and writes the other words, and a `tools/build`
-that finds nothing, or a program of its own. A copy of the sources shows that built programs can be handed over.
+They are tried on copies: beside a program that ends as the first word of its input says and writes the other words, and
+a `tools/build` that finds nothing, or a program of its own. A copy of the sources shows that built programs can be
+handed over.
 """
 
 import fcntl
@@ -37,39 +38,164 @@ NOTHING = "#!/bin/sh\nexit 1\n"
 WHY = "`tools/why in` explains it (status 3)"
 # A name, a line of shell in the copy, and the status, output and words on standard error that it has to end with.
 TABLE = (
-    ("a line that is faulty", "./cdsreplay run <in", 3, "12 fault BadWord 3\n", f"cdsreplay: line 12 is faulty: BadWord 3; {WHY}\n"),
-    ("a faulty line in a file of answers", "./cdsreplay run <in >to; s=$?; cat to; exit $s", 3, "12 fault BadWord 3\n", f"cdsreplay: line 12 is faulty: BadWord 3; {WHY}\n"),
-    ("a faulty line of cdsmend", "./cdsmend 1 <in", 3, "12 fault BadWord 3\n", f"cdsmend: line 12 is faulty: BadWord 3; {WHY}\n"),
-    ("a faulty line in a pipe", "cat in | ./cdsreplay run", 3, "12 fault BadWord 3\n", "cdsreplay: the last answer says what is faulty; `tools/why FILE` explains it (status 3)\n"),
-    ("a faulty tower", "./cdsreplay towers <in", 3, "12 fault BadWord 3\n", "cdsreplay: tower 12 is faulty: BadWord 3; docs/FORMATS.md has the form of its input (status 3)\n"),
+    (
+        "a line that is faulty",
+        "./cdsreplay run <in",
+        3,
+        "12 fault BadWord 3\n",
+        f"cdsreplay: line 12 is faulty: BadWord 3; {WHY}\n",
+    ),
+    (
+        "a faulty line in a file of answers",
+        "./cdsreplay run <in >to; s=$?; cat to; exit $s",
+        3,
+        "12 fault BadWord 3\n",
+        f"cdsreplay: line 12 is faulty: BadWord 3; {WHY}\n",
+    ),
+    (
+        "a faulty line of cdsmend",
+        "./cdsmend 1 <in",
+        3,
+        "12 fault BadWord 3\n",
+        f"cdsmend: line 12 is faulty: BadWord 3; {WHY}\n",
+    ),
+    (
+        "a faulty line in a pipe",
+        "cat in | ./cdsreplay run",
+        3,
+        "12 fault BadWord 3\n",
+        "cdsreplay: the last answer says what is faulty; `tools/why FILE` explains it (status 3)\n",
+    ),
+    (
+        "a faulty tower",
+        "./cdsreplay towers <in",
+        3,
+        "12 fault BadWord 3\n",
+        "cdsreplay: tower 12 is faulty: BadWord 3; docs/FORMATS.md has the form of its input (status 3)\n",
+    ),
     ("a failed read", "echo 4 | ./cdsreplay run", 4, "", "cdsreplay: reading failed (status 4)\n"),
     ("a failed write", "echo 5 | ./cdsreplay run", 5, "", "cdsreplay: writing failed (status 5)\n"),
     ("no memory", "echo 6 1 ok | ./cdsreplay run", 6, "1 ok\n", "cdsreplay: out of memory (status 6)\n"),
     ("a full journal", "echo 7 | ./cdsreplay journal", 7, "", "cdsreplay: the journal of a house is full (status 7)\n"),
-    ("a signal from elsewhere", "echo 143 | ./cdsreplay run", 143, "", "cdsreplay: signal 15 ended the program (status 143)\n"),
+    (
+        "a signal from elsewhere",
+        "echo 143 | ./cdsreplay run",
+        143,
+        "",
+        "cdsreplay: signal 15 ended the program (status 143)\n",
+    ),
     ("all well", "echo 0 1 ok | ./cdsreplay run", 0, "1 ok\n", ""),
-    ("the name of a script", "./cdsreplay run in 2>&1 | tail -n 1", 0, "cdsreplay: the input is read from standard input: ./cdsreplay run <in\n", ""),
-    ("the name of a script after a number", "./cdsreplay clerk 9 in 2>&1 | tail -n 1", 0, "cdsreplay: the input is read from standard input: ./cdsreplay clerk 9 <in\n", ""),
-    ("the name of a script of cdsmend", "./cdsmend 1 in 2>&1 | tail -n 1", 0, "cdsmend: the script is read from standard input: ./cdsmend 1 <in\n", ""),
-    ("the name of a script of cdsmend after houses", "./cdsmend 1 - 3 in 2>&1 | tail -n 1", 0, "cdsmend: the script is read from standard input: ./cdsmend 1 - 3 <in\n", ""),
+    (
+        "the name of a script",
+        "./cdsreplay run in 2>&1 | tail -n 1",
+        0,
+        "cdsreplay: the input is read from standard input: ./cdsreplay run <in\n",
+        "",
+    ),
+    (
+        "the name of a script after a number",
+        "./cdsreplay clerk 9 in 2>&1 | tail -n 1",
+        0,
+        "cdsreplay: the input is read from standard input: ./cdsreplay clerk 9 <in\n",
+        "",
+    ),
+    (
+        "the name of a script of cdsmend",
+        "./cdsmend 1 in 2>&1 | tail -n 1",
+        0,
+        "cdsmend: the script is read from standard input: ./cdsmend 1 <in\n",
+        "",
+    ),
+    (
+        "the name of a script of cdsmend after houses",
+        "./cdsmend 1 - 3 in 2>&1 | tail -n 1",
+        0,
+        "cdsmend: the script is read from standard input: ./cdsmend 1 - 3 <in\n",
+        "",
+    ),
     ("a link", "ln -s ../cdsreplay links/replay; echo 0 1 ok | links/replay run", 0, "1 ok\n", ""),
     ("the folder itself", "echo 0 1 ok | sh cdsreplay run", 0, "1 ok\n", ""),
     ("the path", "cd links; echo 0 1 ok | PATH=$PWD/..:$PATH cdsreplay run", 0, "1 ok\n", ""),
-    ("a source that has changed", "sleep 0.1; echo >>crates/low/src/lib.rt; echo 0 1 ok | ./cdsreplay run", 0, "unproved\n", "cdsreplay: these answers are unproved.\n"),
-    ("a source that has gone", "sleep 0.1; rm crates/low/src/lib.rt; echo 0 1 ok | ./cdsreplay run", 0, "unproved\n", "cdsreplay: these answers are unproved.\n"),
-    ("an old source in place of a new one", "sleep 0.1; touch -d @9 old; mv old crates/low/src/lib.rt; echo 0 | ./cdsreplay run", 0, "unproved\n", "cdsreplay: these answers are unproved.\n"),
-    ("a proof that has changed", "sleep 0.1; echo >>crates/low/proofs/a.antt; echo 0 1 ok | ./cdsreplay run", 0, "1 ok\n", ""),
+    (
+        "a source that has changed",
+        "sleep 0.1; echo >>crates/low/src/lib.rt; echo 0 1 ok | ./cdsreplay run",
+        0,
+        "unproved\n",
+        "cdsreplay: these answers are unproved.\n",
+    ),
+    (
+        "a source that has gone",
+        "sleep 0.1; rm crates/low/src/lib.rt; echo 0 1 ok | ./cdsreplay run",
+        0,
+        "unproved\n",
+        "cdsreplay: these answers are unproved.\n",
+    ),
+    (
+        "an old source in place of a new one",
+        "sleep 0.1; touch -d @9 old; mv old crates/low/src/lib.rt; echo 0 | ./cdsreplay run",
+        0,
+        "unproved\n",
+        "cdsreplay: these answers are unproved.\n",
+    ),
+    (
+        "a proof that has changed",
+        "sleep 0.1; echo >>crates/low/proofs/a.antt; echo 0 1 ok | ./cdsreplay run",
+        0,
+        "1 ok\n",
+        "",
+    ),
     ("the house of a folder", "echo 0 1 ok | ./cdshouse links", 0, "1 ok\n", ""),
     ("a house that ends otherwise", "echo 10 | ./cdshouse links", 10, "", ""),
-    ("no folder", "./cdshouse 2>&1 | head -n 1", 0, "usage: ./cdshouse FOLDER       is the house that the folder keeps: lines in, answers out\n", ""),
+    (
+        "no folder",
+        "./cdshouse 2>&1 | head -n 1",
+        0,
+        "usage: ./cdshouse FOLDER       is the house that the folder keeps: lines in, answers out\n",
+        "",
+    ),
     ("two folders", "./cdshouse links links 2>errors", 2, "", ""),
     ("journals that are explained", "mkdir -p h1; : >h1/1; echo 0 house | ./cdsexplain h1", 0, "house\n", ""),
-    ("an entry that is not explained", "mkdir -p h1; : >h1/1; echo 3 | ./cdsexplain h1 h1", 3, "",
-     "cdsexplain: not all is explained: the last lines of the script say what, and docs/EXPLAINED.md what each reason means (status 3)\n"),
-    ("a house whose folder is not there", "echo 9 | ./cdshouse nowhere", 9, "", "cdshouse: nowhere is no folder: `mkdir nowhere` makes one (status 9)\n"),
-    ("a folder to explain that is not there", "echo 4 | ./cdsexplain nowhere", 4, "", "cdsexplain: nowhere is no folder\n"),
-    ("the folder of a cell", "echo 0 | ./cdsexplain crates 2>&1 | head -n 1", 0, "cdsexplain: crates has no segments: name the folder of each house, such as mycell/h1\n", ""),
-    ("nothing to explain", "./cdsexplain 2>&1 | head -n 1", 0, "usage: ./cdsexplain FOLDER..     writes a script of `cdsreplay run` that explains the journals of these houses\n", ""),
+    (
+        "an entry that is not explained",
+        "mkdir -p h1; : >h1/1; echo 3 | ./cdsexplain h1 h1",
+        3,
+        "",
+        (
+            "cdsexplain: not all is explained: the last lines of the script say what, and docs/EXPLAINED.md what each"
+            " reason means (status 3)\n"
+        ),
+    ),
+    (
+        "a house whose folder is not there",
+        "echo 9 | ./cdshouse nowhere",
+        9,
+        "",
+        "cdshouse: nowhere is no folder: `mkdir nowhere` makes one (status 9)\n",
+    ),
+    (
+        "a folder to explain that is not there",
+        "echo 4 | ./cdsexplain nowhere",
+        4,
+        "",
+        "cdsexplain: nowhere is no folder\n",
+    ),
+    (
+        "the folder of a cell",
+        "echo 0 | ./cdsexplain crates 2>&1 | head -n 1",
+        0,
+        "cdsexplain: crates has no segments: name the folder of each house, such as mycell/h1\n",
+        "",
+    ),
+    (
+        "nothing to explain",
+        "./cdsexplain 2>&1 | head -n 1",
+        0,
+        (
+            "usage: ./cdsexplain FOLDER..     writes a script of `cdsreplay run` that explains the journals of these"
+            " houses\n"
+        ),
+        "",
+    ),
     ("closed ends", "./cdsreplay run <&-", 1, "", "cdsreplay: standard input or standard output is closed\n"),
 )
 
@@ -93,7 +219,15 @@ def copy_with_stub(folder):
     """Makes a repository in which all programs are the stub, and are noted as proved."""
     copy_wrappers(folder, FINDER)
     os.mkdir(f"{folder}/links")
-    texts = {"in": "3 12 fault BadWord 3\n", "old": "", "HANDLES": "", "crates.txt": "", "crates/low/src/lib.rt": "", "crates/low/specs/A": "", "crates/low/proofs/a.antt": ""}
+    texts = {
+        "in": "3 12 fault BadWord 3\n",
+        "old": "",
+        "HANDLES": "",
+        "crates.txt": "",
+        "crates/low/src/lib.rt": "",
+        "crates/low/specs/A": "",
+        "crates/low/proofs/a.antt": "",
+    }
     for name, text in texts.items():
         write(f"{folder}/{name}", text)
     write(f"{folder}/unproved", "#!/bin/sh\ncat >unread\necho unproved\n", 0o755)
@@ -143,7 +277,9 @@ def of_table(line, status, output, errors):
 
     def call(room, _):
         copy_with_stub(room)
-        ran = subprocess.run(["sh", "-c", line], cwd=room, stdin=subprocess.DEVNULL, capture_output=True, text=True, timeout=SECONDS)
+        ran = subprocess.run(
+            ["sh", "-c", line], cwd=room, stdin=subprocess.DEVNULL, capture_output=True, text=True, timeout=SECONDS
+        )
         found = ran.returncode, ran.stdout, ran.stderr
         return None if found == (status, output, errors) else f"it is {found}, not {(status, output, errors)}"
 
@@ -155,8 +291,13 @@ def signalled(number):
 
     def call(room, _):
         copy_with_stub(room)
-        # (whoever is run beside a shell ignores an interrupt, or with nohup the end of a terminal, and so would all that it starts)
-        how = {"stdin": subprocess.PIPE, "stdout": subprocess.PIPE, "preexec_fn": lambda: signal.signal(number, signal.SIG_DFL)}
+        # (whoever is run beside a shell ignores an interrupt, or with nohup the end of a terminal, and so would all
+        # that it starts)
+        how = {
+            "stdin": subprocess.PIPE,
+            "stdout": subprocess.PIPE,
+            "preexec_fn": lambda: signal.signal(number, signal.SIG_DFL),
+        }
         with subprocess.Popen(["./cdsreplay", "run"], cwd=room, text=True, **how) as ran:
             ran.stdin.write("wait\n")
             ran.stdin.flush()
@@ -207,24 +348,32 @@ def without_rt():
 
 
 def handed_over(room, _):
-    """A program that was noted in one clone answers in another, without rt, once the files that docs/CHANGING.md names are copied there."""
+    """A program that was noted in one clone answers in another, without rt, once the files that docs/CHANGING.md names
+    are copied there."""
     one, other = f"{room}/one", f"{room}/other"
     for clone in (one, other):
         os.mkdir(clone)
         copy_repository(clone)
     for name in PROGRAMS:
         write(f"{one}/crates/{name}/out/{name}", STUB, 0o755)
-        noting = f"import sys; sys.path.insert(0, sys.argv[1]); from building import sources; sources.note({name!r}, sources.ROOT)"
+        noting = (
+            f"import sys; sys.path.insert(0, sys.argv[1]); from building import sources; sources.note({name!r},"
+            " sources.ROOT)"
+        )
         subprocess.run([sys.executable, "-c", noting, f"{one}/tools"], check=True, env=without_rt(), timeout=SECONDS)
         os.makedirs(f"{other}/crates/{name}/out")
         for file in (f"crates/{name}/out/{name}", f"out/built-{name}"):
             shutil.copy(f"{one}/{file}", f"{other}/{file}")
     write(f"{other}/h1/1", "")
     for words in (["./cdsreplay", "run"], ["./cdsmend", "1"], ["./cdshouse", "crates"], ["./cdsexplain", "h1"]) * 2:
-        ran = subprocess.run(words, cwd=other, input="0 1 ok\n", capture_output=True, text=True, env=without_rt(), timeout=SECONDS)
+        ran = subprocess.run(
+            words, cwd=other, input="0 1 ok\n", capture_output=True, text=True, env=without_rt(), timeout=SECONDS
+        )
         if (ran.returncode, ran.stdout, ran.stderr) != (0, "1 ok\n", ""):
             return f"{words[0]} ends with {ran.returncode}, {ran.stdout!r} and {ran.stderr!r}"
-    ran = subprocess.run(["./cdsreplay", "--version"], cwd=other, capture_output=True, text=True, env=without_rt(), timeout=SECONDS)
+    ran = subprocess.run(
+        ["./cdsreplay", "--version"], cwd=other, capture_output=True, text=True, env=without_rt(), timeout=SECONDS
+    )
     return None if ran.stdout.endswith("; proved\n") and not ran.returncode else f"its version is {ran.stdout!r}"
 
 
@@ -237,12 +386,16 @@ def is_run(words, how):
 
 
 def of_another_user(room, _):
-    """A program that was noted in the clone of another user answers there, also if a source was written again, as it is."""
+    """A program that was noted in the clone of another user answers there, also if a source was written again, as it
+    is."""
     clone = f"{room}/clone"
     os.mkdir(clone)
     copy_repository(clone)
     write(f"{clone}/crates/cdsreplay/out/cdsreplay", STUB, 0o755)
-    noting = "import sys; sys.path.insert(0, sys.argv[1]); from building import sources; sources.note('cdsreplay', sources.ROOT)"
+    noting = (
+        "import sys; sys.path.insert(0, sys.argv[1]); from building import sources; sources.note('cdsreplay',"
+        " sources.ROOT)"
+    )
     subprocess.run([sys.executable, "-c", noting, f"{clone}/tools"], check=True, env=without_rt(), timeout=SECONDS)
     for at, _, _ in os.walk(clone):
         os.chmod(at, 0o555)
@@ -275,8 +428,8 @@ def waiting(room, _):
 
 
 def cases(runs, folder):
-    """Returns the cases of the wrappers: with the words of all these runs (a program's name, its words, and whether they are of a form),
-    and those of this file."""
+    """Returns the cases of the wrappers: with the words of all these runs (a program's name, its words, and whether
+    they are of a form), and those of this file."""
     copy_wrappers(f"{folder}/words", NOTHING)
     found = [Wrapped(f"{folder}/words/{name}", list(words), is_form) for name, words, is_form in sorted(runs)]
     for number, (name, *row) in enumerate(TABLE):

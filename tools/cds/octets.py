@@ -1,8 +1,8 @@
 """Reads the octets of a house's image and of a message into the words that `dump` has. docs/FORMATS.md lays them out.
 
-What a replica has is a table of facts. The key of a fact is the name of its entry, and after tabs its attribute and its value; what it
-says is the rest of the line of `dump`: `object 1@00000000000a live`, `none`, `present 2@00000000000a`. Sorted by their keys, facts have
-the order of `dump`.
+What a replica has is a table of facts. The key of a fact is the name of its entry, and after tabs its attribute and its
+value; what it says is the rest of the line of `dump`: `object 1@00000000000a live`, `none`, `present 2@00000000000a`.
+Sorted by their keys, facts have the order of `dump`.
 """
 
 from __future__ import annotations
@@ -74,9 +74,8 @@ class Octets:
 
 
 class Replica:
-    """What a house has of a directory: its epoch, AllUpTo (None where no skulk was complete), members, and facts. A house that left
-    the directory has an epoch alone.
-    """
+    """What a house has of a directory: its epoch, AllUpTo (None where no skulk was complete), members, and facts. A
+    house that left the directory has an epoch alone."""
 
     def __init__(self, epoch: int, up_to: str | None = None, members: str = "", facts: Facts | None = None) -> None:
         self.epoch, self.up_to, self.members, self.facts = epoch, up_to, members, {} if facts is None else facts

@@ -7,11 +7,14 @@ import fcntl
 import glob
 import os
 import subprocess
+from collections.abc import Mapping, Sequence
 
 from building.sources import ROOT
 
 # Set in what a user's command runs, once it was said that answers are unproved.
 SAID = "CDS_SAID_UNPROVED"
+# How long a run may take, in seconds.
+LONGEST = 60
 
 
 class NoProgram(Exception):
@@ -74,3 +77,11 @@ def plain(given: str | None = None) -> str:
 def plain_house(given: str | None = None) -> str:
     """The plain house, or the one that is given."""
     return os.path.abspath(given) if given else compiled("bench/house.rs", "out/plain-house")
+
+
+def ran(
+    words: Sequence[str], octets: bytes = b"", seconds: float = LONGEST, environment: Mapping[str, str] | None = None
+) -> tuple[int, bytes]:
+    """The status and the output of a program, by its path and its words, that reads these octets."""
+    done = subprocess.run(words, input=octets, capture_output=True, timeout=seconds, env=environment, check=False)
+    return done.returncode, done.stdout

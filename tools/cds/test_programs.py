@@ -57,12 +57,19 @@ class OfChoices(unittest.TestCase):
     def test_what_is_asked_for_is_proved_first(self) -> None:
         self.assertEqual(chosen("cdsmend", None, True), "/path/cdsmend--find")
         self.assertEqual(proved("cdsmend", True), "/path/cdsmend--proved")
-        self.assertEqual([it.split()[:2] for it in self.words()], [["cdsmend"], ["cdsmend", "--find"], ["cdsmend", "1"], ["cdsmend", "--proved"]])
+        self.assertEqual(
+            [it.split()[:2] for it in self.words()],
+            [["cdsmend"], ["cdsmend", "--find"], ["cdsmend", "1"], ["cdsmend", "--proved"]],
+        )
 
     def test_a_failure_is_one(self) -> None:
         with open(f"{self.tools}/fails", "w", encoding="utf-8"):
             pass
-        for call in (lambda: chosen("cdsmend"), lambda: chosen("cdsmend", None, True), lambda: proved("cdsmend", False)):
+        for call in (
+            lambda: chosen("cdsmend"),
+            lambda: chosen("cdsmend", None, True),
+            lambda: proved("cdsmend", False),
+        ):
             with self.assertRaises(NoProgram):
                 call()
 

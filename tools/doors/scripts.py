@@ -5,9 +5,9 @@ from __future__ import annotations
 import collections
 import glob
 import os
+import random
 import re
 import subprocess
-import sys
 import tempfile
 import time
 from collections.abc import Callable, Iterable, Iterator
@@ -15,8 +15,9 @@ from collections.abc import Callable, Iterable, Iterator
 from building.sources import ROOT
 from cds.answers import answers_of
 from cds.processes import ENDS, Process, take_lines
-from housing.console import Console
+from cds.console import Console
 from doors.lines import ASKS, PLANS
+from fuzzing.scripts import script
 from running.case_files import all_cases
 
 # What a house does by itself: the words after the house are those of its own line.
@@ -265,8 +266,7 @@ def random_scripts(seed: int, plain: str, seconds: float) -> Iterator[Script]:
     """Scripts as `tools/fuzz` makes them, from this seed on, for so many seconds."""
     until = time.monotonic() + seconds
     while time.monotonic() < until:
-        words = [sys.executable, f"{ROOT}/tools/doors/fuzzed.py", str(seed), plain]
-        yield f"seed {seed}", subprocess.run(words, stdout=subprocess.PIPE, check=True).stdout
+        yield f"seed {seed}", script(random.Random(seed), plain, ["inquire"])
         seed += 1
 
 

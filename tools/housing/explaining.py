@@ -3,7 +3,7 @@
 A script's line comes with the answer that the journals have for it, or None where they have none.
 """
 import collections
-from housing.console import listing
+from cds.console import listing
 
 # The lines that a house answers by itself.
 UPDATES = ("create", "link", "delete", "add", "remove", "put", "clear", "skulk")

@@ -8,7 +8,7 @@ from building.sources import ROOT
 from housing import explaining
 from cds import journals
 from housing import replaying
-from housing.console import Console
+from cds.console import Console
 from doors.ledger import Ledger
 from cds.processes import Process, take_lines
 

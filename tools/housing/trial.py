@@ -9,7 +9,7 @@ import time
 from housing import explaining
 from cds import journals
 from housing import replaying
-from housing.console import Console
+from cds.console import Console
 from housing.lives import DISK_FAULT, KILLED, NO_POWER, Difference, House
 from housing.net import Net
 from cds.processes import Silent

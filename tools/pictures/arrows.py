@@ -20,7 +20,8 @@ class Arrows(Marks):
                     yield message
 
     def draw_message(self, message):
-        """The arrows of a message: to each delivery, to where it was lost, and out of the row where it goes on elsewhere."""
+        """The arrows of a message: to each delivery, to where it was lost, and out of the row where it goes on
+        elsewhere."""
         title = self.message_title(message)
         self.used.add(message.kind)
         home = self.row_of(self.column[message.posted]) if self.in_view(message.posted) else None
@@ -51,7 +52,10 @@ class Arrows(Marks):
 
     def gap(self, message):
         """How far from its end a message from elsewhere comes in, or to elsewhere goes: more where it goes farther."""
-        return min(18 + 8 * abs(self.lane_for(message.receiver, message.dir) - self.lane_for(message.sender, message.dir)), LANE - 14)
+        return min(
+            18 + 8 * abs(self.lane_for(message.receiver, message.dir) - self.lane_for(message.sender, message.dir)),
+            LANE - 14,
+        )
 
     def break_y(self, row, message):
         """Where a message is lost: before it comes to its receiver."""
@@ -59,14 +63,21 @@ class Arrows(Marks):
 
     def start(self, message, row):
         """The place at which a message leaves its sender."""
-        lane, is_mark = self.lane_for(message.sender, message.dir), self.replay.steps[message.posted].house == message.sender
+        lane, is_mark = (
+            self.lane_for(message.sender, message.dir),
+            self.replay.steps[message.posted].house == message.sender,
+        )
         return row.x(self.column[message.posted]), row.y(lane) + self.sign(message) * (MARK / 2 if is_mark else 0)
 
     def draw_delivery(self, message, at, row, is_home, title):
         """The arrow to a delivery, from where it was posted, or from elsewhere."""
         sign, step = self.sign(message), self.replay.steps[at]
         x, y = row.x(self.column[at]), row.y(self.lane_for(message.receiver, message.dir)) - sign * (MARK / 2 + 1)
-        begin = self.start(message, row) if is_home else (max(row.left - 8, x - self.pitch * 1.1), y - sign * self.gap(message))
+        begin = (
+            self.start(message, row)
+            if is_home
+            else (max(row.left - 8, x - self.pitch * 1.1), y - sign * self.gap(message))
+        )
         points = self.route(row, begin, (x, y))
         shapes = [path(points, "hit"), path(points, "line"), head(points, not step.has_changed)]
         if not is_home:

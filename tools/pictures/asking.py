@@ -1,7 +1,7 @@
 """Asks the program what each house has after each line of a script, in one run.
 
-The questions `octets house H`, `octets msg N` and, of the form `journal`, `image H` are put between the lines of the script. They change
-nothing; the answers to the script's own lines are compared with those of a run without them.
+The questions `octets house H`, `octets msg N` and, of the form `journal`, `image H` are put between the lines of the
+script. They change nothing; the answers to the script's own lines are compared with those of a run without them.
 """
 import subprocess
 import tempfile
@@ -18,7 +18,8 @@ class Broken(Exception):
 
 
 def lines_from(program, words, script):
-    """The lines that the program writes for a script, one after the other. Its status is 0, or 3 where the script is faulty."""
+    """The lines that the program writes for a script, one after the other. Its status is 0, or 3 where the script is
+    faulty."""
     with tempfile.TemporaryFile() as source:
         source.write(script)
         source.seek(0)
@@ -44,7 +45,8 @@ def houses_of(step, replay):
 
 
 class Script:
-    """A script that grows by questions. `owners` has for each line the line of the script that it is, or what it asks."""
+    """A script that grows by questions. `owners` has for each line the line of the script that it is, or what it
+    asks."""
 
     def __init__(self, is_journal):
         self.lines, self.owners, self.is_journal = [], [], is_journal
@@ -66,7 +68,8 @@ class Script:
 
 
 class Asked:
-    """What the program answered: `images` by step and house, -1 being before the first one, and `loads` by the serial of a message."""
+    """What the program answered: `images` by step and house, -1 being before the first one, and `loads` by the serial
+    of a message."""
 
     def __init__(self):
         self.answers, self.images, self.journals, self.loads, self.last, self.size = [], {}, {}, {}, {}, 0
@@ -86,12 +89,15 @@ class Asked:
             self.last[place] = octets
             self.size += len(octets)
         if self.size > MOST_OCTETS:
-            raise Undrawable(f"what houses have takes more than {MOST_OCTETS} octets; choose a part with --from, --to and --dir")
+            raise Undrawable(
+                f"what houses have takes more than {MOST_OCTETS} octets; choose a part with --from, --to and --dir"
+            )
         return self.last[place]
 
 
 def leaders(replay):
-    """For each message the serial of one that carries the same: the first one of its step that went to several houses."""
+    """For each message the serial of one that carries the same: the first one of its step that went to several
+    houses."""
     found, before = {}, None
     for message in replay.messages.values():
         is_same = before is not None and before.posted == message.posted and is_mate(before, message)
@@ -118,7 +124,8 @@ def asked_at(replay):
 
 
 def questions(lines, replay, first, last, is_journal, is_thorough):
-    """The script with its questions: about steps from `first` to `last`, and about all houses before them and after them."""
+    """The script with its questions: about steps from `first` to `last`, and about all houses before them and after
+    them."""
     script, begins, posted = Script(is_journal), 0, asked_at(replay)
     for step in replay.steps[: last + 1]:
         for line in range(begins, step.line):

@@ -1,7 +1,7 @@
 """A cell as the words of a script and of its answers tell it: houses, what they hold, and the messages that they post.
 
-What an answer does not say follows from the commands before it: which houses get the messages that it posts, what these messages are,
-and what a house holds once it has taken one.
+What an answer does not say follows from the commands before it: which houses get the messages that it posts, what these
+messages are, and what a house holds once it has taken one.
 """
 from cds.commands import COMMANDS, SERVICES, UPDATES
 from .facts import Epoch, Fault, Message, Rise, Skulk, numbers, order, plural, secondary
@@ -149,7 +149,9 @@ class Replay(Walks):
             entry.become("child", (entry.lead[0], (int(step.words[3]), *sorted(numbers(step.words[4])))))
         elif step.command in ("create", "link", "delete"):
             is_link = step.command == "link"
-            entry.become({"create": "object", "link": "link", "delete": None}[step.command], step.words[3] if is_link else None)
+            entry.become(
+                {"create": "object", "link": "link", "delete": None}[step.command], step.words[3] if is_link else None
+            )
 
     def do_epoch(self, step, said):
         """A new epoch begins."""
@@ -296,7 +298,8 @@ class Replay(Walks):
         return skulk.answered | {message.sender} == set(others)
 
     def do_service(self, step, said):
-        """Updates of an entry by its full name: at the house that the walk comes to, where the script tells which that is."""
+        """Updates of an entry by its full name: at the house that the walk comes to, where the script tells which that
+        is."""
         count, found = int(said[0]), self.walk(step.words[0])
         if found:
             house, directory, name = found

@@ -1,4 +1,5 @@
-"""Which steps of a replay a picture has: those between two lines, of a directory, of houses, of an entry, or of a message."""
+"""Which steps of a replay a picture has: those between two lines, of a directory, of houses, of an entry, or of a
+message."""
 from cds import answers, commands
 from .shapes import Undrawable
 
@@ -9,7 +10,14 @@ class Choice:
     """What a picture is of. None is all."""
 
     def __init__(self, first=1, last=2**63, directory=None, houses=None, entry=None, message=None):
-        self.first, self.last, self.dir, self.houses, self.entry, self.message = first, last, directory, houses, entry, message
+        self.first, self.last, self.dir, self.houses, self.entry, self.message = (
+            first,
+            last,
+            directory,
+            houses,
+            entry,
+            message,
+        )
 
     def steps(self, replay):
         """The steps that are chosen."""
@@ -17,7 +25,12 @@ class Choice:
             raise Undrawable(f"the script makes no directory {self.dir}")
         if self.message and self.message not in replay.messages:
             raise Undrawable(f"the script posts no message {self.message}")
-        tests = [self.is_of_directory(replay), self.is_of_houses(), self.is_of_entry(replay), self.is_of_message(replay)]
+        tests = [
+            self.is_of_directory(replay),
+            self.is_of_houses(),
+            self.is_of_entry(replay),
+            self.is_of_message(replay),
+        ]
         tests = [it for it in tests if it]
         steps = [it for it in replay.steps if self.first <= it.line <= self.last and all(test(it) for test in tests)]
         if not steps:
@@ -52,7 +65,12 @@ class Choice:
     def is_of_houses(self):
         """Asks whether a step is at one of the houses, or loses a message between two of them."""
         houses = self.houses
-        return houses and (lambda it: it.house in houses or it.command == "lose" and it.message and {it.message.sender, it.message.receiver} <= houses)
+        return houses and (
+            lambda it: it.house in houses
+            or it.command == "lose"
+            and it.message
+            and {it.message.sender, it.message.receiver} <= houses
+        )
 
     def is_of_entry(self, replay):
         """Asks whether a step names the entry, or delivers or loses an update of it."""
@@ -64,9 +82,15 @@ class Choice:
                 return step.found[2] == self.entry
             words = [it for it in step.words if it]
             return any(it.startswith("/.:") and it.split("/")[-1] == self.entry for it in words) or (
-                step.command in (*commands.UPDATES, "mkdir") and step.words[2] == self.entry)
+                step.command in (*commands.UPDATES, "mkdir") and step.words[2] == self.entry
+            )
 
-        return lambda it: names(it) or bool(it.message) and it.message.kind == "Update" and names(replay.steps[it.message.posted])
+        return (
+            lambda it: names(it)
+            or bool(it.message)
+            and it.message.kind == "Update"
+            and names(replay.steps[it.message.posted])
+        )
 
     def is_of_message(self, replay):
         """Asks whether a step posts, delivers or loses the message."""

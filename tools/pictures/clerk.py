@@ -1,4 +1,5 @@
-"""The list of answers that a clerk keeps. No answer of the program has it: it follows from what the houses have at each read.
+"""The list of answers that a clerk keeps. No answer of the program has it: it follows from what the houses have at each
+read.
 
 Each read is answered here too, and where the program answers otherwise the list is given up.
 """
@@ -52,14 +53,20 @@ class Reads:
         kind, _, death = self.tables.get((house, pointer[0]), {}).get(name, "absent - -").split()
         if kind == "absent" or death != "live":
             return "absent", house, None
-        leads = {"object": [None], "link": self.links(house, pointer[0], name), "child": self.pointers(house, pointer[0], name)}[kind]
+        leads = {
+            "object": [None],
+            "link": self.links(house, pointer[0], name),
+            "child": self.pointers(house, pointer[0], name),
+        }[kind]
         return (kind, house, leads[0]) if len(leads) == 1 else ("absent", house, None)
 
     def values(self, house, directory, name, attribute):
         """The values of an attribute that a house shows, in the order of their octets."""
         prefix = f"{name}\t{attribute}\t"
         table = self.tables.get((house, directory), {})
-        return sorted(key[len(prefix) :] for key, said in table.items() if key.startswith(prefix) and said.startswith("present"))
+        return sorted(
+            key[len(prefix) :] for key, said in table.items() if key.startswith(prefix) and said.startswith("present")
+        )
 
     def links(self, house, directory, name):
         """The names to which a link leads."""
@@ -109,7 +116,8 @@ class Clerk:
             name = found[1]
 
     def walk(self, house, names, line):
-        """Walks a name: `again` and the next name, `refused` and the answer, or `found` and its pointer and simple name."""
+        """Walks a name: `again` and the next name, `refused` and the answer, or `found` and its pointer and simple
+        name."""
         pointer = self.reads.root
         if not names:
             return "refused", "refused RootName"
@@ -117,7 +125,9 @@ class Clerk:
             if pointer is None:
                 return "refused", "refused Unreachable 1"
             here = pointer
-            sight = self.ask((house, here, name, None), lambda here=here, name=name: self.reads.sees(here, house, name), line)
+            sight = self.ask(
+                (house, here, name, None), lambda here=here, name=name: self.reads.sees(here, house, name), line
+            )
             if sight is None:
                 return "refused", f"refused Unreachable {here[0]}"
             kind, _, lead = sight
@@ -147,7 +157,8 @@ class Clerk:
 
 
 def lists(replay, states, room):
-    """For each read at low confidence what it did with the list, by its place; or None from where the program answers otherwise."""
+    """For each read at low confidence what it did with the list, by its place; or None from where the program answers
+    otherwise."""
     reads, found = Reads(), {}
     clerk = Clerk(room, reads)
     for step in replay.steps:
@@ -156,7 +167,9 @@ def lists(replay, states, room):
             if f"{step.line} {clerk.read(step)}" != step.answer:
                 found[step.at] = None
                 return found
-            found[step.at] = [[it, *query_text(query), answer_text(answer), line] for it, query, answer, line in clerk.used]
+            found[step.at] = [
+                [it, *query_text(query), answer_text(answer), line] for it, query, answer, line in clerk.used
+            ]
     return found
 
 

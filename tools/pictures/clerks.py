@@ -1,4 +1,5 @@
-"""The clerk of a picture in time: a line below the houses, with the answers that it keeps and the reads that used them."""
+"""The clerk of a picture in time: a line below the houses, with the answers that it keeps and the reads that used
+them."""
 from .folded import Folded
 from .rows import LANE, MARK
 from .shapes import head, number, path, rect, text, titled
@@ -18,7 +19,14 @@ class Clerked(Folded):
                     shown[row, kept.at] = self.draw_kept(row, kept)
                 self.draw_use(row, self.replay.steps[at], kept, shown.get((row, kept.at)))
         for row in self.rows if self.has_clerk else ():
-            self.add("label", titled("", "answers that the clerk of the client keeps", text(16, self.clerk_y(row) + 4, "clerk", "house ink")))
+            self.add(
+                "label",
+                titled(
+                    "",
+                    "answers that the clerk of the client keeps",
+                    text(16, self.clerk_y(row) + 4, "clerk", "house ink"),
+                ),
+            )
 
     def clerk_y(self, row):
         """The height of the clerk's line in a row."""
@@ -30,8 +38,13 @@ class Clerked(Folded):
         values = " ".join(map(said_of, kept.answer.split()[3:])) or "none"
         name = f"{kept.words[2].split('/')[-1]} {kept.words[3]} = {values}"
         title = "\n".join([f"the clerk keeps: {name}", *told(kept)])
-        way = f'<path d="M{number(x)} {number(row.y(self.lane_of(kept)) + MARK / 2)}V{number(y - MARK / 2)}" class="leader"/>'
-        shapes = rect(x - self.mark_width / 2, y - MARK / 2, self.mark_width, MARK, "asked", 2), text(x, y + 4, str(kept.line), "number")
+        way = (
+            f'<path d="M{number(x)} {number(row.y(self.lane_of(kept)) + MARK / 2)}V{number(y - MARK / 2)}"'
+            ' class="leader"/>'
+        )
+        shapes = rect(x - self.mark_width / 2, y - MARK / 2, self.mark_width, MARK, "asked", 2), text(
+            x, y + 4, str(kept.line), "number"
+        )
         self.add("guide", way)
         self.add("mark", titled("step bare", title, *shapes))
         return x, y - MARK / 2

@@ -1,11 +1,29 @@
-"""Draws what happened in a replay as one SVG: houses as lines from left to right, steps as marks on them, messages as arrows."""
+"""Draws what happened in a replay as one SVG: houses as lines from left to right, steps as marks on them, messages as
+arrows."""
 import math
 
 from cds import records
 from .clerks import Clerked
 from .facts import plural
 from .rows import EDGE, LEAST, MARK, OVERHANG, SLOPE
-from .shapes import KINDS, badge, bolt, circle, cross, dots, escaped, head, line, number, path, rect, short, styles, text, width_of
+from .shapes import (
+    KINDS,
+    badge,
+    bolt,
+    circle,
+    cross,
+    dots,
+    escaped,
+    head,
+    line,
+    number,
+    path,
+    rect,
+    short,
+    styles,
+    text,
+    width_of,
+)
 
 HIGHEST = 32_767  # pixels: more many programs don't show
 ROOM = 1_500  # for a heading, and for what is another place where a part begins
@@ -64,7 +82,10 @@ class Picture(Clerked):
 
     def end_of_words(self, row):
         """Where a row ends, with the words above its last columns."""
-        ends = [row.x(at) + width_of(self.label_of(self.columns[at])) * math.cos(math.radians(SLOPE)) for at in range(row.first, row.end)]
+        ends = [
+            row.x(at) + width_of(self.label_of(self.columns[at])) * math.cos(math.radians(SLOPE))
+            for at in range(row.first, row.end)
+        ]
         return max(row.right + OVERHANG, *ends)
 
     def whole(self):
@@ -125,10 +146,17 @@ class Picture(Clerked):
         left = [it for it in posted if it.serial not in took]
         lost = sum(it.lost is not None for it in left)
         idle = sum(it.lost is None and bool(it.deliveries) for it in left)
-        parts = [f"{len(took)} taken", f"{lost} lost", f"{idle} refused or late", f"{len(left) - lost - idle} never delivered"]
+        parts = [
+            f"{len(took)} taken",
+            f"{lost} lost",
+            f"{idle} refused or late",
+            f"{len(left) - lost - idle} never delivered",
+        ]
         said = [plural(len(self.steps), "step"), plural(len(self.houses), "house")]
         if posted:
-            said.append(plural(len(posted), "message") + ": " + ", ".join(it for it in parts if not it.startswith("0 ")))
+            said.append(
+                plural(len(posted), "message") + ": " + ", ".join(it for it in parts if not it.startswith("0 "))
+            )
         skulks = self.skulks()
         if skulks:
             said.append(plural(len(skulks), "skulk") + f", {sum(it.is_complete for it in skulks)} complete")
@@ -167,9 +195,8 @@ def sample(kind, x, y, message):
 
 
 def draw(replay, name, choice, room=None):
-    """The SVG of a replay; or several, each of a part of the script, where one is too high for programs that show it. `room` is how many
-    answers its clerk keeps, if there is one.
-    """
+    """The SVG of a replay; or several, each of a part of the script, where one is too high for programs that show it.
+    `room` is how many answers its clerk keeps, if there is one."""
     picture = Picture(replay, name, choice, room)
     drawn = picture.draw()
     if picture.height <= HIGHEST:

@@ -63,7 +63,9 @@ class State:
         if entry is None:
             return
         if command == "export":
-            entry.towers += [(words[1].lower(), it) for it in listed(words[2]) if (words[1].lower(), it) not in entry.towers]
+            entry.towers += [
+                (words[1].lower(), it) for it in listed(words[2]) if (words[1].lower(), it) not in entry.towers
+            ]
             entry.objects += [it.lower() for it in listed(words[3]) if it.lower() not in entry.objects]
         elif command == "unexport":
             entry.towers = [it for it in entry.towers if it[0] != words[1].lower()]
@@ -78,7 +80,8 @@ class State:
             entry.elements = [it for it in entry.elements if (it[5], it[7]) != (words[1].lower(), words[2])]
 
     def place_of(self, name, follows=False, left=commands.MOST_LINKS):
-        """The directory and the simple name of a full name; links on the way are followed, and the last one where that is asked."""
+        """The directory and the simple name of a full name; links on the way are followed, and the last one where that
+        is asked."""
         directory, names = 1, name.split("/")[2:]
         for at, it in enumerate(names):
             entry, is_last = self.entries.get((directory, it)), at + 1 == len(names)

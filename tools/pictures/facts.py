@@ -9,10 +9,9 @@ class Fault(Exception):
 
 
 class Step:
-    """A command with its answer. `house` acts or is asked, and is None where the words don't tell. `stop` is the house that is to
-    lose its power inside it, if one is.
-    `posted` are the serials of its answer that no message has yet. `found` are the house, the directory and the simple name of the
-    entry that a command of the name service changed.
+    """A command with its answer. `house` acts or is asked, and is None where the words don't tell. `stop` is the house
+    that is to lose its power inside it, if one is. `posted` are the serials of its answer that no message has yet.
+    `found` are the house, the directory and the simple name of the entry that a command of the name service changed.
     """
 
     house, outcome, dirs, message, answer, posted, has_changed, found = None, "ok", (), None, "", (), False, None
@@ -56,12 +55,18 @@ class Epoch:
 
 
 class Skulk:
-    """A skulk; `end` is the step that completed it or ended it, or None where it still runs. `answered` are the members whose answers
-    it has in its round.
-    """
+    """A skulk; `end` is the step that completed it or ended it, or None where it still runs. `answered` are the members
+    whose answers it has in its round."""
 
     def __init__(self, directory, house, stamp, start):
-        self.dir, self.house, self.stamp, self.start, self.end, self.is_complete = directory, house, stamp, start, None, False
+        self.dir, self.house, self.stamp, self.start, self.end, self.is_complete = (
+            directory,
+            house,
+            stamp,
+            start,
+            None,
+            False,
+        )
         self.answered = set()
 
 
@@ -94,7 +99,8 @@ def secondary(text):
 
 
 class Entry:
-    """What the script made of a name in a directory: what it is now, where it leads, and whether that is all it ever was."""
+    """What the script made of a name in a directory: what it is now, where it leads, and whether that is all it ever
+    was."""
 
     def __init__(self):
         self.kind, self.lead, self.is_plain = None, None, True

@@ -28,7 +28,14 @@ class Folded(Arrows):
             return
         heights = sorted(self.height_of(row, it) for it in column.steps)
         title = f"{column.label(self.replay.messages)}\n" + "\n".join([*told(column.first), *told(column.last)])
-        bar = rect(x - self.mark_width / 2 - 4, heights[0] - MARK / 2 - 4, self.mark_width + 8, heights[-1] - heights[0] + MARK + 8, "bar", 8)
+        bar = rect(
+            x - self.mark_width / 2 - 4,
+            heights[0] - MARK / 2 - 4,
+            self.mark_width + 8,
+            heights[-1] - heights[0] + MARK + 8,
+            "bar",
+            8,
+        )
         self.add("guide", titled(message.kind, title, bar))
         for step in (it for it in column.steps if it.command == "lose" and it.outcome == "ok"):
             self.used.add("lost")
@@ -36,17 +43,26 @@ class Folded(Arrows):
             self.add("arrow", titled(message.kind, "\n".join([*told(step), name_of(step.message)]), lost))
         lanes = [self.lane_for(it.message.receiver, message.dir) for it in column.steps]
         own = self.lane_for(message.sender, message.dir)
-        nearest = [max((it for it in lanes if it < own), default=None), min((it for it in lanes if it > own), default=None)]
+        nearest = [
+            max((it for it in lanes if it < own), default=None),
+            min((it for it in lanes if it > own), default=None),
+        ]
         for lane in (it for it in nearest if it is not None):
             self.draw_joint(row, message, (x, row.y(lane)), title)
 
     def draw_joint(self, row, message, end, title):
         """An arrow in place of those of a fan, to the edge of its nearest mark."""
         is_home = self.is_in(row, message.posted)
-        sign = 1 if row.y(self.lane_for(message.sender, message.dir)) < end[1] else -1 if is_home else self.sign(message)
+        sign = (
+            1 if row.y(self.lane_for(message.sender, message.dir)) < end[1] else -1 if is_home else self.sign(message)
+        )
         end = end[0], end[1] - sign * (MARK / 2 + 1)
         column = self.column.get(message.posted)
-        begin = (row.x(column), row.y(self.lane_for(message.sender, message.dir)) + sign * MARK / 2) if is_home else (end[0] - self.pitch, end[1] - sign * 18)
+        begin = (
+            (row.x(column), row.y(self.lane_for(message.sender, message.dir)) + sign * MARK / 2)
+            if is_home
+            else (end[0] - self.pitch, end[1] - sign * 18)
+        )
         stub = "" if is_home else self.stub(begin, message.posted, "<", sign)
         self.add("arrow", titled(message.kind, title, path([begin, end], "line"), head([begin, end], False), stub))
 
@@ -56,7 +72,9 @@ class Folded(Arrows):
         lane = self.lane_of(column.first)
         y, width = row.y(lane), self.mark_width + 10
         title = f"{column.label(self.replay.messages)}\n" + "\n".join([*told(column.first), *told(column.last)])
-        shapes = rect(x - width / 2, y - MARK / 2, width, MARK, "full", MARK / 2), text(x, y + 4, f"{column.first.line}…", "number")
+        shapes = rect(x - width / 2, y - MARK / 2, width, MARK, "full", MARK / 2), text(
+            x, y + 4, f"{column.first.line}…", "number"
+        )
         self.used.add("delivery")
         self.add("mark", titled(message.kind, title, *shapes, name=f"line-{column.first.line}"))
         froms = {self.column.get(it.message.posted): it.message for it in column.steps}

@@ -1,4 +1,5 @@
-"""Steps that share a column of a picture: houses that are made, a fan of deliveries, and answers that come to one house."""
+"""Steps that share a column of a picture: houses that are made, a fan of deliveries, and answers that come to one
+house."""
 from .shapes import short
 
 MOST_HOUSES, LEAST_FOLDED = 4, 6
@@ -12,7 +13,8 @@ class Column:
         self.kind, self.steps, self.first, self.last = kind, steps, steps[0], steps[-1]
 
     def counts(self, messages):
-        """What is said of a fan or of answers: how many of the messages that were posted with them were taken, and which were lost."""
+        """What is said of a fan or of answers: how many of the messages that were posted with them were taken, and
+        which were lost."""
         first = self.first.message
         taken = {it.message.serial for it in self.steps if it.has_changed and it.command == "deliver"}
         if self.kind == "answers":
@@ -48,9 +50,20 @@ def is_fan(step, run):
 def is_answer(step, run):
     """Whether a step delivers one more answer to a skulk, which is not the last of its round."""
     message, first = step.message, run[0].message if run else step.message
-    if message is None or step.command != "deliver" or step.stop is not None or step.outcome == "complete" or " posted " in step.answer:
+    if (
+        message is None
+        or step.command != "deliver"
+        or step.stop is not None
+        or step.outcome == "complete"
+        or " posted " in step.answer
+    ):
         return False
-    is_same = message.kind == first.kind and message.receiver == first.receiver and message.stamp == first.stamp and message.dir == first.dir
+    is_same = (
+        message.kind == first.kind
+        and message.receiver == first.receiver
+        and message.stamp == first.stamp
+        and message.dir == first.dir
+    )
     return message.kind in ("Gathered", "SpreadAck") and is_same
 
 

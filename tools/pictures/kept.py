@@ -1,18 +1,22 @@
 """Which reads a clerk answers from its list, as far as the words of a script and its answers say.
 
-They do where nothing went out of the list: where all that the reads of the script ask for has room in it. Then a read that was asked
-and answered before is answered from the list, unless the houses of a directory were changed since.
+They do where nothing went out of the list: where all that the reads of the script ask for has room in it. Then a read
+that was asked and answered before is answered from the list, unless the houses of a directory were changed since.
 """
 
 
 def used_answers(replay, room):
-    """For each read that is answered from the list, the read that it is kept from; or nothing where that is not known."""
+    """For each read that is answered from the list, the read that it is kept from; or nothing where that is not
+    known."""
     reads = [it for it in replay.steps if it.command == "read" and it.words[1] == "low" and it.house is not None]
     asked = {}
     for step in reads:
         asked.setdefault((step.words[0], step.words[2], step.words[3]), []).append(step)
     # (a question for each component of a name, and one for the attribute; links are walked again)
-    if any(it.command == "link" for it in replay.steps) or sum(len(it[0].words[2].split("/")) for it in asked.values()) > room:
+    if (
+        any(it.command == "link" for it in replay.steps)
+        or sum(len(it[0].words[2].split("/")) for it in asked.values()) > room
+    ):
         return {}
     found = {}
     for steps in asked.values():

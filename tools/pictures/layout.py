@@ -11,7 +11,6 @@ from .titles import epoch_title, label_of
 MOST_SHOWN = 10  # lines of houses; of more a row has those alone that have to do with it
 
 
-
 class Layout:
     """The steps, houses, rows and lines of a picture, between two lines of the script, of one directory or of all."""
 
@@ -76,7 +75,12 @@ class Layout:
     def is_broken(self, step):
         """Whether a step loses a message whose way is known."""
         message = step.message
-        return step.command == "lose" and step.outcome == "ok" and message.sender in self.lane and message.receiver in self.lane
+        return (
+            step.command == "lose"
+            and step.outcome == "ok"
+            and message.sender in self.lane
+            and message.receiver in self.lane
+        )
 
     def lane_of(self, step):
         """The line that a step is at, or None if it is on the way of a message."""
@@ -150,9 +154,8 @@ class Layout:
         return [it for it in (lane, *lanes) if it < len(self.lanes)]
 
     def cuts(self, rooms, width):
-        """Where rows begin and end, of which none is wider: in the last third of what has room, where the least goes on in the next
-        one. What is left for the last two rows is cut into more equal ones.
-        """
+        """Where rows begin and end, of which none is wider: in the last third of what has room, where the least goes on
+        in the next one. What is left for the last two rows is cut into more equal ones."""
         spans = self.open_spans()
         begin, cuts = 0, []
         while begin < len(rooms):

@@ -41,7 +41,11 @@ class Marks(Layout):
         lane = self.lane_of(step)
         if lane is None:
             is_folded = self.columns[self.column[step.at]].kind == "fan"
-            return row.y(self.lane_for(step.message.receiver, step.message.dir)) if is_folded else self.break_y(row, step.message)
+            return (
+                row.y(self.lane_for(step.message.receiver, step.message.dir))
+                if is_folded
+                else self.break_y(row, step.message)
+            )
         return row.y(lane) if lane in row.tops else row.bottom() - LANE / 2
 
     def draw_lanes(self):
@@ -87,7 +91,10 @@ class Marks(Layout):
 
     def skulk_title(self, skulk):
         """The hover text of a skulk."""
-        lines = [f"skulk {skulk.stamp} of directory {skulk.dir}, at house {skulk.house}", *told(self.replay.steps[skulk.start])]
+        lines = [
+            f"skulk {skulk.stamp} of directory {skulk.dir}, at house {skulk.house}",
+            *told(self.replay.steps[skulk.start]),
+        ]
         if skulk.end is None:
             return "\n".join([*lines, "it is not complete at the end of the script"])
         what = "complete" if skulk.is_complete else "ended, and never complete"
@@ -129,7 +136,9 @@ class Marks(Layout):
             fill = "hollow refused"
         elif step.command in commands.QUESTIONS:
             fill = "asked"
-        self.used.add("stopped" if is_stopped else fill if not is_delivery else "delivery" if fill == "full" else "late")
+        self.used.add(
+            "stopped" if is_stopped else fill if not is_delivery else "delivery" if fill == "full" else "late"
+        )
         title = "\n".join([*told(step), *([name_of(step.message)] if step.message else [])])
         shapes = rect(left, top, width, MARK, fill, radius), text(x, y + 4, str(step.line), "number")
         shapes += (bolt(left + width, top + 2),) if is_stopped else ()

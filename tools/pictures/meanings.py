@@ -24,7 +24,9 @@ def text(octets):
 def pointer(octets):
     """Where a child leads."""
     others = ", ".join(map(str, octets[6 : 5 + octets[4]]))
-    return f"directory {int.from_bytes(octets[:4], 'big')} at house {octets[5]}" + (f", and at {others}" if others else "")
+    return f"directory {int.from_bytes(octets[:4], 'big')} at house {octets[5]}" + (
+        f", and at {others}" if others else ""
+    )
 
 
 def an_object(octets):

@@ -1,4 +1,5 @@
-"""Draws the tree of names of a cell as one SVG: directories and entries as rows, links and members as arrows beside them."""
+"""Draws the tree of names of a cell as one SVG: directories and entries as rows, links and members as arrows beside
+them."""
 from .entries import State
 from .facts import plural
 from .rows import EDGE, LEAST
@@ -14,7 +15,8 @@ ARROWS = {
     "element": ("Gather", "an element of a profile"),
 }
 SIGNS = {"directory": "a directory", "object": "an object", "soft": "a link", "order": "order of the search"}
-MORE = """.soft{stroke-dasharray:5 3}.tree{fill:none;stroke:#8a939d;stroke-width:1px}.arrow{fill:none;stroke:currentColor;stroke-width:1.5px}
+MORE = """.soft{stroke-dasharray:5 3}.tree{fill:none;stroke:#8a939d;stroke-width:1px}\
+.arrow{fill:none;stroke:currentColor;stroke-width:1.5px}
 .order{fill:#1f2328}.ordered{fill:#fff;font-weight:bold;text-anchor:middle}.ring{stroke:#1f2328;stroke-width:1.6px}
 @media (prefers-color-scheme: dark){
 .order{fill:#e6edf3}.ordered{fill:#0d1117}.tree{stroke:#77828d}.ring{stroke:#e6edf3}
@@ -30,7 +32,15 @@ class Row:
     """A row: its place, its words in pieces with their classes, and the name that it leads to."""
 
     def __init__(self, x, height, pieces, place=None, lead=None, kind=None, sign=None, title=""):
-        self.x, self.height, self.pieces, self.place, self.lead, self.kind, self.sign = x, height, pieces, place, lead, kind, sign
+        self.x, self.height, self.pieces, self.place, self.lead, self.kind, self.sign = (
+            x,
+            height,
+            pieces,
+            place,
+            lead,
+            kind,
+            sign,
+        )
         self.title, self.y = title, 0
 
     def end(self):
@@ -134,7 +144,8 @@ class Picture:
         self.numbers = {place: at for at, place in enumerate(self.searched(), 1)}
 
     def searched(self):
-        """The entries that the search of an import comes to, if its answer is in their order; else those of its answer alone."""
+        """The entries that the search of an import comes to, if its answer is in their order; else those of its answer
+        alone."""
         if not self.search:
             return []
         bindings = [line.split()[2].split("@")[-1] for line in self.search.answer.split("\n") if " binding " in line]
@@ -173,7 +184,10 @@ class Picture:
         spans, chosen = [], {}
         for at in sorted(range(len(edges)), key=lambda it: abs(edges[it][0].y - edges[it][1].y)):
             low, high = sorted((edges[at][0].y, edges[at][1].y))
-            track = next((it for it, used in enumerate(spans) if all(high + 6 < one or other + 6 < low for one, other in used)), len(spans))
+            track = next(
+                (it for it, used in enumerate(spans) if all(high + 6 < one or other + 6 < low for one, other in used)),
+                len(spans),
+            )
             if track == len(spans):
                 spans.append([])
             spans[track].append((low, high))
@@ -187,16 +201,25 @@ class Picture:
             self.shapes.append(f'<path d="M{number(parent.x + 6)} {number(row.y)}H{number(row.x - 1)}" class="tree"/>')
             last[parent] = row
         for parent, row in last.items():
-            self.shapes.append(f'<path d="M{number(parent.x + 6)} {number(parent.y + 8)}V{number(row.y)}" class="tree"/>')
+            self.shapes.append(
+                f'<path d="M{number(parent.x + 6)} {number(parent.y + 8)}V{number(row.y)}" class="tree"/>'
+            )
 
     def draw_edge(self, row, target, x):
         """An arrow beside the rows, from behind the words of one to behind those of another."""
         kind = row.kind
         self.used.add(kind)
         # What comes in at a link's row is below what goes out.
-        y, to_y, end = row.y - (4 if kind == "link" else 0), target.y + (4 if target.lead or target.y < row.y else -4), target.end() + 6
+        y, to_y, end = (
+            row.y - (4 if kind == "link" else 0),
+            target.y + (4 if target.lead or target.y < row.y else -4),
+            target.end() + 6,
+        )
         turn = 6 if to_y > y else -6
-        shape = f"M{number(row.end() + 4)} {number(y)}H{number(x - 6)}q6 0 6 {turn}V{number(to_y - turn)}q0 {turn} -6 {turn}H{number(end)}"
+        shape = (
+            f"M{number(row.end() + 4)} {number(y)}H{number(x - 6)}q6 0 6 {turn}V{number(to_y - turn)}q0 {turn} -6"
+            f" {turn}H{number(end)}"
+        )
         soft = " soft" if kind == "link" else ""
         arrow = head([(x, to_y), (end, to_y)], False)
         title = f"{row.lead}: {ARROWS[kind][1]}"
@@ -225,7 +248,9 @@ class Picture:
             y += 17
         if self.state.untold:
             untold = plural(self.state.untold, "command")
-            shapes.append(text(EDGE, y, f"{untold} of the name service left out: the script does not tell at which entry", "dim"))
+            shapes.append(
+                text(EDGE, y, f"{untold} of the name service left out: the script does not tell at which entry", "dim")
+            )
             y += 17
         y -= 14
         for group, items in (("entries", SIGNS), ("arrows", {it: words for it, (_, words) in ARROWS.items()})):
@@ -274,9 +299,13 @@ def sample(kind, x, y):
         return sign(kind, x + 8, y)
     points = [(x, y), (x + 28, y)]
     soft = " soft" if kind == "link" else ""
-    return f'<g class="{ARROWS[kind][0]}"><path d="M{number(x)} {number(y)}h26" class="arrow{soft}"/>{head(points, False)}</g>'
+    return (
+        f'<g class="{ARROWS[kind][0]}"><path d="M{number(x)} {number(y)}h26"'
+        f' class="arrow{soft}"/>{head(points, False)}</g>'
+    )
 
 
 def draw(replay, name, last=2**63, directory=None):
-    """The SVG of the names of a cell, as they are at a line: at the last one, or at the first import that lists bindings."""
+    """The SVG of the names of a cell, as they are at a line: at the last one, or at the first import that lists
+    bindings."""
     return Picture(replay, name, last, directory).draw()

@@ -1,4 +1,5 @@
-"""Packs a replay and its states for the page: lists of numbers and of words, which are named by their places in one list of words."""
+"""Packs a replay and its states for the page: lists of numbers and of words, which are named by their places in one
+list of words."""
 from . import choice, meanings, searches, skulks
 from .titles import label_of
 
@@ -39,13 +40,19 @@ class Pack:
             "born": replay.born,
             "downs": replay.downs,
             "holdings": replay.holdings,
-            "epochs": [[it.dir, it.number, it.master, it.members, it.secondary, it.step] for own in replay.epochs.values() for it in own],
+            "epochs": [
+                [it.dir, it.number, it.master, it.members, it.secondary, it.step]
+                for own in replay.epochs.values()
+                for it in own
+            ],
             "skulks": [[it.dir, it.house, it.stamp, it.start, it.end, it.is_complete] for it in replay.skulks],
             "answered": skulks.answered(replay),
             "messages": [self.message(it) for it in replay.messages.values() if it.posted <= self.ats[-1]],
             "names": self.names(),
             "rises": [[it.house, it.dir, it.stamp, it.step] for it in replay.rises],
-            "clocks": [[it.at, it.house, it.words[1]] for it in replay.steps if it.command == "clock" and it.outcome == "ok"],
+            "clocks": [
+                [it.at, it.house, it.words[1]] for it in replay.steps if it.command == "clock" and it.outcome == "ok"
+            ],
             "lineOf": [it.line for it in replay.steps],
             "searches": searches.searches(replay, self.steps),
             "changes": self.changes(),
@@ -60,13 +67,35 @@ class Pack:
         serial = step.message.serial if step.message else None
         label = label_of(step, self.replay)
         stop = step.text.split()[1:4] if step.stop is not None else None
-        return [step.at, step.line, step.command, step.house, step.dirs, step.outcome, step.has_changed, serial, step.answer, label, stop]
+        return [
+            step.at,
+            step.line,
+            step.command,
+            step.house,
+            step.dirs,
+            step.outcome,
+            step.has_changed,
+            serial,
+            step.answer,
+            label,
+            stop,
+        ]
 
     def message(self, it):
         """A message, with the place of what it carries."""
         taken = next((at for at in it.deliveries if self.replay.steps[at].has_changed), None)
         fate = [it.posted, it.deliveries, taken, it.lost]
-        return [it.serial, it.kind, it.sender, it.receiver, it.dir, it.epoch, it.stamp, *fate, self.load(self.states.loads.get(it.serial))]
+        return [
+            it.serial,
+            it.kind,
+            it.sender,
+            it.receiver,
+            it.dir,
+            it.epoch,
+            it.stamp,
+            *fate,
+            self.load(self.states.loads.get(it.serial)),
+        ]
 
     def load(self, load):
         """The place of what a message carries, or -1."""
@@ -84,7 +113,8 @@ class Pack:
         return [self.words.place(it) for pair in facts for it in pair]
 
     def changes(self):
-        """The changes at each step, before the first of which are all that led there. What lies between two goes to the later one."""
+        """The changes at each step, before the first of which are all that led there. What lies between two goes to the
+        later one."""
         packed, gathered, chosen = [], [], set(self.ats)
         for at, changes in self.states.changes.items():
             gathered += [self.change(house, it) for house, it in changes.items()]

@@ -1,4 +1,5 @@
-"""Writes the page on which a replay is stepped through: one HTML file, with its style, its script and what happened inside."""
+"""Writes the page on which a replay is stepped through: one HTML file, with its style, its script and what happened
+inside."""
 import base64
 import hashlib
 import html
@@ -35,7 +36,9 @@ def pack(replay, program, words, script, answers, first, last, directory):
     """What the page has of a replay."""
     steps = packing.chosen(replay, first, last, directory)
     if len(steps) > MOST_STEPS:
-        raise Undrawable(f"{len(steps)} steps are more than a page's {MOST_STEPS}; choose some with --from, --to and --dir")
+        raise Undrawable(
+            f"{len(steps)} steps are more than a page's {MOST_STEPS}; choose some with --from, --to and --dir"
+        )
     lines = script.decode("ascii").split("\n")[:-1]
     answers = answers.decode("ascii").split("\n")[:-1]
     begin, end = steps[0].at, steps[-1].at
@@ -49,12 +52,15 @@ def pack(replay, program, words, script, answers, first, last, directory):
 
 
 def texts(lines, steps):
-    """The lines of the script from the first chosen step, with the comments before it, to the last one, by their numbers."""
+    """The lines of the script from the first chosen step, with the comments before it, to the last one, by their
+    numbers."""
     begin, end = steps[0].line, steps[-1].line
     while begin > 1 and lines[begin - 2].lstrip()[:1] in ("", "#"):
         begin -= 1
     numbers = {it.line for it in steps}
-    return [[at, lines[at - 1]] for at in range(begin, end + 1) if at in numbers or lines[at - 1].lstrip()[:1] in ("", "#")]
+    return [
+        [at, lines[at - 1]] for at in range(begin, end + 1) if at in numbers or lines[at - 1].lstrip()[:1] in ("", "#")
+    ]
 
 
 def write(packed, name):
@@ -62,9 +68,14 @@ def write(packed, name):
     packed["name"] = name
     data = as_data(packed)
     if len(data) > MOST_OCTETS:
-        raise Undrawable(f"a page of {len(data)} octets is more than {MOST_OCTETS}; choose a part with --from, --to and --dir")
+        raise Undrawable(
+            f"a page of {len(data)} octets is more than {MOST_OCTETS}; choose a part with --from, --to and --dir"
+        )
     style = styles().removeprefix("<style>\n").removesuffix("\n</style>") + "\n" + part("page.css")
     script = '"use strict";\n' + "".join(part(f"{it}.js") for it in SCRIPTS)
-    policy = f"default-src 'none'; style-src 'sha256-{sum_of(style)}'; script-src 'sha256-{sum_of(script)}'; base-uri 'none'; form-action 'none'"
+    policy = (
+        f"default-src 'none'; style-src 'sha256-{sum_of(style)}'; script-src 'sha256-{sum_of(script)}'; base-uri"
+        " 'none'; form-action 'none'"
+    )
     parts = {"TITLE": html.escape(name), "POLICY": policy, "STYLE": style, "SCRIPT": script, "DATA": data}
     return "".join(parts.get(it, it) for it in part("page.html").split("%%"))

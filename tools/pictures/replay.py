@@ -1,4 +1,5 @@
-"""Reads what happened in a replay from a script and its answers. Nothing is replayed here: `cell` follows what the words tell."""
+"""Reads what happened in a replay from a script and its answers. Nothing is replayed here: `cell` follows what the
+words tell."""
 import re
 
 from .cell import STEPS, Replay

@@ -41,16 +41,25 @@ class Label:
 
 
 class Row:
-    """A row of the picture: the columns from `first` up to `end`, their places, and where its parts begin: from above the words of
-    its columns, the lines of the houses at `tops`, and the labels of skulks and epochs from `strip` on.
+    """A row of the picture: the columns from `first` up to `end`, their places, and where its parts begin: from above
+    the words of its columns, the lines of the houses at `tops`, and the labels of skulks and epochs from `strip` on.
     """
 
     def __init__(self, first, left):
-        self.first, self.end, self.xs, self.left, self.right, self.tops, self.height = first, first, [], left, left, {}, 0
+        self.first, self.end, self.xs, self.left, self.right, self.tops, self.height = (
+            first,
+            first,
+            [],
+            left,
+            left,
+            {},
+            0,
+        )
         self.labels, self.marks, self.strip, self.lanes, self.lane = [], {}, 0, 0, LANE
 
     def lay(self, lanes, shown):
-        """Gives the lines that are shown their heights, and last the one of no house. Many lines are nearer to each other."""
+        """Gives the lines that are shown their heights, and last the one of no house. Many lines are nearer to each
+        other."""
         is_many = len(shown) > MANY_LANES
         self.lane, sublane = (NEAR, NEAR) if is_many else (LANE, SUBLANE)
         y, before = 0, None

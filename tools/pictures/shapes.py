@@ -4,7 +4,8 @@ import math
 
 SIZE = 11  # of letters: as great in a column of 830, which is as wide as a narrow picture
 
-# Colours after Okabe and Ito on light ground, some of them darker; those of words on them; and lighter ones on dark ground.
+# Colours after Okabe and Ito on light ground, some of them darker; those of words on them; and lighter ones on dark
+# ground.
 KINDS = {
     "Update": ("#0072b2", "#fff", "#5aa9ea"),
     "Gather": ("#d98e00", "#000", "#e69f00"),
@@ -43,11 +44,14 @@ FIXED = """text{font-family:Helvetica,Arial,'Liberation Sans','DejaVu Sans',sans
 .hit{fill:none;stroke:#000;stroke-opacity:0;stroke-width:9px}
 .head{fill:currentColor;stroke:currentColor;stroke-linejoin:round}.full{fill:currentColor}
 .hollow{stroke:currentColor;stroke-width:1.4px}
-.refused{stroke-dasharray:2.5 2}.cross{fill:none;stroke:currentColor;stroke-width:2.4px}.lane{fill:none;stroke-width:1.3px}
-.master{stroke-width:3.4px}.secondary{stroke-width:3.4px;stroke-dasharray:11 3}.without{stroke-dasharray:1.5 4}.guide{stroke-width:1px}
+.refused{stroke-dasharray:2.5 2}.cross{fill:none;stroke:currentColor;stroke-width:2.4px}\
+.lane{fill:none;stroke-width:1.3px}
+.master{stroke-width:3.4px}.secondary{stroke-width:3.4px;stroke-dasharray:11 3}.without{stroke-dasharray:1.5 4}\
+.guide{stroke-width:1px}
 .bar{fill:currentColor;fill-opacity:.16}.stub{font-size:10px;font-weight:bold}svg text.stub{fill:currentColor}
 .upright{stroke-width:1.2px;stroke-dasharray:5 3}.leader{stroke-width:1px}
-.open{fill:none;stroke-width:1.2px;stroke-dasharray:6 4}.tag{stroke-width:1px}.bolt{stroke-width:.8px}.pale{opacity:.42}"""
+.open{fill:none;stroke-width:1.2px;stroke-dasharray:6 4}.tag{stroke-width:1px}.bolt{stroke-width:.8px}\
+.pale{opacity:.42}"""
 
 
 class Undrawable(Exception):

@@ -2,7 +2,8 @@
 
 
 def answered(replay):
-    """For each skulk the steps at which its house took an answer, with the member that gave it and whether the round ended then."""
+    """For each skulk the steps at which its house took an answer, with the member that gave it and whether the round
+    ended then."""
     found = []
     for skulk in replay.skulks:
         last = len(replay.steps) - 1 if skulk.end is None else skulk.end
@@ -13,7 +14,12 @@ def answered(replay):
 def answer(step, skulk):
     """What a step says of a skulk: its place, who answered, and whether the next round began; or None."""
     message = step.message
-    if message is None or step.command != "deliver" or not step.has_changed or message.kind not in ("Gathered", "SpreadAck"):
+    if (
+        message is None
+        or step.command != "deliver"
+        or not step.has_changed
+        or message.kind not in ("Gathered", "SpreadAck")
+    ):
         return None
     if (message.receiver, message.dir, message.stamp) != (skulk.house, skulk.dir, skulk.stamp):
         return None

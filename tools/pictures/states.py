@@ -5,7 +5,8 @@ from . import asking
 
 
 class House:
-    """A house as it is now: the octets of its image, its floor, and for each directory the head and the facts of its replica."""
+    """A house as it is now: the octets of its image, its floor, and for each directory the head and the facts of its
+    replica."""
 
     def __init__(self):
         self.octets, self.floor, self.size, self.puts, self.heads, self.facts = None, 0, 0, 0, {}, {}
@@ -22,7 +23,8 @@ class House:
         return Change(self, [it for it in changes if it[1] is not None or it[2]])
 
     def change(self, directory, replica):
-        """The new head of a directory, or None where it is the old one, and the facts that changed; None is one that is gone."""
+        """The new head of a directory, or None where it is the old one, and the facts that changed; None is one that is
+        gone."""
         head, facts = (replica.head(), replica.facts) if replica else ("", {})
         before = self.facts.get(directory, {})
         is_same = head == self.heads.get(directory, "")
@@ -32,7 +34,8 @@ class House:
 
 
 class Change:
-    """What a step changed of a house. `directories` has for each the new head or None, and pairs of a key and what it says now."""
+    """What a step changed of a house. `directories` has for each the new head or None, and pairs of a key and what it
+    says now."""
 
     def __init__(self, house, directories):
         self.floor, self.size, self.puts, self.directories = house.floor, house.size, house.puts, directories
@@ -45,9 +48,8 @@ def differences(before, facts):
 
 
 class States:
-    """The changes of each step from `first` to `last`, by house, and at `first - 1` what is there before. `loads` has what messages
-    carry. `is_whole` says that no house changed at a step after which it was not asked.
-    """
+    """The changes of each step from `first` to `last`, by house, and at `first - 1` what is there before. `loads` has
+    what messages carry. `is_whole` says that no house changed at a step after which it was not asked."""
 
     def __init__(self, replay, asked, first, last, directory):
         self.houses, self.changes, self.is_whole = {}, {}, True

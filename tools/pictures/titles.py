@@ -13,7 +13,10 @@ def cut(lines):
 
 def told(step):
     """A step in a hover text: its line of the script, and its answer."""
-    return [short(f"line {step.line}: {step.text}", LONGEST_LINE), *(f"    {it}" for it in cut(step.answer.split("\n")))]
+    return [
+        short(f"line {step.line}: {step.text}", LONGEST_LINE),
+        *(f"    {it}" for it in cut(step.answer.split("\n"))),
+    ]
 
 
 def name_of(message):
@@ -40,8 +43,17 @@ def label_of_read(step):
     return short(f"{label} = {' '.join(map(said_of, answer)) or 'none'}", LONGEST_READ)
 
 
-SIGNS = {"create": "+{0}", "link": "+{0}", "delete": "-{0}", "mkdir": "+{0}", "repoint": "{0} anew", "add": "+{0}.{1}", "remove": "-{0}.{1}",
-         "put": "={0}.{1}", "clear": "-{0}.{1}"}
+SIGNS = {
+    "create": "+{0}",
+    "link": "+{0}",
+    "delete": "-{0}",
+    "mkdir": "+{0}",
+    "repoint": "{0} anew",
+    "add": "+{0}.{1}",
+    "remove": "-{0}.{1}",
+    "put": "={0}.{1}",
+    "clear": "-{0}.{1}",
+}
 
 
 def effect_of(message, replay):
@@ -53,7 +65,8 @@ def effect_of(message, replay):
 
 
 def label_of(step, replay):
-    """The words above a step's column: the command in brief, or the message that is delivered; and why it came to nothing."""
+    """The words above a step's column: the command in brief, or the message that is delivered; and why it came to
+    nothing."""
     words, command = step.words, step.command
     if command == "read":
         return label_of_read(step)
@@ -68,7 +81,11 @@ def label_of(step, replay):
     elif command in ("house", "root", "crash", "start", "skulk", "dump", "octets", "image"):
         label = command
     else:
-        name = words[2] if command in commands.UPDATES or command == "mkdir" else next(it for it in words if it.startswith("/.:"))
+        name = (
+            words[2]
+            if command in commands.UPDATES or command == "mkdir"
+            else next(it for it in words if it.startswith("/.:"))
+        )
         label = f"{command} {name.split('/')[-1]}"
     outcome = "" if step.outcome in ("ok", "taken", "complete") else f": {step.outcome}"
     return short(label, max(12, LONGEST_LABEL - len(outcome))) + outcome

@@ -19,7 +19,8 @@ class Walks:
         return None
 
     def walk(self, name):
-        """The house, directory and simple name to which a full name leads, or None where the script alone does not tell."""
+        """The house, directory and simple name to which a full name leads, or None where the script alone does not
+        tell."""
         for _ in range(MOST_LINKS + 1):
             found = self.walk_once(name.split("/")[2:])
             if not isinstance(found, str):
@@ -35,7 +36,8 @@ class Walks:
         directory, listed = 1, [root.master, *root.others(root.master)]
         for at, name in enumerate(names):
             house, entry = self.asked(directory, listed), self.entries.get((directory, name)) or Entry()
-            # A house shows what was made of a name last where it alone accepts updates, or what was made of it ever, if that is one.
+            # A house shows what was made of a name last where it alone accepts updates, or what was made of it ever, if
+            # that is one.
             if house is None or not entry.is_plain and any(it.master != house for it in self.epochs[directory]):
                 return None
             if entry.kind == "link":

@@ -37,7 +37,9 @@ def cases_of(path, kind=Run):
         if status[1:] == [">", "hex"]:
             output = of_hex(texts[number + 1])
         place = f"{name}, run {number // 2 + 1}"
-        runs.append(kind(place, words, octets, output, int(status[0]), ("<", "folder") in streams, (">", "full") in streams))
+        runs.append(
+            kind(place, words, octets, output, int(status[0]), ("<", "folder") in streams, (">", "full") in streams)
+        )
     return runs
 
 

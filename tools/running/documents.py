@@ -17,7 +17,10 @@ class Excerpt:
 
     def fault(self, _):
         """Returns what differs, or None."""
-        script, answers = open_octets(f"{ROOT}/{self.file}").decode(), open_octets(f"{ROOT}/{self.file[:-4]}.out").decode()
+        script, answers = (
+            open_octets(f"{ROOT}/{self.file}").decode(),
+            open_octets(f"{ROOT}/{self.file[:-4]}.out").decode(),
+        )
         said = {}
         for line in answers.splitlines(keepends=True):
             number = int(line.split()[0])
@@ -59,11 +62,19 @@ class Document:
         self.blocks, self.tables = [], []
         at = 0
         while at < len(self.lines):
-            at = self.block(at) if self.lines[at].startswith("```") else self.table(at) if self.lines[at].startswith("|") else at + 1
+            at = (
+                self.block(at)
+                if self.lines[at].startswith("```")
+                else self.table(at)
+                if self.lines[at].startswith("|")
+                else at + 1
+            )
 
     def block(self, at):
         end = self.lines.index("```", at + 1)
-        self.blocks.append((at + 1, end + 1, self.lines[at][3:], "".join(f"{line}\n" for line in self.lines[at + 1 : end])))
+        self.blocks.append(
+            (at + 1, end + 1, self.lines[at][3:], "".join(f"{line}\n" for line in self.lines[at + 1 : end]))
+        )
         return end + 1
 
     def table(self, at):
@@ -89,11 +100,15 @@ class Document:
             if other == end + 1 and kind == "script":
                 yield Run(self.place(begin), ["run"], script.encode(), answers.encode(), status_of(answers.encode()))
             if other == end + 1 and kind.split()[:1] == ["mend"]:
-                yield Mending(self.place(begin), kind.split()[1:], script.encode(), answers.encode(), status_of(answers.encode()))
+                yield Mending(
+                    self.place(begin), kind.split()[1:], script.encode(), answers.encode(), status_of(answers.encode())
+                )
             asked = re.match(r"\./cdsreplay (\w+) <(examples/\S+)\n\Z", script)
             if asked and not answers.startswith("./") and self.is_next(end, other):
                 with open(f"{ROOT}/{asked.group(2)}", "rb") as it:
-                    yield Run(self.place(begin), [asked.group(1)], it.read(), answers.encode(), status_of(answers.encode()))
+                    yield Run(
+                        self.place(begin), [asked.group(1)], it.read(), answers.encode(), status_of(answers.encode())
+                    )
 
     def of_pairs(self, at, names, pairs):
         """Returns a script with the answers beside its lines, or looks for them in the script of that name."""
@@ -112,17 +127,27 @@ class Document:
                 yield self.of_script(at, rows)
             elif head[0] == "line" and head[1].startswith("fault"):
                 for row in rows:
-                    yield from self.of_faults(at, code(row[0]) or [], code(row[1]), code(head[1].removeprefix("fault").removeprefix(" in")))
+                    yield from self.of_faults(
+                        at, code(row[0]) or [], code(row[1]), code(head[1].removeprefix("fault").removeprefix(" in"))
+                    )
             elif head == ["fault", "comes where", "place", "examples"]:
                 for row in rows:
                     for example in row[3].split(";"):
                         lines, _, fault = example.rpartition(":")
-                        yield from self.of_faults(at, code(lines.replace("and", ",").replace("alone", "")) or [], code(fault))
+                        yield from self.of_faults(
+                            at, code(lines.replace("and", ",").replace("alone", "")) or [], code(fault)
+                        )
             elif head == ["script", "output"]:
                 yield from self.of_checks(at, rows)
             elif head == ["words", "output"]:
                 for words, output in rows:
-                    yield Run(f"{self.place(at)}, {words}", words.strip("`").split(), b"", f"{output.strip('`')}\n".encode(), 0)
+                    yield Run(
+                        f"{self.place(at)}, {words}",
+                        words.strip("`").split(),
+                        b"",
+                        f"{output.strip('`')}\n".encode(),
+                        0,
+                    )
             elif head == ["octets", "output"]:
                 yield from self.of_towers(at, rows)
             elif head[0] == "octets" and head[1].startswith("output of "):
@@ -142,14 +167,26 @@ class Document:
 
     def of_faults(self, at, lines, fault, form=None):
         for line in lines if fault else []:
-            yield Run(f"{self.place(at)}, `{line}`", (form or ["run"])[0].split(), f"{line}\n".encode(), f"{fault[0]}\n".encode(), 3)
+            yield Run(
+                f"{self.place(at)}, `{line}`",
+                (form or ["run"])[0].split(),
+                f"{line}\n".encode(),
+                f"{fault[0]}\n".encode(),
+                3,
+            )
 
     def of_checks(self, at, rows):
         """Returns what `check` makes of scripts: of a file of examples/, or of lines."""
         for script, output in rows:
             lines, output = code(script), f"{output.strip('`')}\n".encode()
             if lines and lines[0].startswith("examples/"):
-                yield Run(f"{self.place(at)}, {script}", ["check"], open_octets(f"{ROOT}/{lines[0]}"), output, status_of(output))
+                yield Run(
+                    f"{self.place(at)}, {script}",
+                    ["check"],
+                    open_octets(f"{ROOT}/{lines[0]}"),
+                    output,
+                    status_of(output),
+                )
             elif lines or script == "nothing":
                 text = "".join(f"{line}\n" for line in lines or [])
                 yield Run(f"{self.place(at)}, {script}", ["check"], text.encode(), output, status_of(output))
@@ -159,7 +196,9 @@ class Document:
             octets, output = code(octets), code(output.replace("then", ""))
             if octets and output:
                 text = "".join(f"{line}\n" for line in output).encode()
-                yield Run(f"{self.place(at)}, `{octets[0]}`", ["towers"], of_hex(" ".join(octets)), text, status_of(text))
+                yield Run(
+                    f"{self.place(at)}, `{octets[0]}`", ["towers"], of_hex(" ".join(octets)), text, status_of(text)
+                )
 
     def of_octets(self, at, words, rows):
         for octets, output in rows:
@@ -173,7 +212,9 @@ class Document:
             lines, (output, _, status) = code(lines), output.rpartition(",")
             if lines and code(output):
                 text = "".join(f"{line}\n" for line in lines).encode()
-                yield Run(f"{self.place(at)}, `{lines[0]}`", ["untowers"], text, of_hex(" ".join(code(output))), int(status))
+                yield Run(
+                    f"{self.place(at)}, `{lines[0]}`", ["untowers"], text, of_hex(" ".join(code(output))), int(status)
+                )
 
 
 def of_documents():

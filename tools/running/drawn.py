@@ -29,7 +29,14 @@ class Drawing:
     """A run of tools/picture over a script and answers, and what its picture has, or what it says instead."""
 
     def __init__(self, name, words, script, answers, said, status):
-        self.name, self.words, self.script, self.answers, self.said, self.status = name, words, script, answers, said, status
+        self.name, self.words, self.script, self.answers, self.said, self.status = (
+            name,
+            words,
+            script,
+            answers,
+            said,
+            status,
+        )
 
     def fault(self, program):
         """Returns what differs, or None. A page is made with the program."""
@@ -46,7 +53,9 @@ class Drawing:
         if status != self.status:
             return f"status {status}, not {self.status}, and standard error has {said[:200]!r}"
         if self.status:
-            return difference(self.said, said) if said != self.said else "standard output has a picture" if svg else None
+            return (
+                difference(self.said, said) if said != self.said else "standard output has a picture" if svg else None
+            )
         wrong = [it for it in self.said.decode().splitlines() if not is_so(it, svg)]
         return "it does not hold that the picture " + "; ".join(wrong) if wrong else None
 
@@ -61,7 +70,9 @@ class Example:
     def fault(self, program):
         """Returns what differs, or None."""
         octets = [open_octets(it) for it in (self.script, self.picture)]
-        answers = subprocess.run([program, *words_of(octets[0])], input=octets[0], stdout=subprocess.PIPE, timeout=SECONDS).stdout
+        answers = subprocess.run(
+            [program, *words_of(octets[0])], input=octets[0], stdout=subprocess.PIPE, timeout=SECONDS
+        ).stdout
         ran = subprocess.run([PICTURE, self.script], input=answers, capture_output=True, timeout=SECONDS)
         if ran.stdout == octets[1]:
             return None
@@ -99,7 +110,9 @@ def drawings(path):
 def pictures():
     """Returns the runs of tools/picture and the pictures of the examples, and what is wrong with the files."""
     names = {it[:-4] for it in os.listdir(f"{ROOT}/examples") if it.endswith(".svg")}
-    many = {it for it in examples() if re.search(rb"(?s)(\A|\n)house .*\nhouse ", open_octets(f"{ROOT}/examples/{it}.cds"))}
+    many = {
+        it for it in examples() if re.search(rb"(?s)(\A|\n)house .*\nhouse ", open_octets(f"{ROOT}/examples/{it}.cds"))
+    }
     faults = [f"examples/{it}.svg is not of an example with more than one house" for it in sorted(names - many)]
     try:
         runs = [it for file in sorted(os.listdir(PICTURE_CASES)) for it in drawings(f"{PICTURE_CASES}/{file}")]

@@ -21,7 +21,10 @@ def entries_of(directory):
     chance, found = random.Random(directory), {}
     for i in range(ENTRIES):
         birth = 1000 * directory + 10 * i + 1
-        values = ({chance.randbytes(1020 + j): (1, records.stamp(birth + 1 + j, NODES[0])) for j in range(VALUES)} for _ in range(ATTRIBUTES))
+        values = (
+            {chance.randbytes(1020 + j): (1, records.stamp(birth + 1 + j, NODES[0])) for j in range(VALUES)}
+            for _ in range(ATTRIBUTES)
+        )
         found[name_of(i)] = records.OBJECT, records.stamp(birth, NODES[0]), dict(zip((b"Attribute", b"Other"), values))
     return found
 
@@ -37,7 +40,8 @@ def image_of(layout, house, directories):
 
 
 def without(directories, number, entry, attribute=None):
-    """Returns the directories without this entry, or without the last value of an attribute; and that value with its stamp."""
+    """Returns the directories without this entry, or without the last value of an attribute; and that value with its
+    stamp."""
     entries = dict(directories[number])
     kind, birth, attributes = entries.pop(name_of(entry))
     value = None
@@ -63,12 +67,23 @@ def audits(directories):
         (DIRECTORIES, births, directories, f"agree {DIRECTORIES} {UPTO + DIRECTORIES}@{NODES[0]}"),
         (7, directories, births, f"differ 7 1 birth {name_of(3).decode()} {birth}"),
         (7, births, directories, f"differ 7 2 birth {name_of(3).decode()} {birth}"),
-        (DIRECTORIES, directories, values, f"differ {DIRECTORIES} 1 value {name_of(ENTRIES - 1).decode()} Other {value.hex()} {time_of(at)}"),
+        (
+            DIRECTORIES,
+            directories,
+            values,
+            f"differ {DIRECTORIES} 1 value {name_of(ENTRIES - 1).decode()} Other {value.hex()} {time_of(at)}",
+        ),
         (DIRECTORIES + 1, directories, directories, "refused NoReplica 1"),
     ]
     for number, one, other, answer in said:
         octets = image_of(1, 1, one) + image_of(2, 2, other)
-        yield Run(f"large, an audit of directory {number} of two large images", ["audit", str(number)], octets, f"{answer}\n".encode(), 0)
+        yield Run(
+            f"large, an audit of directory {number} of two large images",
+            ["audit", str(number)],
+            octets,
+            f"{answer}\n".encode(),
+            0,
+        )
 
 
 def runs():
@@ -79,6 +94,12 @@ def runs():
         Run("large, an image of format 1 of a megabyte", ["migrate"], former, present, 0),
         Run("large, an image of format 2 of a megabyte", ["migrate"], present, present, 0),
         Run("large, an image with an octet after it", ["migrate"], present + b"\0", b"", 3),
-        Run("large, a whole image and the next one cut short", ["audit", "1"], present + present[:-1], f"2 fault Short {len(present)}\n".encode(), 3),
+        Run(
+            "large, a whole image and the next one cut short",
+            ["audit", "1"],
+            present + present[:-1],
+            f"2 fault Short {len(present)}\n".encode(),
+            3,
+        ),
         *audits(directories),
     ]

@@ -1,4 +1,5 @@
-"""Cells of 64 houses, and long scripts, that `cdsmend` mends; the lines that it writes are those that docs/FORMS.md says."""
+"""Cells of 64 houses, and long scripts, that `cdsmend` mends; the lines that it writes are those that docs/FORMS.md
+says."""
 
 from running.runs import Mending
 
@@ -6,8 +7,8 @@ HOUSES = 64
 
 
 def mending(posted, down, master, others, words, directory=1, leaves=0):
-    """Returns the lines that mend a directory after so many messages, as text. `words` are the houses as `epoch` has them, and so many
-    Leaves come after its Joins."""
+    """Returns the lines that mend a directory after so many messages, as text. `words` are the houses as `epoch` has
+    them, and so many Leaves come after its Joins."""
     many, lines = len(others), [f"start {it}" for it in sorted(down)]
     lines.append(f"epoch {directory} {master} {' '.join(words)}".rstrip())
     lines += [f"deliver {posted + 1 + i}" for i in range(many)]
@@ -33,7 +34,12 @@ def all_down():
     numbers = [1 + 4 * i for i in range(HOUSES - 1)] + [255]
     master, others = numbers[40], [it for it in numbers if it != numbers[40]]
     words = [f"s{it}" if i % 3 == 0 else str(it) for i, it in enumerate(others)]
-    lines = [*houses(numbers), f"root {master} {' '.join(words)}", *(f"lose {it + 1}" for it in range(HOUSES - 1)), f"create {master} 1 lone"]
+    lines = [
+        *houses(numbers),
+        f"root {master} {' '.join(words)}",
+        *(f"lose {it + 1}" for it in range(HOUSES - 1)),
+        f"create {master} 1 lone",
+    ]
     lines += [f"crash {it}" for it in numbers]
     return run_of("64 houses that are down", lines, mending(2 * (HOUSES - 1), numbers, master, others, words))
 
@@ -41,18 +47,27 @@ def all_down():
 def ready():
     """64 houses that are up, and hold the last epoch: a skulk alone is due."""
     others = [*range(2, HOUSES + 1)]
-    lines = [*houses(range(1, HOUSES + 1)), f"root 1 {' '.join(map(str, others))}", *(f"deliver {it}" for it in range(1, HOUSES))]
+    lines = [
+        *houses(range(1, HOUSES + 1)),
+        f"root 1 {' '.join(map(str, others))}",
+        *(f"deliver {it}" for it in range(1, HOUSES)),
+    ]
     output = mending(0, [], 1, others, [])
     skulk = b"".join(output.splitlines(keepends=True)[HOUSES:])
     return run_of("64 houses that hold the last epoch", lines, skulk)
 
 
 def half_left_out():
-    """64 houses of all numbers, which are down: the master and 31 others are left out, and the first one that stays becomes the master."""
+    """64 houses of all numbers, which are down: the master and 31 others are left out, and the first one that stays
+    becomes the master."""
     numbers = [1 + 4 * i for i in range(HOUSES - 1)] + [255]
     without, stay = numbers[::2], numbers[1::2]
     lines = [*houses(numbers), f"root {without[9]} {' '.join(str(it) for it in numbers if it != without[9])}"]
-    lines += [*(f"deliver {it + 1}" for it in range(HOUSES - 1)), f"create {without[9]} 1 lone", *(f"crash {it}" for it in numbers)]
+    lines += [
+        *(f"deliver {it + 1}" for it in range(HOUSES - 1)),
+        f"create {without[9]} 1 lone",
+        *(f"crash {it}" for it in numbers),
+    ]
     words = [str(it) for it in stay[1:]]
     output = mending(2 * (HOUSES - 1), stay, stay[0], stay[1:], words, leaves=len(without))
     return run_of("32 of 64 houses that are left out", lines, output, without)

@@ -1,4 +1,5 @@
-"""Scripts of thousands of lines for the forms `clerk N`, `inquire` and `journal`, with the answers that docs/SCRIPT.md says."""
+"""Scripts of thousands of lines for the forms `clerk N`, `inquire` and `journal`, with the answers that docs/SCRIPT.md
+says."""
 
 import random
 from collections import OrderedDict
@@ -38,8 +39,9 @@ class Clerk:
 
 
 def full_clerk(room):
-    """A clerk of this room is full with answers that names are not there; one of them is used again, and one more answer comes. Then
-    all names are made, which the clerk has not heard: it drops the second answer, and not the first."""
+    """A clerk of this room is full with answers that names are not there; one of them is used again, and one more
+    answer comes. Then all names are made, which the clerk has not heard: it drops the second answer, and not the
+    first."""
     house, name = LoneHouse(), "name{}".format
     for i in [*range(room), 0, room]:
         house.say(f"read 1 low /.:/{name(i)} A", "refused NoSuchName 0")
@@ -205,8 +207,8 @@ def stop_inside(house, call, what, value):
 
 
 def journal():
-    """20 directories, and 1,000 updates of a house, whose image then has more than 64 KiB. Each hundredth is stopped, and by twos the
-    house is taken down and started again. The image is printed now and then."""
+    """20 directories, and 1,000 updates of a house, whose image then has more than 64 KiB. Each hundredth is stopped,
+    and by twos the house is taken down and started again. The image is printed now and then."""
     house, chance = LoneHouse(), random.Random(3)
     for i in range(20):
         house.mkdir(f"child-{i}-" + "x" * (254 - len(f"child-{i}-")))

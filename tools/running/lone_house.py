@@ -1,4 +1,5 @@
-"""A cell of one house: what docs/SCRIPT.md says that its commands are answered, and what docs/FORMATS.md says that its image is."""
+"""A cell of one house: what docs/SCRIPT.md says that its commands are answered, and what docs/FORMATS.md says that its
+image is."""
 
 from cds import records
 
@@ -6,7 +7,8 @@ NODE = "00000000000a"
 
 
 class LoneHouse:
-    """House 1 with the root directory, and others that it alone holds. It makes a script line by line, with the answers."""
+    """House 1 with the root directory, and others that it alone holds. It makes a script line by line, with the
+    answers."""
 
     def __init__(self):
         self.lines, self.answers, self.time = [], [], 0
@@ -47,7 +49,11 @@ class LoneHouse:
         number = len(self.directories) + 1
         self.say(f"mkdir 1 1 {name} 1", f"ok {number} {self.stamped()}")
         pointer = records.number(number, 4) + b"\x01\x01"
-        self.directories[1][name.encode()] = records.CHILD, self.stamp(), {b"CDS_Replicas": {pointer: (1, self.stamp())}}
+        self.directories[1][name.encode()] = (
+            records.CHILD,
+            self.stamp(),
+            {b"CDS_Replicas": {pointer: (1, self.stamp())}},
+        )
         self.directories[number] = {}
 
     def change(self, name, attribute, value, is_present=True):
@@ -69,6 +75,9 @@ class LoneHouse:
 
     def image(self):
         """Returns what `octets house 1` answers, and so does `image 1`."""
-        held = [records.directory(2, it, 1, [(1, 1, records.MASTER)], b"", entries) for it, entries in self.directories.items()]
+        held = [
+            records.directory(2, it, 1, [(1, 1, records.MASTER)], b"", entries)
+            for it, entries in self.directories.items()
+        ]
         octets = records.image(2, 1, NODE, self.time, held)
         return f"ok {len(octets)} {octets.hex()}"

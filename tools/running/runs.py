@@ -50,7 +50,8 @@ class Run:
         self.folder, self.full = folder, full
 
     def ended(self, program, prepare=None):
-        """Runs the program, and returns its status, what it wrote, and its standard error; None for the status if it did not end.
+        """Runs the program, and returns its status, what it wrote, and its standard error; None for the status if it
+        did not end.
 
         Its process calls `prepare` before the program begins."""
         source = os.open(ROOT, os.O_RDONLY) if self.folder else subprocess.PIPE
@@ -92,8 +93,8 @@ def is_large(run):
 
 
 class Mending(Run):
-    """A run of `cdsmend`. The script followed by the commands that it writes has to end with a skulk that is complete, and none of
-    these commands may be refused or in vain."""
+    """A run of `cdsmend`. The script followed by the commands that it writes has to end with a skulk that is complete,
+    and none of these commands may be refused or in vain."""
 
     # (the path of the program, which tools/cases sets)
     mender = ""
@@ -123,8 +124,8 @@ class Limited(Run):
 
 
 class Starved(Limited):
-    """A run with so little memory that it has to end with status 6, after whole answers, and not after all of them. `output` has all of
-    them, or is empty if the form writes nothing then."""
+    """A run with so little memory that it has to end with status 6, after whole answers, and not after all of them.
+    `output` has all of them, or is empty if the form writes nothing then."""
 
     room = 24 * 2**20
 
@@ -137,7 +138,11 @@ class Starved(Limited):
             return difference(self.output, output)
         if self.output and output in (b"", self.output):
             return f"{len(output)} octets were written"
-        return f"it ends in a part of an answer: {short(output.splitlines()[-1])}" if output and not output.endswith(b"\n") else None
+        return (
+            f"it ends in a part of an answer: {short(output.splitlines()[-1])}"
+            if output and not output.endswith(b"\n")
+            else None
+        )
 
 
 class StarvedMending(Starved):

@@ -48,8 +48,11 @@ class Console:
         """Takes a line that was typed. Nothing that was there is lost, whatever it says."""
         words = line.split()
         self.is_warned = self.is_warned and words[:1] in (["quit"], ["exit"])
-        own = {"?": self.help, "help": self.help, "undo": self.undo, "show": self.show, "messages": self.messages, "script": self.script,
-               "picture": self.picture, "save": self.save, "load": self.load, "quit": self.quit, "exit": self.quit}  # fmt: skip
+        own = {
+            "?": self.help, "help": self.help, "undo": self.undo, "show": self.show, "messages": self.messages,
+            "script": self.script, "picture": self.picture, "save": self.save, "load": self.load, "quit": self.quit,
+            "exit": self.quit,
+        }  # fmt: skip
         if not words or words[0].startswith("#"):
             return
         try:
@@ -93,7 +96,10 @@ class Console:
             self.say(f"Commands of the cell: {known}. `help COMMAND` explains one.")
             for name, what in OWN.items():
                 self.say(f"  {name:<24}{what}")
-            self.say("Houses may have names (`house a_ch b_ch`), and values may be texts in quotes: `tools/write --help` has it all.")
+            self.say(
+                "Houses may have names (`house a_ch b_ch`), and values may be texts in quotes: `tools/write --help` has"
+                " it all."
+            )
             return
         command = tokens.command_of(words[0])
         if command not in COMMANDS:
@@ -135,7 +141,10 @@ class Console:
             it.write(self.cell.script())
         try:
             drawn = subprocess.run(
-                [f"{program.ROOT}/tools/picture", f"{file}.script", "-", file], input=answers.encode(), stderr=subprocess.PIPE, check=False
+                [f"{program.ROOT}/tools/picture", f"{file}.script", "-", file],
+                input=answers.encode(),
+                stderr=subprocess.PIPE,
+                check=False,
             )
         finally:
             os.remove(f"{file}.script")
@@ -188,6 +197,9 @@ class Console:
         """Ends, and warns once where lines would be lost."""
         if len(self.cell.lines) != self.saved and not self.is_warned:
             self.is_warned = True
-            self.say(f"{texts.plural(len(self.cell.lines), 'line')} would be lost: `save FILE`, or `quit` (or Ctrl-D) once more.")
+            self.say(
+                f"{texts.plural(len(self.cell.lines), 'line')} would be lost: `save FILE`, or `quit` (or Ctrl-D) once"
+                " more."
+            )
         else:
             self.is_over = True

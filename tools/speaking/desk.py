@@ -12,7 +12,8 @@ CLAUSE = re.compile(r"(?:all|to(?: \S+)+?)(?: but to(?: \S+)+?)?(?: lose to(?: \
 
 
 class Done:
-    """What came of a line: the script's lines that it became, their answers, what there is to say beside, and to refused questions."""
+    """What came of a line: the script's lines that it became, their answers, what there is to say beside, and to
+    refused questions."""
 
     def __init__(self):
         self.lines, self.answers, self.notes, self.hints = [], [], [], []
@@ -61,7 +62,9 @@ class Desk:
 
     def under_way(self):
         """The messages that are under way."""
-        return self.post.under_way(self.happened(), lambda serial: bytes.fromhex(self.ask(f"octets msg {serial}")[0].split()[-1]))
+        return self.post.under_way(
+            self.happened(), lambda serial: bytes.fromhex(self.ask(f"octets msg {serial}")[0].split()[-1])
+        )
 
     def add(self, done, *lines):
         """Adds lines to the script, and answers what the program says of them."""
@@ -71,7 +74,9 @@ class Desk:
         found = re.fullmatch(r"(\d+) fault ([A-Za-z]+) (\d+)", said[-1]) if said else None
         if found:
             line = lines[int(found.group(1)) - len(self.lines) - 1]
-            it = explain.explain(line.encode(), int(found.group(1)), found.group(2), int(found.group(3)), self.program.form[0])
+            it = explain.explain(
+                line.encode(), int(found.group(1)), found.group(2), int(found.group(3)), self.program.form[0]
+            )
             raise Fault("\n".join(it.lines()))
         self.lines += lines
         self.answers += said
@@ -122,7 +127,13 @@ class Desk:
         said = self.ask(*lines)
         found = re.fullmatch(r"(\d+) fault .*", said[-1]) if said else None
         count = int(found.group(1)) - len(self.lines) - 1 if found else len(lines)
-        kept = (len(self.lines), len(self.answers), copy.deepcopy(self.names), copy.copy(self.net), f"{count} lines of a file")
+        kept = (
+            len(self.lines),
+            len(self.answers),
+            copy.deepcopy(self.names),
+            copy.copy(self.net),
+            f"{count} lines of a file",
+        )
         if count:
             self.lines += lines[:count]
             self.answers += said[:-1] if found else said
@@ -150,7 +161,9 @@ class Desk:
             house, words = words[0].rstrip(":"), words[1:]
         time, is_back = self.names.time(date, seconds) if seconds is not None else (None, False)
         if is_back:
-            done.notes.append(f"{line.split()[0]} is earlier than the line before. Is it the next day? Then write its date in front.")
+            done.notes.append(
+                f"{line.split()[0]} is earlier than the line before. Is it the next day? Then write its date in front."
+            )
         it = tokens.Line(line, [tokens.command_of(words[0]), *words[1:]], house, time)
         if not any(take(done, it) for take in (self.from_here, self.deliver_some, self.lose_some, self.skulk_through)):
             self.plain_line(done, it)
@@ -176,7 +189,9 @@ class Desk:
         """What to say of a line whose command is not known."""
         if words[0] in self.names.houses:
             return f"What did `{words[0]}` do? A command goes after its name, as `{words[0]} create /.:/lpr`."
-        it = explain.explain(" ".join(words).encode("ascii", "replace"), len(self.lines) + 1, "UnknownCommand", 1, self.program.form[0])
+        it = explain.explain(
+            " ".join(words).encode("ascii", "replace"), len(self.lines) + 1, "UnknownCommand", 1, self.program.form[0]
+        )
         return "\n".join(it.lines())
 
     def clock(self, line, plain):
@@ -234,7 +249,10 @@ class Desk:
             _, but, lost = self.clauses(rest[1:])
             self.net = Net(but | lost, lost)
         else:
-            raise Fault("Write `from here deliver all`, `.. all but to HOUSE..`, `.. all lose to HOUSE..`, or `from here deliver nothing`.")
+            raise Fault(
+                "Write `from here deliver all`, `.. all but to HOUSE..`, `.. all lose to HOUSE..`, or `from here"
+                " deliver nothing`."
+            )
         self.remark(done, line.text)
         self.settle(done)
         return True
@@ -242,7 +260,9 @@ class Desk:
     def clauses(self, words):
         """The houses of `all`, `to HOUSE..`, `but to HOUSE..` and `lose to HOUSE..`; the first is None for all."""
         if not CLAUSE.fullmatch(" ".join(words)):
-            raise Fault(f"`{' '.join(words)}` is not understood here: write `all`, `all but to HOUSE..`, or `to HOUSE..`.")
+            raise Fault(
+                f"`{' '.join(words)}` is not understood here: write `all`, `all but to HOUSE..`, or `to HOUSE..`."
+            )
         parts = {"to": None, "but": set(), "lose": set()}
         at = "to"
         for word in words:
@@ -319,7 +339,9 @@ class Desk:
         """Delivers what is under way, and what comes of that, up to the end. `after` leaves out earlier messages."""
         tried = set()
         while True:
-            due = [it for it in self.under_way() if it.serial > after and it.serial not in tried and it.receiver not in but]
+            due = [
+                it for it in self.under_way() if it.serial > after and it.serial not in tried and it.receiver not in but
+            ]
             due = [it for it in due if (to is None or it.receiver in to) and not self.happened().is_down(it.receiver)]
             if not due:
                 return bool(tried)
@@ -329,7 +351,9 @@ class Desk:
 
     def name_messages(self, done, messages):
         """Says in a comment where messages go."""
-        self.remark(done, "# " + ", ".join(f"{it.kind} {it.serial} to {self.names.called(it.receiver)}" for it in messages))
+        self.remark(
+            done, "# " + ", ".join(f"{it.kind} {it.serial} to {self.names.called(it.receiver)}" for it in messages)
+        )
 
     def settle(self, done):
         """The net does what it does of itself."""

@@ -7,10 +7,12 @@ from speaking import explain, language, program, reasons, refusals
 MOST = 40
 # Files that are no scripts, by their first octets.
 STRANGE = {
-    b"\x89PNG": "a picture", b"\xff\xd8\xff": "a picture", b"<svg": "a picture", b"<?xml": "a picture, or another XML file",
-    b"%PDF": "a page", b"\x7fELF": "a program", b"\x1f\x8b": "a compressed file: `gzip -d` first", b"PK\x03\x04": "a compressed file",
-    b"\x02\x09": "the image of a house, for ./cdsreplay audit", b"\x01\x09": "the image of a house, for ./cdsreplay migrate",
-    b"#!": "a program", b"\xff\xfe": "a text in UTF-16: `iconv -f UTF-16 -t ASCII` makes it one of ASCII",
+    b"\x89PNG": "a picture", b"\xff\xd8\xff": "a picture", b"<svg": "a picture",
+    b"<?xml": "a picture, or another XML file", b"%PDF": "a page", b"\x7fELF": "a program",
+    b"\x1f\x8b": "a compressed file: `gzip -d` first", b"PK\x03\x04": "a compressed file",
+    b"\x02\x09": "the image of a house, for ./cdsreplay audit",
+    b"\x01\x09": "the image of a house, for ./cdsreplay migrate", b"#!": "a program",
+    b"\xff\xfe": "a text in UTF-16: `iconv -f UTF-16 -t ASCII` makes it one of ASCII",
 }  # fmt: skip
 
 
@@ -38,12 +40,16 @@ def report(script, form, line, given, say):
 
 
 def other_form(script, asked, fault, say):
-    """The program in the form that knows a command which the first fault is at, where there is one, and the first fault then."""
+    """The program in the form that knows a command which the first fault is at, where there is one, and the first fault
+    then."""
     word = line_of(script, fault[0]).split()[0].decode("ascii", "replace")
     other = language.form_of(word)
     if other in (None, "run"):
         return asked, fault
-    say(f"line {fault[0]}: `{word}` is a command of the form {other}: replay this by ./cdsreplay {other}; `check` does not know it.")
+    say(
+        f"line {fault[0]}: `{word}` is a command of the form {other}: replay this by ./cdsreplay {other}; `check` does"
+        " not know it."
+    )
     better = program.Program(asked.path, (other,))
     return better, better.fault(script)
 

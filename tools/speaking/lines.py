@@ -10,18 +10,19 @@ from speaking import language, texts
 
 # What other tools of a cell call the same.
 OTHERS = {
-    "show": "read", "list": "dump", "ls": "dump", "cat": "dump", "define": "create", "new": "create", "make": "create", "touch": "create",
-    "rm": "delete", "del": "delete", "set": "put", "modify": "put", "mv": "link", "ln": "link", "stopped": "crash", "down": "crash",
-    "kill": "crash", "reboot": "start", "up": "start", "restart": "start", "send": "deliver", "receive": "deliver", "drop": "lose",
-    "clearinghouse": "house", "server": "house", "time": "clock", "directory": "mkdir", "replica": "epoch", "sync": "skulk",
-    "lookup": "import",
+    "show": "read", "list": "dump", "ls": "dump", "cat": "dump", "define": "create", "new": "create", "make": "create",
+    "touch": "create", "rm": "delete", "del": "delete", "set": "put", "modify": "put", "mv": "link", "ln": "link",
+    "stopped": "crash", "down": "crash", "kill": "crash", "reboot": "start", "up": "start", "restart": "start",
+    "send": "deliver", "receive": "deliver", "drop": "lose", "clearinghouse": "house", "server": "house",
+    "time": "clock", "directory": "mkdir", "replica": "epoch", "sync": "skulk", "lookup": "import",
 }  # fmt: skip
 TALK = {
-    "help": "Help is in docs/SCRIPT.md, and tools/console answers `help` and `help COMMAND`.", "?": "tools/console answers `help`.",
-    "exit": "A script ends where its input ends: at a terminal Ctrl-D ends it.",
-    "quit": "A script ends where its input ends: at a terminal Ctrl-D ends it.",
-    "undo": "tools/console knows `undo`.", "save": "tools/console knows `save FILE`.", "messages": "tools/console knows `messages`.",
-    "always": "tools/write knows `from here deliver all`.", "from": "That is a line for tools/write, which makes a script of it.",
+    "help": "Help is in docs/SCRIPT.md, and tools/console answers `help` and `help COMMAND`.",
+    "?": "tools/console answers `help`.", "exit": "A script ends where its input ends: at a terminal Ctrl-D ends it.",
+    "quit": "A script ends where its input ends: at a terminal Ctrl-D ends it.", "undo": "tools/console knows `undo`.",
+    "save": "tools/console knows `save FILE`.", "messages": "tools/console knows `messages`.",
+    "always": "tools/write knows `from here deliver all`.",
+    "from": "That is a line for tools/write, which makes a script of it.",
 }  # fmt: skip
 ANSWERS = ("ok", "refused", "fault", "dump", "end", "binding", "entry", "attr", "value")
 COMMENTS = ("//", ";", "--", "rem", "!", "%", "'", "/*", "*")
@@ -40,7 +41,9 @@ def unknown(words, form, line):
     if lower in TALK:
         return TALK[lower], []
     if lower in COMMENTS or word.startswith(COMMENTS):
-        return "A comment begins with `#`.", ["# " + line.strip().lstrip("/;-!%'* ").removeprefix("rem ").removeprefix("REM ")]
+        return "A comment begins with `#`.", [
+            "# " + line.strip().lstrip("/;-!%'* ").removeprefix("rem ").removeprefix("REM ")
+        ]
     if texts.CLOCK.fullmatch(word) or texts.DATE.match(word):
         said = "A line begins with its command, and a time is set by `clock H TIME` before it."
         return f"{said} tools/write takes lines of a log, with their times.", []
@@ -55,7 +58,7 @@ def unknown(words, form, line):
         return f"The command for that is perhaps `{language.pattern(OTHERS[lower])}`.", []
     if near:
         return f"Is `{near[0]}` meant?", [" ".join([near[0], *words[1:]])]
-    return "SCRIPT.md, \"All commands\", has each command; a comment begins with `#`.", []
+    return 'SCRIPT.md, "All commands", has each command; a comment begins with `#`.', []
 
 
 def fitting(words):
@@ -115,7 +118,13 @@ def missing(words):
     if command in ("mkdir", "repoint") and len(rest) == 3:
         return "The house that is its master is missing, after the name.", [" ".join([*words, rest[0]])]
     if command == "house" and len(rest) == 1:
-        return "The node is missing: the address of its network card (MAC), 12 hexadecimal digits; any will do that no other house has.", []
+        return (
+            (
+                "The node is missing: the address of its network card (MAC), 12 hexadecimal digits; any will do that no"
+                " other house has."
+            ),
+            [],
+        )
     if command in ("read",) and len(rest) == 3 and rest[2].startswith("/"):
         return "The name of an attribute is missing, as CDS_Class. `dump H D` lists all that a house holds.", []
     if command in ("export", "unexport", "import", "proflist", "lookup", "profadd"):
@@ -126,7 +135,10 @@ def missing(words):
 def octets_missing(word):
     """`octets` takes two words."""
     if word.isdecimal():
-        return "Say whether the octets of a message or of a house are meant.", [f"octets msg {word}", f"octets house {word}"]
+        return "Say whether the octets of a message or of a house are meant.", [
+            f"octets msg {word}",
+            f"octets house {word}",
+        ]
     return "The number of the message or of the house is missing.", []
 
 
@@ -140,7 +152,9 @@ def split(words):
         if all(re.fullmatch("([0-9A-Fa-f]{2})+", part) for part in parts):
             return "One value a line.", [" ".join([*front, part]) for part in parts]
         text = " ".join(parts).strip("\"'")
-        return f'A value is one word of hexadecimal digits. Where the text "{text[:40]}" is meant:', [" ".join([*front, texts.value(text)])]
+        return f'A value is one word of hexadecimal digits. Where the text "{text[:40]}" is meant:', [
+            " ".join([*front, texts.value(text)])
+        ]
     if kinds == ["H", "NODE"]:
         digits = "".join(part.zfill(2) if len(part) < 2 else part for part in rest[1:])
         return "A node is one word of 12 digits.", [f"house {rest[0]} {digits.lower()}"] if texts.node(digits) else []
@@ -160,7 +174,10 @@ def generic(words):
     """How many words there have to be."""
     least, most = language.expects(words[0])
     if words[0] == "stop":
-        return "`stop H K W COMMAND`: after W comes a whole command with its words, as `stop 1 4 keep create 1 1 lpr`.", []
+        return (
+            "`stop H K W COMMAND`: after W comes a whole command with its words, as `stop 1 4 keep create 1 1 lpr`.",
+            [],
+        )
     wanted = f"{'at least ' if most is None else ''}{texts.plural(least, 'word')}"
     return f"`{language.pattern(words[0])}` has {wanted} after the command; here {are(len(words) - 1)}.", []
 
@@ -177,10 +194,16 @@ def octet(line, place):
         said = "This is a tab. Words have spaces between them."
         plain = line.replace(b"\t", b" ")
     elif found == b"\r":
-        said = "This is a carriage return: the file has the line ends of DOS. `tr -d '\\r' <FILE >NEW` takes them out of all lines."
+        said = (
+            "This is a carriage return: the file has the line ends of DOS. `tr -d '\\r' <FILE >NEW` takes them out of"
+            " all lines."
+        )
         plain = line.replace(b"\r", b"")
     elif line.startswith(b"\xef\xbb\xbf"):
-        said = "These are the three octets of a byte order mark, which an editor put there. `tail -c +4 FILE >NEW` takes them away."
+        said = (
+            "These are the three octets of a byte order mark, which an editor put there. `tail -c +4 FILE >NEW` takes"
+            " them away."
+        )
         plain = line[3:]
     elif found == b"\0" or found == b"\xff" or found == b"\xfe":
         return "This is no text of ASCII: it may be UTF-16, an image of a house, or another file.", []

@@ -63,7 +63,10 @@ class Names:
             self.nodes[number] = node or f"{number:012x}"
             made.append(f"house {number} {self.nodes[number]}")
         if not made:
-            raise Fault("Name the houses, as `house a_ch 08:00:2b:1c:4d:01 b_ch 08:00:2b:1c:4d:02`. Without a node they get one.")
+            raise Fault(
+                "Name the houses, as `house a_ch 08:00:2b:1c:4d:01 b_ch 08:00:2b:1c:4d:02`. Without a node they get"
+                " one."
+            )
         return made
 
     # Directories and entries.
@@ -75,7 +78,9 @@ class Names:
         number = self.directories.get(word.rstrip("/"))
         if number is None:
             known = ", ".join(self.directories)
-            raise Fault(f"No directory {word} was made here; there are {known}. `mkdir HOUSE {word} MASTER ..` makes it.")
+            raise Fault(
+                f"No directory {word} was made here; there are {known}. `mkdir HOUSE {word} MASTER ..` makes it."
+            )
         return str(number)
 
     def entry(self, rest):
@@ -102,7 +107,8 @@ class Names:
     # Times.
 
     def time(self, date, seconds):
-        """The time of a script for a time of day, and whether it is earlier than the one before without a date that says so."""
+        """The time of a script for a time of day, and whether it is earlier than the one before without a date that
+        says so."""
         if date:
             try:
                 self.day = datetime.date.fromisoformat(date)
@@ -142,7 +148,8 @@ class Names:
         return found
 
     def lines(self, words):
-        """The lines of a script for a command: one, and one more for each attribute with a value that a `create` has."""
+        """The lines of a script for a command: one, and one more for each attribute with a value that a `create`
+        has."""
         if words[0] != "create":
             return [" ".join(self.plain(words))]
         rest = list(words[1:])

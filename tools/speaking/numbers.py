@@ -1,4 +1,5 @@
-"""The usual slips where a number is wanted. Each answers what to do, and the word to write, or None where that is not known."""
+"""The usual slips where a number is wanted. Each answers what to do, and the word to write, or None where that is not
+known."""
 import re
 
 from speaking import texts
@@ -46,14 +47,22 @@ def secondary(kind, word, words):
     digits = re.fullmatch(r"[sS]+:?(\d{1,3})|(\d{1,3}):?[sS]", word)
     if digits and kind in ("M", "H..", "H"):
         number = digits.group(1) or digits.group(2)
-        why = {"M": "The first house is the master, and has no `s`.", "H..": f"`{words[0]}` names houses without their kinds."}
-        return why.get(kind, "A house is its number alone; `s` marks a secondary member of `root`, `mkdir` and `epoch`."), number
+        why = {
+            "M": "The first house is the master, and has no `s`.",
+            "H..": f"`{words[0]}` names houses without their kinds.",
+        }
+        return (
+            why.get(kind, "A house is its number alone; `s` marks a secondary member of `root`, `mkdir` and `epoch`."),
+            number,
+        )
     if digits and kind == "R..":
         return "A secondary house is one small `s` and its number.", f"s{int(digits.group(1) or digits.group(2))}"
     found = re.fullmatch(r"(\d{1,3})(?::\d+)?:([msr])", word)
     if found and kind in ("M", "R..", "H..", "H"):
         mark = "s" if found.group(2) == "s" and kind == "R.." else ""
-        said = "That is how a dump prints a member. A script has its number alone, with `s` in front of a secondary one."
+        said = (
+            "That is how a dump prints a member. A script has its number alone, with `s` in front of a secondary one."
+        )
         return said, mark + found.group(1)
     if word in ("s", "S") and kind == "R..":
         return "No space goes between `s` and the number of a secondary house, as in `s3`.", None
@@ -91,9 +100,15 @@ def out_of_range(kind, word, words):
     if kind == "D" and int(word) == 0:
         return "Directories are counted from 1; the root is 1.", "1"
     if kind == "N" and int(word) == 0:
-        return "Messages are counted from 1. The answer to the command that posted it names its number, after `posted`.", None
+        return (
+            "Messages are counted from 1. The answer to the command that posted it names its number, after `posted`.",
+            None,
+        )
     if int(word) == 0:
-        return f"The least number here is {LEAST.get(kind, 1)}; give each {NAMES.get(kind, 'thing')} one from there on.", None
+        return (
+            f"The least number here is {LEAST.get(kind, 1)}; give each {NAMES.get(kind, 'thing')} one from there on.",
+            None,
+        )
     more = "; a cell has at most 255 houses" if kind in ("H", "M", "R..", "H..") else ""
     return f"The greatest number here is {GREATEST[kind]:,}{more}.", None
 
@@ -109,14 +124,23 @@ def named(kind, word, words):
         if digits:
             return "A house is its number alone.", digits.group(1)
         shown = f"`{word}`" if len(word) <= 40 else "it"
-        return f"A house is a number in a script: write the one that `house H NODE` gave {shown}. tools/write takes names.", None
+        return (
+            (
+                f"A house is a number in a script: write the one that `house H NODE` gave {shown}. tools/write takes"
+                " names."
+            ),
+            None,
+        )
     return None
 
 
 def named_message(word, words):
     """A name where the number of a message is wanted."""
     if word == "all":
-        return f"`{words[0]}` takes the number of one message. tools/write and tools/console know `{words[0]} all`.", None
+        return (
+            f"`{words[0]}` takes the number of one message. tools/write and tools/console know `{words[0]} all`.",
+            None,
+        )
     if word in ("to", "msg", "message", "but"):
         said = f"`{words[0]}` takes the number of one message and no more, as `{words[0]} 1`."
         return f"{said} tools/write knows `{words[0]} to HOUSE`.", None

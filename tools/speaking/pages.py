@@ -22,7 +22,9 @@ def text():
 
 def tables():
     """The rows of all tables, each a list of cells."""
-    return [[cell.strip() for cell in line.strip("|").split(" | ")] for line in text().splitlines() if line.startswith("| ")]
+    return [
+        [cell.strip() for cell in line.strip("|").split(" | ")] for line in text().splitlines() if line.startswith("| ")
+    ]
 
 
 def chapter(title):
@@ -75,7 +77,8 @@ def refusals():
 
 
 def paragraph(command):
-    """The paragraph that explains a command, or nothing. Of several in one paragraph those sentences that begin with it."""
+    """The paragraph that explains a command, or nothing. Of several in one paragraph those sentences that begin with
+    it."""
     found = re.search(rf"(?m)^(?:.*\s)?\*\*`{command}\b[^`]*`(?:\*\*| and \*\*).*(?:\n(?!\n).+)*", text())
     if not found:
         return ""

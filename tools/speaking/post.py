@@ -8,7 +8,12 @@ class Way:
     """A message that is under way."""
 
     def __init__(self, message, line, text):
-        self.serial, self.kind, self.sender, self.receiver = message.serial, message.kind, message.sender, message.receiver
+        self.serial, self.kind, self.sender, self.receiver = (
+            message.serial,
+            message.kind,
+            message.sender,
+            message.receiver,
+        )
         self.dir, self.line, self.text = message.dir, line, text
 
 
@@ -20,7 +25,8 @@ class Post:
         self.steps, self.seen, self.open = 0, 0, {}
 
     def under_way(self, replay, ask):
-        """The messages that were posted and neither lost nor delivered. `ask` answers the octets of a message by its serial."""
+        """The messages that were posted and neither lost nor delivered. `ask` answers the octets of a message by its
+        serial."""
         new = list(itertools.islice(replay.messages.items(), self.seen, None))
         self.seen += len(new)
         self.open.update(new)
@@ -41,7 +47,8 @@ def way_of(replay, serial, message, ask):
 
 
 def resolve(replay, way, together, octets):
-    """Finds the sender and the receiver of an Update of the name service: it names its sender, who posts each to all others."""
+    """Finds the sender and the receiver of an Update of the name service: it names its sender, who posts each to all
+    others."""
     way.dir, way.sender = int.from_bytes(octets[2:6], "big"), octets[6]
     others = replay.held[way.sender, way.dir].others(way.sender)
     way.receiver = others[together.index(way.serial) % len(others)]

@@ -6,7 +6,13 @@ from building.sources import ROOT  # noqa: F401
 from cds import programs
 from cds.commands import FORMS
 
-STATUSES = {1: "could not be built", 4: "could not read", 5: "could not write", 6: "ran out of memory", 7: "has a full journal"}
+STATUSES = {
+    1: "could not be built",
+    4: "could not read",
+    5: "could not write",
+    6: "ran out of memory",
+    7: "has a full journal",
+}
 
 
 class Failed(Exception):

@@ -35,7 +35,11 @@ def down(replay, step, _):
     named = [step.message.receiver] if step.command == "deliver" and step.message else houses_of(step)
     for house in named:
         if house is not None and house in replay.nodes and replay.is_down(house):
-            more = f" The message waits: deliver it after that, or `lose {step.words[0]}`." if step.command == "deliver" else ""
+            more = (
+                f" The message waits: deliver it after that, or `lose {step.words[0]}`."
+                if step.command == "deliver"
+                else ""
+            )
             helps = "" if step.command == "crash" else f" `start {house}` brings it up.{more}"
             yield f"House {house} is down since line {since(replay, house)}.{helps}"
             return
@@ -58,13 +62,18 @@ def house_exists(replay, step, _):
     else:
         for other, its in replay.nodes.items():
             if its == node:
-                yield f"This is the node of house {other}, which was made in line {replay.steps[replay.born[other]].line}."
+                yield (
+                    f"This is the node of house {other}, which was made in line"
+                    f" {replay.steps[replay.born[other]].line}."
+                )
 
 
 def no_directory(replay, step, _):
     """A directory was not made."""
     made = list_of(sorted(replay.epochs)) if replay.epochs else "none yet"
-    yield f"The directories so far: {made}. " + ("`root M R..` makes the root." if not replay.epochs else refusals.HELP["NoDirectory"])
+    yield f"The directories so far: {made}. " + (
+        "`root M R..` makes the root." if not replay.epochs else refusals.HELP["NoDirectory"]
+    )
 
 
 def bad_members(replay, step, _):
@@ -82,7 +91,11 @@ def directory_of(step):
 
 def joins(replay, house, directory):
     """The Joins of a directory that were posted to a house, the last first."""
-    return [it for it in reversed(replay.messages.values()) if it.kind == "Join" and it.receiver == house and it.dir == directory]
+    return [
+        it
+        for it in reversed(replay.messages.values())
+        if it.kind == "Join" and it.receiver == house and it.dir == directory
+    ]
 
 
 def members_words(epoch, more=()):
@@ -121,7 +134,10 @@ def not_master(replay, step, _):
     words = step.text.split()
     places = {"skulk": 1}.get(step.command, 1)
     words[places] = str(last.master)
-    yield f"House {house} is {role} in the epoch {held.number} that it holds. The master is house {last.master}: `{' '.join(words)}`."
+    yield (
+        f"House {house} is {role} in the epoch {held.number} that it holds. The master is house {last.master}:"
+        f" `{' '.join(words)}`."
+    )
 
 
 def not_member(replay, step, _):
@@ -195,7 +211,10 @@ def no_name(replay, step, numbers):
         known = sorted({name for (_, name), entry in replay.entries.items() if entry.kind})
         yield f"In {above} there is no `{parts[count]}` at the house that was asked." + near(parts[count], known)
     elif linked:
-        yield f"The name that the walk came to, by links, has {count or 'no'} component{'' if count == 1 else 's'} before the missing one."
+        yield (
+            f"The name that the walk came to, by links, has {count or 'no'} component{'' if count == 1 else 's'} before"
+            " the missing one."
+        )
 
 
 def not_directory(replay, step, numbers):
@@ -232,20 +251,23 @@ def not_acting(replay, step, _):
 
 
 WHY = {
-    "Down": down, "NoHouse": no_house, "HouseExists": house_exists, "NoDirectory": no_directory, "BadMembers": bad_members,
-    "NoReplica": no_replica, "NotMaster": not_master, "NotMember": not_member, "NotJoined": not_joined, "NoMessage": no_message,
-    "NoSuchEntry": no_entry, "EntryExists": entry_exists, "NoSuchName": no_name, "NotDirectory": not_directory,
-    "Unreachable": unreachable, "Up": up, "NotActing": not_acting,
+    "Down": down, "NoHouse": no_house, "HouseExists": house_exists, "NoDirectory": no_directory,
+    "BadMembers": bad_members, "NoReplica": no_replica, "NotMaster": not_master, "NotMember": not_member,
+    "NotJoined": not_joined, "NoMessage": no_message, "NoSuchEntry": no_entry, "EntryExists": entry_exists,
+    "NoSuchName": no_name, "NotDirectory": not_directory, "Unreachable": unreachable, "Up": up, "NotActing": not_acting,
 }  # fmt: skip
 
 
 def before(script, answers, line):
-    """The replay up to a line of a script, without its answer, and the step of the line; or None where it can't be read."""
+    """The replay up to a line of a script, without its answer, and the step of the line; or None where it can't be
+    read."""
     lines = script.split(b"\n")
     said = [it for it in answers if int(it.split(" ", 1)[0]) < line]
     try:
         happened = replays.read(b"\n".join([*lines[: line - 1], b""]), "".join(f"{it}\n" for it in said).encode())
-        number, command, words, text, stop = next(replays.steps_of([b"".decode()] * (line - 1) + [lines[line - 1].decode()]))
+        number, command, words, text, stop = next(
+            replays.steps_of([b"".decode()] * (line - 1) + [lines[line - 1].decode()])
+        )
     except (replays.Fault, StopIteration, UnicodeDecodeError):
         return None
     step = replays.Step(len(happened.steps), number, command, words, text, stop)

@@ -69,11 +69,16 @@ def table(cell, directory, width=100):
     if not houses:
         yield f"No house holds directory {directory}."
         return
-    facts = [(name, [it.facts.get(name, "-") for it in houses]) for name in ("state", "epoch", "role", "members", "allupto")]
+    facts = [
+        (name, [it.facts.get(name, "-") for it in houses]) for name in ("state", "epoch", "role", "members", "allupto")
+    ]
     keys = sorted({key for it in houses for key in it.cells})
     rows = [(row_name(key), [it.cells.get(key, "-") for it in houses]) for key in keys]
     first = min(max(len(name) for name, _ in [*facts, *rows]), 40)
-    columns = [max(len(cell.names.called(it.house)), *(len(row[at]) for _, row in [*facts, *rows])) for at, it in enumerate(houses)]
+    columns = [
+        max(len(cell.names.called(it.house)), *(len(row[at]) for _, row in [*facts, *rows]))
+        for at, it in enumerate(houses)
+    ]
     at = 0
     while at < len(houses):
         end = at + 1
@@ -82,7 +87,9 @@ def table(cell, directory, width=100):
         heads = ("", [cell.names.called(it.house) for it in houses])
         for name, row in [heads, *facts, *rows]:
             mark = "*" if (name, row) in rows and len(set(row)) > 1 else " "
-            yield (f"{mark} {name[:40]:<{first}}" + "".join(f"  {row[it]:<{columns[it]}}" for it in range(at, end))).rstrip()
+            yield (
+                f"{mark} {name[:40]:<{first}}" + "".join(f"  {row[it]:<{columns[it]}}" for it in range(at, end))
+            ).rstrip()
         at = end
         if at < len(houses):
             yield ""
@@ -96,6 +103,9 @@ def messages(cell):
     for it in waiting:
         down = " (down)" if it.receiver and happened.is_down(it.receiver) else ""
         names = cell.names
-        yield f"{it.serial:>4}  {it.kind} from {names.called(it.sender)} to {names.called(it.receiver)}{down}, line {it.line}: {it.text}"
+        yield (
+            f"{it.serial:>4}  {it.kind} from {names.called(it.sender)} to {names.called(it.receiver)}{down}, line"
+            f" {it.line}: {it.text}"
+        )
     if not waiting:
         yield "No message is under way."

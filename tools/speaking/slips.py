@@ -1,4 +1,5 @@
-"""The usual slips at each kind of word. Each answers what to do, and the word to write, or None where that is not known."""
+"""The usual slips at each kind of word. Each answers what to do, and the word to write, or None where that is not
+known."""
 import difflib
 import re
 
@@ -7,13 +8,26 @@ from speaking import numbers, texts
 from speaking.language import GREATEST
 from speaking.texts import UUID
 
-PROTOCOLS = {"tcp": "ncacn_ip_tcp", "udp": "ncadg_ip_udp", "ncacn_ip_udp": "ncadg_ip_udp", "ncadg_ip_tcp": "ncacn_ip_tcp"}
+PROTOCOLS = {
+    "tcp": "ncacn_ip_tcp",
+    "udp": "ncadg_ip_udp",
+    "ncacn_ip_udp": "ncadg_ip_udp",
+    "ncadg_ip_tcp": "ncacn_ip_tcp",
+}
 CHOICES = {
     "C": ("low", "high"), "WHAT": ("msg", "house"), "W": ("keep", "drop", "torn"),
     "KIND": ("all", "default", "byif", "bymbr", "byboth"), "VERS": ("all", "compatible", "exact", "major_only", "upto"),
     "COMMAND": STOPPED,
 }  # fmt: skip
-LIKE = {"message": "msg", "messages": "msg", "image": "house", "medium": "high", "any": "low", "all": "low", "major": "major_only"}
+LIKE = {
+    "message": "msg",
+    "messages": "msg",
+    "image": "house",
+    "medium": "high",
+    "any": "low",
+    "all": "low",
+    "major": "major_only",
+}
 
 
 def node(word, words):
@@ -43,7 +57,13 @@ def simple(word, words):
         return "Here goes the entry's own name, without the path; its directory is the number before it.", parts[0]
     if len(parts) > 1:
         above = "/".join(["/.:", *parts[:-1]])
-        return f"Here goes the entry's own name, `{parts[-1]}`. The number before it is that of its directory, {above[:80]}.", None
+        return (
+            (
+                f"Here goes the entry's own name, `{parts[-1]}`. The number before it is that of its directory,"
+                f" {above[:80]}."
+            ),
+            None,
+        )
     return "A simple name has no `/`.", None
 
 
@@ -81,7 +101,10 @@ def value(word, words):
         return "A value has at most 1,024 octets, which are 2,048 digits.", None
     bare = word.strip("\"'")
     if bare != word:
-        said = "A value is hexadecimal in a script, two digits an octet. tools/write and tools/console take text in quotes."
+        said = (
+            "A value is hexadecimal in a script, two digits an octet. tools/write and tools/console take text in"
+            " quotes."
+        )
         return said, texts.value(bare)
     if re.fullmatch(r"0[xX]([0-9A-Fa-f]{2})+", word):
         return "Hexadecimal digits have no `0x` in front.", word[2:].lower()
@@ -91,7 +114,13 @@ def value(word, words):
         return f"Each octet has two digits, and here are {len(word)}.", "0" + word if len(word) == 1 else None
     if not bare:
         return "A value has at least one octet.", None
-    return f"A value is hexadecimal, two digits an octet. If the text {bare[:40]} is meant (`printf {bare[:40]} | xxd -p`):", texts.value(bare)
+    return (
+        (
+            f"A value is hexadecimal, two digits an octet. If the text {bare[:40]} is meant (`printf {bare[:40]} | xxd"
+            " -p`):"
+        ),
+        texts.value(bare),
+    )
 
 
 def octets(word, words):
@@ -146,12 +175,25 @@ def bindings(word, words):
         return "Commas go between two bindings, and nowhere else.", ",".join(part for part in word.split(",") if part)
     parts = word.split(",")
     known = [part.partition(":") for part in parts]
-    better = ",".join(PROTOCOLS.get(sequence.lower(), sequence.lower()) + colon + rest for sequence, colon, rest in known)
+    better = ",".join(
+        PROTOCOLS.get(sequence.lower(), sequence.lower()) + colon + rest for sequence, colon, rest in known
+    )
     if any(not re.fullmatch(r"ncacn_ip_tcp|ncadg_ip_udp", it[0]) for it in known) and re.match("ncac|ncad", better):
-        return "The protocol sequences are `ncacn_ip_tcp` and `ncadg_ip_udp`, in small letters.", better if ":" in better else None
+        return "The protocol sequences are `ncacn_ip_tcp` and `ncadg_ip_udp`, in small letters.", (
+            better if ":" in better else None
+        )
     if any(not rest for _, _, rest in known):
-        return "A binding is the protocol sequence, a colon and the host's address, as `ncacn_ip_tcp:10.0.0.1[1025]`.", None
-    return "A binding is as `ncacn_ip_tcp:10.0.0.1[1025]`: an IP address in four numbers, and a port in brackets, or none.", None
+        return (
+            "A binding is the protocol sequence, a colon and the host's address, as `ncacn_ip_tcp:10.0.0.1[1025]`.",
+            None,
+        )
+    return (
+        (
+            "A binding is as `ncacn_ip_tcp:10.0.0.1[1025]`: an IP address in four numbers, and a port in brackets, or"
+            " none."
+        ),
+        None,
+    )
 
 
 def objects(word, words):
@@ -178,7 +220,9 @@ def protocols(word, words):
 def member(word, words):
     """The member of the elements that `proflist` lists."""
     if words[4] in ("bymbr", "byboth"):
-        return f"With `{words[4]}` the full name of the member goes here.", texts.full_name(word) if word != "-" else None
+        return f"With `{words[4]}` the full name of the member goes here.", (
+            texts.full_name(word) if word != "-" else None
+        )
     return f"With `{words[4]}` no member is named: write `-`.", "-"
 
 
@@ -201,13 +245,15 @@ def versions(word, words):
 
 
 KINDS = {
-    "NODE": node, "S": simple, "NAME": name, "ATTR": attribute, "VALUE": value, "OCTETS": octets, "IF": interface, "IFD": interface,
-    "IFN": interface_or_none, "BS": bindings, "OS": objects, "OBJ": objects, "PS": protocols, "MBR": member, "VERS": versions,
+    "NODE": node, "S": simple, "NAME": name, "ATTR": attribute, "VALUE": value, "OCTETS": octets, "IF": interface,
+    "IFD": interface, "IFN": interface_or_none, "BS": bindings, "OS": objects, "OBJ": objects, "PS": protocols,
+    "MBR": member, "VERS": versions,
 }  # fmt: skip
 
 
 def word_slip(kind, at, words):
-    """What to do about the word at a place, counted from 0, where a kind is wanted; and the words of the line, mended, or None."""
+    """What to do about the word at a place, counted from 0, where a kind is wanted; and the words of the line, mended,
+    or None."""
     word = words[at]
     if word.startswith("#"):
         said = "A remark needs a line of its own: a `#` further on begins no comment."

@@ -6,9 +6,10 @@ from speaking import texts
 
 # Words of logs for commands.
 DONE = {
-    "created": "create", "linked": "link", "deleted": "delete", "added": "add", "removed": "remove", "cleared": "clear", "made": "mkdir",
-    "repointed": "repoint", "crashed": "crash", "stopped": "crash", "down": "crash", "started": "start", "up": "start", "skulked": "skulk",
-    "exported": "export", "unexported": "unexport", "houses": "house", "lost": "lose", "delivered": "deliver",
+    "created": "create", "linked": "link", "deleted": "delete", "added": "add", "removed": "remove", "cleared": "clear",
+    "made": "mkdir", "repointed": "repoint", "crashed": "crash", "stopped": "crash", "down": "crash",
+    "started": "start", "up": "start", "skulked": "skulk", "exported": "export", "unexported": "unexport",
+    "houses": "house", "lost": "lose", "delivered": "deliver",
 }  # fmt: skip
 
 
@@ -17,7 +18,8 @@ class Fault(Exception):
 
 
 class Line:
-    """A line of an operator: its text, its words from the command on, and the house and the time in front, each None where it has none."""
+    """A line of an operator: its text, its words from the command on, and the house and the time in front, each None
+    where it has none."""
 
     def __init__(self, text, words, house, time):
         self.text, self.words, self.house, self.time = text, words, house, time
@@ -45,7 +47,7 @@ def words_of(line):
             at += 1
         elif line[at] == "#":
             break
-        elif line[at] in "\"\u201c":
+        elif line[at] in '"\u201c':
             word, at = quoted(line, at)
             found.append(word)
         else:
@@ -57,7 +59,7 @@ def words_of(line):
 
 def quoted(line, at):
     """The text in quotes that begins at a place, and the place after it."""
-    end = re.compile("[\"\u201d]").search(line, at + 1)
+    end = re.compile('["\u201d]').search(line, at + 1)
     if not end:
         raise Fault(f"The quotes that begin at {line[at : at + 20]} are not closed.")
     if end.end() < len(line) and not line[end.end()].isspace():

@@ -16,7 +16,10 @@ def form_line(text):
         if line.strip() and not line.strip().startswith("#"):
             found = re.fullmatch(r"\s*form\s+(.*?)\s*", line)
             if found and not program.form_words(found.group(1)):
-                raise Faulty(f"line {at + 1}: `{found.group(1)}` is no form that replays a script: run, journal, inquire, or clerk N")
+                raise Faulty(
+                    f"line {at + 1}: `{found.group(1)}` is no form that replays a script: run, journal, inquire, or"
+                    " clerk N"
+                )
             return (program.form_words(found.group(1)), at) if found else (None, None)
     return None, None
 

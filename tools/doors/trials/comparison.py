@@ -188,7 +188,9 @@ class Comparison:
             if found and each.answer[-1].startswith("ok"):
                 self.count("exports that were answered ok", not is_kept, f"{each.line}: it is in no journal")
             elif found and each.answer[-1].startswith("refused") and not each.answer[-1].endswith("doubt"):
-                self.count("exports that were refused", is_kept, f"{each.line}: {each.answer[-1]}, and it is in a journal")
+                self.count(
+                    "exports that were refused", is_kept, f"{each.line}: {each.answer[-1]}, and it is in a journal"
+                )
 
 
 def tower_end(host: str, port: int) -> str:

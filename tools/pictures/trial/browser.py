@@ -28,8 +28,20 @@ class Browser:
     def __init__(self, path):
         self.folder, self.serials, self.waiting, self.events = tempfile.mkdtemp(), itertools.count(1), b"", []
         (his_in, self.sink), (self.source, his_out) = os.pipe(), os.pipe()
-        words = ["--headless", "--remote-debugging-pipe", "--no-sandbox", "--disable-gpu", "--disable-dev-shm-usage", "--hide-scrollbars"]
-        quiet = ["--no-first-run", "--disable-extensions", "--disable-background-networking", "--disable-component-update"]
+        words = [
+            "--headless",
+            "--remote-debugging-pipe",
+            "--no-sandbox",
+            "--disable-gpu",
+            "--disable-dev-shm-usage",
+            "--hide-scrollbars",
+        ]
+        quiet = [
+            "--no-first-run",
+            "--disable-extensions",
+            "--disable-background-networking",
+            "--disable-component-update",
+        ]
 
         def pipes():
             # The browser reads from 3 and writes to 4.
@@ -39,7 +51,11 @@ class Browser:
 
         self.process = subprocess.Popen(
             [path, *words, *quiet, f"--user-data-dir={self.folder}", "about:blank"],
-            stdin=subprocess.DEVNULL, stdout=subprocess.DEVNULL, stderr=subprocess.DEVNULL, preexec_fn=pipes, close_fds=False,
+            stdin=subprocess.DEVNULL,
+            stdout=subprocess.DEVNULL,
+            stderr=subprocess.DEVNULL,
+            preexec_fn=pipes,
+            close_fds=False,
         )
         os.close(his_in)
         os.close(his_out)
@@ -53,7 +69,9 @@ class Browser:
     def ask(self, method, **words):
         """Asks for something, and returns the answer."""
         serial = next(self.serials)
-        asked = {"id": serial, "method": method, "params": words} | ({"sessionId": self.session} if self.session else {})
+        asked = {"id": serial, "method": method, "params": words} | (
+            {"sessionId": self.session} if self.session else {}
+        )
         os.write(self.sink, json.dumps(asked).encode() + b"\0")
         until = time.monotonic() + SECONDS
         while True:
@@ -93,7 +111,9 @@ class Browser:
         """What a script gives in the page."""
         said = self.ask("Runtime.evaluate", expression=script, returnByValue=True, awaitPromise=True)
         if "exceptionDetails" in said:
-            raise Failed(said["exceptionDetails"].get("exception", {}).get("description", said["exceptionDetails"]["text"]))
+            raise Failed(
+                said["exceptionDetails"].get("exception", {}).get("description", said["exceptionDetails"]["text"])
+            )
         return said["result"].get("value")
 
     def press(self, key, text=""):
@@ -111,14 +131,21 @@ class Browser:
                 found.append(details.get("exception", {}).get("description", details["text"]))
             elif it.get("method") == "Log.entryAdded" and said["entry"]["level"] == "error":
                 found.append(said["entry"]["text"])
-            elif it.get("method") == "Network.requestWillBeSent" and not said["request"]["url"].startswith(("file:", "data:")):
+            elif it.get("method") == "Network.requestWillBeSent" and not said["request"]["url"].startswith(
+                ("file:", "data:")
+            ):
                 found.append(f"it asks for {said['request']['url']}")
         return found
 
     def shape(self, width, height, is_dark=False):
         """Makes the window so wide and high, light or dark."""
-        self.ask("Emulation.setDeviceMetricsOverride", width=width, height=height, deviceScaleFactor=1, mobile=width < 600)
-        self.ask("Emulation.setEmulatedMedia", features=[{"name": "prefers-color-scheme", "value": "dark" if is_dark else "light"}])
+        self.ask(
+            "Emulation.setDeviceMetricsOverride", width=width, height=height, deviceScaleFactor=1, mobile=width < 600
+        )
+        self.ask(
+            "Emulation.setEmulatedMedia",
+            features=[{"name": "prefers-color-scheme", "value": "dark" if is_dark else "light"}],
+        )
 
     def picture(self, path):
         """Keeps a picture of the window as a PNG."""

@@ -12,8 +12,17 @@ class Cut:
     def dumps(self, last, houses, directories, downs):
         """The dumps after a line, by house and directory. Those that are down are started for it."""
         asked = [(house, directory) for house in houses for directory in directories]
-        lines = [*self.lines[:last], *(f"start {it}" for it in downs), *(f"dump {house} {directory}" for house, directory in asked)]
-        ran = subprocess.run([self.program, *self.words], input="".join(f"{it}\n" for it in lines).encode(), stdout=subprocess.PIPE, check=True)
+        lines = [
+            *self.lines[:last],
+            *(f"start {it}" for it in downs),
+            *(f"dump {house} {directory}" for house, directory in asked),
+        ]
+        ran = subprocess.run(
+            [self.program, *self.words],
+            input="".join(f"{it}\n" for it in lines).encode(),
+            stdout=subprocess.PIPE,
+            check=True,
+        )
         first, found = last + len(downs) + 1, {it: [] for it in asked}
         for line in ran.stdout.decode().split("\n")[:-1]:
             number, _, said = line.partition(" ")
@@ -60,7 +69,9 @@ def stamp(text, nodes):
 
 def head_of(role, up_to, nodes):
     """The first line of a dump, as far as the page shows it."""
-    kind, epoch, since = re.fullmatch(r"(master|secondary|read-only|unlisted), epoch (\d+)(?:, since (\d+))?", role).groups()
+    kind, epoch, since = re.fullmatch(
+        r"(master|secondary|read-only|unlisted), epoch (\d+)(?:, since (\d+))?", role
+    ).groups()
     known = {"master": "m", "secondary": "s", "read-only": "r", "unlisted": "none"}[kind]
     since = "none" if kind == "unlisted" else since or "1"
     return f"epoch {epoch} allupto {up_to if up_to == 'none' else stamp(up_to, nodes)} since {since} {known}"

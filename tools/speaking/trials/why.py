@@ -1,8 +1,8 @@
 """Trials of tools/why: wrong uses, each with the words that it gets (`wrong-*.case`), and the pages of SCRIPT.md.
 
-A block of these is one use. Its lines begin with `form:` (the form of the program, where it is not `run`), `|` (a line of the script;
-\\t, \\r and \\xNN are octets, and \\c at its end leaves the line end out), `=` (the fault, or the answer to the last line), and `>` (what the
-explanation has to say).
+A block of these is one use. Its lines begin with `form:` (the form of the program, where it is not `run`), `|` (a line
+of the script; \\t, \\r and \\xNN are octets, and \\c at its end leaves the line end out), `=` (the fault, or the answer
+to the last line), and `>` (what the explanation has to say).
 """
 import glob
 import os
@@ -20,7 +20,9 @@ WHY = f"{os.path.dirname(os.path.dirname(HERE))}/why"
 def ask(path, script, form=None, line=None):
     """What tools/why says of a script, and its exit status."""
     said = []
-    status = findings.report(script, program.form_words(form) if form else program.first_line_form(script), line, path, said.append)
+    status = findings.report(
+        script, program.form_words(form) if form else program.first_line_form(script), line, path, said.append
+    )
     return "\n".join(said), status
 
 
@@ -34,7 +36,9 @@ def blocks():
         rows = [line.partition(" ")[::2] for line in block.splitlines()]
         script = b"".join(octets(line) for mark, line in rows if mark == "|")
         form = next((line for mark, line in rows if mark == "form:"), None)
-        yield form, script, next(line for mark, line in rows if mark == "="), [line for mark, line in rows if mark == ">"]
+        yield form, script, next(line for mark, line in rows if mark == "="), [
+            line for mark, line in rows if mark == ">"
+        ]
 
 
 def octets(line):
@@ -86,7 +90,9 @@ def tables(_):
     patterns = set(re.findall(r"(?m)^\| \[?`([a-z]+ [^`]*)`", pages.text()))
     lacking = [it for it in COMMANDS if it != "octets" and language.pattern(it).replace("H..", "R..") not in patterns]
     yield "forms of commands", str(lacking) if lacking else None
-    yield "help for each refusal", str(set(pages.refusals()) - set(refusals.HELP)) if set(pages.refusals()) - set(refusals.HELP) else None
+    yield "help for each refusal", (
+        str(set(pages.refusals()) - set(refusals.HELP)) if set(pages.refusals()) - set(refusals.HELP) else None
+    )
     kinds = {kind for taken in COMMANDS.values() for kind in taken.split()}
     yield "rows of words", str(kinds - set(pages.words())) if kinds - set(pages.words()) else None
 
@@ -101,12 +107,16 @@ def calls(path):
     """Calls of the tool, as a user makes them."""
     for words, script, status, phrase in (
         (["/"], b"", 1, "Is a directory"), (["/nowhere"], b"", 1, "No such file"), ([], b"", 2, "name a script"),
-        (["--form", "load 3", "x"], b"", 2, "is no form"), (["--program", "/nowhere", WHY], b"", 3, "a program"), (["--help"], b"", 0, "tools/why"),
-        (["--program", "/nowhere", "-"], b"root 1\n", 1, "No such file"), (["--program", path, "-"], b"", 0, "empty"),
+        (["--form", "load 3", "x"], b"", 2, "is no form"), (["--program", "/nowhere", WHY], b"", 3, "a program"),
+        (["--help"], b"", 0, "tools/why"), (["--program", "/nowhere", "-"], b"root 1\n", 1, "No such file"),
+        (["--program", path, "-"], b"", 0, "empty"),
         (["--program", path, "-"], b"house 1 08:00:2b:1c:4d:01\n", 3, "    house 1 08002b1c4d01\n"),
         (["--program", path, "--form", "clerk 8", "-"], b"house 1 00000000000a\n", 0, "no command was refused"),
         (["--program", path, f"{pages.ROOT}/examples/outage.cds"], b"", 0, "no command was refused"),
-        (["--program", path, "--line", "12", f"{pages.ROOT}/examples/missed.cds"], b"", 0, "House 3 is down since line 8"),
+        (
+            ["--program", path, "--line", "12", f"{pages.ROOT}/examples/missed.cds"],
+            b"", 0, "House 3 is down since line 8",
+        ),
         (["--program", path, "--line", "1", f"{pages.ROOT}/examples/missed.cds"], b"", 0, "has no answer"),
     ):  # fmt: skip
         said, ended = called(script, *words)

@@ -1,7 +1,7 @@
 """Trials of tools/write: five incidents from their logs, lines that are wrong, and each kind of line.
 
-A file of incidents/ has a sentence, the log, the words of the operator, and answers that are known beforehand: `WORDS => ANSWER`, in
-the order of the words, each of which is one line of the answers to that line.
+A file of incidents/ has a sentence, the log, the words of the operator, and answers that are known beforehand: `WORDS
+=> ANSWER`, in the order of the words, each of which is one line of the answers to that line.
 """
 import glob
 import io
@@ -28,7 +28,9 @@ def write(path, words, has_answers=False):
 
 def called(words, *more):
     """What tools/write says when it is called, and its exit status."""
-    ran = subprocess.run([sys.executable, WRITE, *more], input=words.encode(), capture_output=True, check=False, timeout=120)
+    ran = subprocess.run(
+        [sys.executable, WRITE, *more], input=words.encode(), capture_output=True, check=False, timeout=120
+    )
     return (ran.stdout + ran.stderr).decode(), ran.returncode
 
 
@@ -151,7 +153,10 @@ BESIDE = (
     (CELL + "create b_ch lpr\n", "has not got its Join yet"),
     (CELL + "deliver all\ncreate b_ch lpr\n", "The master is house 1"),
     (CELL + "08:00 a_ch create a\n07:00 a_ch create b\n", "Is it the next day?"),
-    (CELL + "deliver all\ncrash c_ch\nskulk a_ch through\n", "The skulk is not complete: Nothing was delivered: c_ch is down."),
+    (
+        CELL + "deliver all\ncrash c_ch\nskulk a_ch through\n",
+        "The skulk is not complete: Nothing was delivered: c_ch is down.",
+    ),
     (CELL + "deliver all\ndeliver all\n", "No message is under way there."),
 )  # fmt: skip
 
@@ -170,10 +175,18 @@ def trials(path):
         _, beside, status = write(path, words)
         yield repr(words), None if status == 0 and said in beside else f"status {status}: {beside}"
     for words, script, status, phrase in (
-        ([], "", 2, "name a file"), (["/nowhere"], "", 1, "No such file"), (["--form", "towers", "-"], "", 2, "is no form"),
-        (["--program", "/nowhere", "-"], "house a_ch\n", 1, "/nowhere: No such file"), (["--help"], "", 0, "from here deliver all"),
-        (["--program", path, "--answers", "-"], CELL + 'a_ch create lpr Place "hall"\nread a_ch lpr Place\n', 0, 'ok 1 "hall"\n'),
-        (["--program", path, "-"], CELL + "create d_ch lpr\n", 1, "write: line 3: create d_ch lpr\nThere is no house `d_ch`"),
+        ([], "", 2, "name a file"), (["/nowhere"], "", 1, "No such file"),
+        (["--form", "towers", "-"], "", 2, "is no form"),
+        (["--program", "/nowhere", "-"], "house a_ch\n", 1, "/nowhere: No such file"),
+        (["--help"], "", 0, "from here deliver all"),
+        (
+            ["--program", path, "--answers", "-"], CELL + 'a_ch create lpr Place "hall"\nread a_ch lpr Place\n',
+            0, 'ok 1 "hall"\n',
+        ),
+        (
+            ["--program", path, "-"], CELL + "create d_ch lpr\n",
+            1, "write: line 3: create d_ch lpr\nThere is no house `d_ch`",
+        ),
     ):  # fmt: skip
         said, ended = called(script, *words)
         yield f"tools/write {' '.join(words)}", None if ended == status and phrase in said else f"{ended}: {said}"
