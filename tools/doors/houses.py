@@ -66,13 +66,23 @@ def ends_of(child: subprocess.Popen[bytes]) -> tuple[int, int]:
     return ends
 
 
+def kill(child: subprocess.Popen[bytes]) -> None:
+    """Kills a child, which leads a group of its own, and what it started."""
+    try:
+        os.killpg(child.pid, signal.SIGKILL)
+    except (ProcessLookupError, PermissionError):
+        pass
+
+
 def status_of(child: subprocess.Popen[bytes]) -> int:
-    """The status of a child that has closed its output. One that goes on is killed."""
+    """The status of a child that has closed its output. One that goes on is killed, with what it started."""
     try:
         return child.wait(0.5)
     except subprocess.TimeoutExpired:
-        child.kill()
-        return child.wait()
+        pass
+    finally:
+        kill(child)
+    return child.wait()
 
 
 class House:
@@ -141,7 +151,7 @@ class House:
     def kill(self) -> None:
         """Kills the process, if one runs. What it said before is still heard."""
         if self.child and self.child.poll() is None:
-            self.child.send_signal(signal.SIGKILL)
+            kill(self.child)
 
     def close(self) -> None:
         """Ends its input. A house answers what it has, and ends."""
