@@ -218,7 +218,7 @@ class DoorTest(Room):
         self.make(client)
         words = [f"{ROOT}/tools/door", f"{self.room}/cell.toml"]
         second = subprocess.run(words, capture_output=True, text=True, check=False)
-        self.assertEqual((second.returncode, "another door is there" in second.stderr), (1, True))
+        self.assertEqual((second.returncode, "another door is there" in second.stderr), (2, True))
         self.doors[0].kill()
         self.doors[0].wait()
         self.assertEqual(client.ask("status"), ["gone"])
@@ -260,7 +260,7 @@ class DoorTest(Room):
         for path, said in ((f"{self.room}/bad.toml", "[house.x]"), (f"{self.room}/none.toml", "No such file")):
             ran = subprocess.run([f"{ROOT}/tools/door", path], capture_output=True, text=True, check=False)
             found = (ran.returncode, said in ran.stderr, "Traceback" in ran.stderr)
-            self.assertEqual(found, (1, True, False), ran.stderr)
+            self.assertEqual(found, (2, True, False), ran.stderr)
 
 
 class DayTest(Room):
@@ -429,6 +429,22 @@ class ClientsTest(Room):
         words = [f"{ROOT}/nsi", "--socket", f"{self.room}/none", "status"]
         gone = subprocess.run(words, capture_output=True, check=False)
         self.assertEqual(gone.returncode, 2)
+
+    def test_an_alarm_reads_the_status(self) -> None:
+        os.makedirs(f"{self.room}/h2")
+        with open(f"{self.room}/h2/1", "wb") as file:
+            file.write(b"no journal")
+        client = self.open(houses=(1, 2))
+        self.until(lambda: "house 2 is down" in self.log())
+        status, text = self.nsi("status")
+        self.assertEqual((status, "house 2 here down" in text), (4, True), text)
+        self.assertEqual(self.nsi("--json", "status")[0], 4)
+        os.unlink(f"{self.room}/h2/1")
+        self.until(lambda: self.up(client, 2))
+        self.assertEqual(self.nsi("status")[0], 0)
+        self.doors[-1].kill()
+        self.doors[-1].wait()
+        self.assertEqual(self.nsi("status")[0], 2)
 
     def test_the_examples_in_c_and_in_a_shell(self) -> None:
         client = self.open()
