@@ -1,4 +1,5 @@
-"""An answer line as an object of JSON, and back: of a script (docs/SCRIPT.md, docs/FORMS.md) and of a house (docs/LINES.md)."""
+"""An answer line as an object of JSON, and back: of a script (docs/SCRIPT.md, docs/FORMS.md) and of a house
+(docs/LINES.md)."""
 
 from __future__ import annotations
 
@@ -10,8 +11,9 @@ from typing import Any
 from cds.commands import HEXADECIMAL, NUMBER, STAMP
 from cds.records import KINDS
 
-# Each form of an answer after its line's number: its kind, and then words as they are, or `{FIELD:TYPE}`. A type with `..` is any number of
-# words, and one with `|` is one of these words. After `ok` and `refused` the messages may follow that were posted.
+# Each form of an answer after its line's number: its kind, and then words as they are, or `{FIELD:TYPE}`. A type with
+# `..` is any number of words, and one with `|` is one of these words. After `ok` and `refused` the messages may follow
+# that were posted.
 FORMS = (
     "ok",
     "ok stopped {stopped:before|after}",
@@ -19,7 +21,8 @@ FORMS = (
     "ok {result:taken|noreplica|foreign}",
     "ok {result:late|early} {epoch:NUMBER} {held:NUMBER}",
     "ok {result:stale} {stamp:STAMP} {running:STAMP-}",
-    "ok epoch {epoch:NUMBER} allupto {allupto:STAMP-} skulk {skulk:STAMP-} entries {entries:NUMBER} members{members:MEMBER..}",
+    "ok epoch {epoch:NUMBER} allupto {allupto:STAMP-} skulk {skulk:STAMP-} entries {entries:NUMBER}"
+    " members{members:MEMBER..}",
     "ok {stamp:STAMP}",
     "ok {number:NUMBER} {stamp:STAMP}",
     "ok {number:NUMBER}{values:HEX..}",
@@ -82,7 +85,8 @@ def stamp_text(found: Object) -> str:
 
 
 def member(text: str) -> Object:
-    """A member of a list of houses: since which epoch it is one, and whether it is the master, secondary or read-only."""
+    """A member of a list of houses: since which epoch it is one, and whether it is the master, secondary or
+    read-only."""
     house, since, role = text.split(":")
     return {"house": int(house), "since": int(since), "role": role}
 
@@ -111,10 +115,18 @@ def parts(name: str, kind: str) -> tuple[str, Callable[[str], Any], Callable[[An
     if kind.endswith(".."):
         of = TYPES[kind[:-2]]
         form = rf"(?P<{name}>(?: (?:{of.form}))*)"
-        return form, lambda text: [of.read(it) for it in text.split()], lambda found: "".join(f" {of.write(it)}" for it in found)
+        return (
+            form,
+            lambda text: [of.read(it) for it in text.split()],
+            lambda found: "".join(f" {of.write(it)}" for it in found),
+        )
     if kind.endswith("-"):
         of, nothing = TYPES[kind[:-1]], NOTHING[name]
-        return rf"(?P<{name}>{nothing}|{of.form})", lambda text: None if text == nothing else of.read(text), lambda it: nothing if it is None else of.write(it)
+        return (
+            rf"(?P<{name}>{nothing}|{of.form})",
+            lambda text: None if text == nothing else of.read(text),
+            lambda it: nothing if it is None else of.write(it),
+        )
     of = TYPES.get(kind) or Type(kind)
     return rf"(?P<{name}>{of.form})", of.read, of.write
 

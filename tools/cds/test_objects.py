@@ -1,4 +1,5 @@
-"""Tests of answers as objects: each answer of the cases, of the examples, of the pages and of houses is read, and written back."""
+"""Tests of answers as objects: each answer of the cases, of the examples, of the pages and of houses is read, and
+written back."""
 
 from __future__ import annotations
 
@@ -21,7 +22,11 @@ TOOL = f"{ROOT}/tools/answers"
 def of_scripts() -> list[str]:
     """The answer lines of all runs that replay a script."""
     runs = [*(it for _, it in all_cases()[0]), *(it for _, it in of_documents()[0]), *of_examples()]
-    texts = [it.output.decode("ascii") for it in runs if type(it) is Run and it.words[:1] and it.words[0] in FORMS and not it.full]
+    texts = [
+        it.output.decode("ascii")
+        for it in runs
+        if type(it) is Run and it.words[:1] and it.words[0] in FORMS and not it.full
+    ]
     return [line for text in texts for line in text.splitlines()]
 
 
@@ -60,8 +65,14 @@ class Objects(unittest.TestCase):
             ("10 refused NotJoined 1 2", {"reason": "NotJoined", "numbers": [1, 2]}),
             ("1 fault BadWord 3", {"reason": "BadWord", "place": 3}),
             ("15 binding ncacn_ip_tcp:10.0.0.3", {"binding": "ncacn_ip_tcp:10.0.0.3"}),
-            ("19 entry lpr object 3@00000000000a live", {"name": "lpr", "entry": "object", "birth": stamp, "death": None}),
-            ("9 dump epoch 1 allupto none members 1:1:m", {"epoch": 1, "allupto": None, "members": [{"house": 1, "since": 1, "role": "m"}]}),
+            (
+                "19 entry lpr object 3@00000000000a live",
+                {"name": "lpr", "entry": "object", "birth": stamp, "death": None},
+            ),
+            (
+                "9 dump epoch 1 allupto none members 1:1:m",
+                {"epoch": 1, "allupto": None, "members": [{"house": 1, "since": 1, "role": "m"}]},
+            ),
             ("0 last create 1 lpr", {"command": "create 1 lpr"}),
             ("3 ok stopped after", {"stopped": "after"}),
         ):
@@ -69,7 +80,19 @@ class Objects(unittest.TestCase):
             self.assertEqual({name: it for name, it in found.items() if name not in ("line", "kind")}, due)
 
     def test_what_is_no_answer(self) -> None:
-        for line in ("", "ok", "1", "1 hop", "1  ok", "01 ok", "1 ok hop", "1 end x", "1 value 5", "x ok", "1 ok 3@0000"):
+        for line in (
+            "",
+            "ok",
+            "1",
+            "1 hop",
+            "1  ok",
+            "01 ok",
+            "1 ok hop",
+            "1 end x",
+            "1 value 5",
+            "x ok",
+            "1 ok 3@0000",
+        ):
             with self.assertRaises(NoAnswer):
                 object_of(line)
         for answer in ({}, {"line": 1, "kind": "ok", "hop": 1}, {"line": 1, "kind": "ok", "result": "hop"}):

@@ -30,7 +30,9 @@ class Slot:
     def said(self) -> str:
         """The lines of the answer: `K.I LINE`, if the line had the number K, and else as they are."""
         lines = self.answer or []
-        return "".join(f"{self.number}.{at} {line}\n" if self.number else f"{line}\n" for at, line in enumerate(lines, 1))
+        return "".join(
+            f"{self.number}.{at} {line}\n" if self.number else f"{line}\n" for at, line in enumerate(lines, 1)
+        )
 
 
 class Program:

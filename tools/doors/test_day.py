@@ -1,4 +1,5 @@
-"""An operator's day on three doors, each with a folder of its own: each row of the table of docs/LIVE.md, in its order."""
+"""An operator's day on three doors, each with a folder of its own: each row of the table of docs/LIVE.md, in its
+order."""
 
 from __future__ import annotations
 
@@ -41,7 +42,12 @@ class Cell(Machines):
             for house in self.houses[other]:
                 lines += [f"[house.{house}]", f'via = "{via}"']
             allow = '["questions", "updates", "messages", "operation"]'
-            lines += [f"[peer.{other}]", f'socket = "peer{other}"', f"houses = {self.houses[other]}", f"allow = {allow}"]
+            lines += [
+                f"[peer.{other}]",
+                f'socket = "peer{other}"',
+                f"houses = {self.houses[other]}",
+                f"allow = {allow}",
+            ]
         return lines
 
     def stop(self, machine: int) -> int:
@@ -147,7 +153,9 @@ class DayTest(unittest.TestCase):
         self.assertEqual(self.nsi(3, "status")[0], 2)
         self.cell.start(3)
         self.all_up()
-        self.until(lambda: all(" undelivered 0" in line for line in self.nsi(1, "status")[1] if line.startswith("house")))
+        self.until(
+            lambda: all(" undelivered 0" in line for line in self.nsi(1, "status")[1] if line.startswith("house"))
+        )
 
     def adds_a_house(self) -> None:
         self.done(1, "mkdir 1 1 print 1 2", "ok 2 ")

@@ -130,10 +130,17 @@ class DoorTest(Room):
         self.open()
         with socket.socket(socket.AF_UNIX) as door:
             door.connect(f"{self.room}/cell.door")
-            door.sendall(b"7 @1 dump 1\n  08 hop\n9 \n9 # no answer\nhop\n" + b"6 " + b"x" * 4097 + b"\n1 " + b"x" * 5000 + b"\n")
+            door.sendall(
+                b"7 @1 dump 1\n  08 hop\n9 \n9 # no answer\nhop\n" + b"6 " + b"x" * 4097 + b"\n1 " + b"x" * 5000 + b"\n"
+            )
             door.shutdown(socket.SHUT_WR)
             said = door.makefile("r").read().splitlines()
-        due = ["7.1 refused NoHouse", "08.1 fault UnknownCommand 1", "fault UnknownCommand 1", "6.1 fault LineTooLong 4097"]
+        due = [
+            "7.1 refused NoHouse",
+            "08.1 fault UnknownCommand 1",
+            "fault UnknownCommand 1",
+            "6.1 fault LineTooLong 4097",
+        ]
         self.assertEqual(said, [*due, "fault LineTooLong 4097"])
 
     def test_who_may_send_what(self) -> None:

@@ -182,8 +182,8 @@ class MqttTest(TransportTest):
     def hear(self, machine: int, topic: str) -> Callable[[], list[str]]:
         """Subscribes, and returns what gives the lines that came within two seconds."""
         words = ["mosquitto_sub", *self.words(machine), "-v", "-W", "2", "-t", topic]
-        how = {"stdout": subprocess.PIPE, "stderr": subprocess.DEVNULL, "text": True}
-        child: subprocess.Popen[str] = subprocess.Popen([*self.machines.net.inside(machine), *words], **how)  # type: ignore[call-overload]
+        words = [*self.machines.net.inside(machine), *words]
+        child = subprocess.Popen(words, stdout=subprocess.PIPE, stderr=subprocess.DEVNULL, text=True)
         return lambda: child.communicate()[0].splitlines()
 
     def publish(self, machine: int, topic: str, text: str, words: list[str] | None = None) -> int:

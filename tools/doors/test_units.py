@@ -1,5 +1,5 @@
-"""Tests of the units of systemd in examples/live/systemd: what `systemd-analyze` says of them, where it is there, and the
-house with its two pipes."""
+"""Tests of the units of systemd in examples/live/systemd: what `systemd-analyze` says of them, where it is there, and
+the house with its two pipes."""
 
 from __future__ import annotations
 
@@ -24,7 +24,7 @@ OTHERS = {"/opt/cds": ROOT, "/opt/printer/serve": "/bin/true"}
 def unit(name: str) -> configparser.SectionProxy:
     """What a unit says of its service."""
     found = configparser.ConfigParser(interpolation=None)
-    found.optionxform = str  # type: ignore[assignment, method-assign]
+    found.optionxform = str  # type: ignore[assignment]
     found.read(f"{UNITS}/{name}")
     return found["Service"]
 
@@ -88,7 +88,7 @@ class HouseTest(Room):
         for _ in range(2):
             # (the second time the pipes are there)
             subprocess.run(self.words("ExecStartPre"), check=True)
-        said = []
+        said = list[list[str]]()
         for line in ("house 1 00000000000a", "root"):
             house = subprocess.Popen(self.words("ExecStart"))
             self.addCleanup(house.kill)

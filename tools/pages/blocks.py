@@ -1,10 +1,12 @@
 """The commands that pages show: in fenced blocks, and between the words of a page.
 
-A fenced block `sh` has commands, a line each. One `console` is a session: after a line `$ COMMAND` comes what the command prints, and
-`PROMPT> LINE` is what is typed into it. Other blocks have no commands: a block without a word of a kind, or of another language.
+A fenced block `sh` has commands, a line each. One `console` is a session: after a line `$ COMMAND` comes what the
+command prints, and `PROMPT> LINE` is what is typed into it. Other blocks have no commands: a block without a word of a
+kind, or of another language.
 
-A sentence "Not tried by `./test`:", with the reason, says that the commands after it are not run, up to the end of its part; in front of the
-first part it is said of the whole page. The words "keeps that terminal" after a block say that its last command goes on while others run.
+A sentence "Not tried by `./test`:", with the reason, says that the commands after it are not run, up to the end of its
+part; in front of the first part it is said of the whole page. The words "keeps that terminal" after a block say that
+its last command goes on while others run.
 """
 
 from __future__ import annotations
@@ -23,14 +25,16 @@ PROMPT = re.compile(r"(?:cell|\d+)> ?(.*)")
 # The first words of a command of this repository, of a session, and of what makes files or compiles.
 BEGINS = re.compile(r"(?:\$ |\./|(?:tools|bench|out)/[a-z]|(?:mkdir|cp|rustc|cargo|cc|head|cat|export|nsi) )")
 TOOLS = ("./", "tools/", "bench/")
-# A command between the words of a page: it reads or writes a file or another command, and no word of it is to be replaced.
+# A command between the words of a page: it reads or writes a file or another command, and no word of it is to be
+# replaced.
 INLINE = re.compile(r"`((?:\./|tools/|bench/|printf |\()[^`]* [<>|]+ ?[^`]*)`")
 REPLACED = re.compile(r"\b[A-Z]{2,}\b|\b[A-Z]\b|\.\.")
 
 
 @dataclasses.dataclass(frozen=True)
 class Block:
-    """A fenced block: its page, the line on which it begins, its kind, its lines, why it is not tried, and the words after it."""
+    """A fenced block: its page, the line on which it begins, its kind, its lines, why it is not tried, and the words
+    after it."""
 
     page: str
     line: int
@@ -62,7 +66,11 @@ class Block:
             hidden = next((it for it in self.lines if BEGINS.match(it)), None)
             return f"a block of no kind has a command: {hidden}" if hidden else None
         if self.kind == SH:
-            lacking = [it.command for it in steps(self) if it.command.startswith(TOOLS) and not os.access(f"{ROOT}/{it.command.split()[0]}", os.X_OK)]
+            lacking = [
+                it.command
+                for it in steps(self)
+                if it.command.startswith(TOOLS) and not os.access(f"{ROOT}/{it.command.split()[0]}", os.X_OK)
+            ]
             return f"there is no such program: {lacking[0]}" if lacking else None
         return None
 
@@ -100,7 +108,13 @@ def reasons(page: str, text: str) -> list[tuple[int, int, str]]:
             raise ValueError(f"{page} does not say why something is not tried")
         is_of_page = not parts or mark.start() < parts[0]
         end = len(text) if is_of_page else next((it for it in parts if it > mark.start()), len(text))
-        found.append((text.count("\n", 0, mark.start()) + 1, text.count("\n", 0, end) + 2, " ".join(mark[1].strip(":. ").split())))
+        found.append(
+            (
+                text.count("\n", 0, mark.start()) + 1,
+                text.count("\n", 0, end) + 2,
+                " ".join(mark[1].strip(":. ").split()),
+            )
+        )
     return found
 
 
@@ -124,8 +138,13 @@ def blocks(page: str, text: str) -> list[Block]:
 
 def pages() -> list[str]:
     """The pages that a reader follows."""
-    more = [it for top in ("examples", "tools", "bench") for it in glob.glob(f"{ROOT}/{top}/**/README.md", recursive=True)]
-    return [os.path.relpath(it, ROOT) for it in (f"{ROOT}/README.md", *sorted(glob.glob(f"{ROOT}/docs/*.md")), *sorted(more))]
+    more = [
+        it for top in ("examples", "tools", "bench") for it in glob.glob(f"{ROOT}/{top}/**/README.md", recursive=True)
+    ]
+    return [
+        os.path.relpath(it, ROOT)
+        for it in (f"{ROOT}/README.md", *sorted(glob.glob(f"{ROOT}/docs/*.md")), *sorted(more))
+    ]
 
 
 def text_of(page: str) -> str:

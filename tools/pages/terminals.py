@@ -1,4 +1,5 @@
-"""A fresh copy of the repository with its unproved programs, and a terminal there in which the commands of a page run one after the other."""
+"""A fresh copy of the repository with its unproved programs, and a terminal there in which the commands of a page run
+one after the other."""
 
 from __future__ import annotations
 
@@ -30,11 +31,19 @@ def link(path: str, folder: str) -> None:
 
 def copy(folder: str, programs: list[str]) -> None:
     """Copies the files of the repository as they are here, and these programs, proved or not."""
-    listed = subprocess.run(["git", "ls-files", "-coz", "--exclude-standard"], cwd=ROOT, capture_output=True, check=True).stdout.decode().split("\0")
+    listed = (
+        subprocess.run(["git", "ls-files", "-coz", "--exclude-standard"], cwd=ROOT, capture_output=True, check=True)
+        .stdout.decode()
+        .split("\0")
+    )
     found = [it for it in listed if it and os.path.isfile(f"{ROOT}/{it}")]
     for program in programs:
         name = os.path.basename(program)
-        noted = f"out/built-{name}" if program == sources.program_at(ROOT, name) else f"{os.path.relpath(program, ROOT)}.sum"
+        noted = (
+            f"out/built-{name}"
+            if program == sources.program_at(ROOT, name)
+            else f"{os.path.relpath(program, ROOT)}.sum"
+        )
         found += [os.path.relpath(program, ROOT), noted]
     for path in (*found, *(it for it in COMPILED if os.path.isfile(f"{ROOT}/{it}"))):
         link(path, folder)
@@ -50,11 +59,13 @@ class Terminal:
 
     def begun(self, command: str, source: int) -> subprocess.Popen[bytes]:
         """Starts a command, in a group of processes of its own."""
-        how = {"stdin": source, "stdout": subprocess.PIPE, "stderr": subprocess.STDOUT, "start_new_session": True}
         noted = 'status=$?; env -0 >"$NOTED_VARIABLES"; exit $status'
         variables = {**self.variables, "NOTED_VARIABLES": f"{self.folder}/.variables"}
         words = ["bash", "-c", f"{command}\n{noted}"] if source == subprocess.PIPE else ["bash", "-c", command]
-        return subprocess.Popen(words, cwd=self.folder, env=variables, **how)  # type: ignore[call-overload, no-any-return]
+        out, both = subprocess.PIPE, subprocess.STDOUT
+        return subprocess.Popen(
+            words, cwd=self.folder, env=variables, stdin=source, stdout=out, stderr=both, start_new_session=True
+        )
 
     def run(self, command: str, typed: str = "") -> tuple[int, str]:
         """Runs a command to its end: how it ended, and what it printed."""

@@ -53,14 +53,24 @@ class BlocksTest(unittest.TestCase):
         self.blocks = blocks("docs/PAGE.md", PAGE)
 
     def test_the_blocks_of_a_page(self) -> None:
-        due = [(3, "sh", ""), (7, "sh", ""), (7, "sh", ""), (11, "sh", ""), (17, "console", ""), (29, "sh", "this needs three machines"), (35, "", "")]
+        due = [
+            (3, "sh", ""),
+            (7, "sh", ""),
+            (7, "sh", ""),
+            (11, "sh", ""),
+            (17, "console", ""),
+            (29, "sh", "this needs three machines"),
+            (35, "", ""),
+        ]
         self.assertEqual([(it.line, it.kind, it.reason) for it in self.blocks], due)
         self.assertEqual([it.line for it in self.blocks if it.keeps], [11])
         self.assertEqual([it.lines for it in self.blocks if it.fails], [("./cdsreplay run <examples",)])
 
     def test_the_commands_of_a_block(self) -> None:
         self.assertEqual(steps(self.blocks[0]), [Step("./cdsreplay check <examples/first.cds")])
-        self.assertEqual(steps(self.blocks[4]), [Step("tools/cell mycell", ("root 1",), ("ok posted 1",)), Step("false", (), ())])
+        self.assertEqual(
+            steps(self.blocks[4]), [Step("tools/cell mycell", ("root 1",), ("ok posted 1",)), Step("false", (), ())]
+        )
 
     def test_what_no_block_may_have(self) -> None:
         self.assertEqual(self.blocks[-1].fault(), "a block of no kind has a command: tools/build")

@@ -142,7 +142,15 @@ class Tls(Tcp):
         """Makes a key and a certificate of this name, which the authority signs, with an extension if there is more."""
         key, request, signed = (self.file(f"{name}.{it}") for it in ("key", "request", "crt"))
         made(*NEW, "-subj", f"/CN={name}", "-keyout", key, "-out", request, *(["-addext", more] if more else []))
-        by = ["-CA", self.file("authority.pem"), "-CAkey", self.file("authority.key"), "-CAcreateserial", "-days", "365"]
+        by = [
+            "-CA",
+            self.file("authority.pem"),
+            "-CAkey",
+            self.file("authority.key"),
+            "-CAcreateserial",
+            "-days",
+            "365",
+        ]
         made("openssl", "x509", "-req", "-in", request, *by, "-copy_extensions", "copy", "-out", signed)
         with open(self.file(f"{name}.pem"), "w", encoding="ascii") as both:
             for part in (key, signed):
