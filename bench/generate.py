@@ -44,15 +44,19 @@
 The same kind and size is the same input, always.
 """
 
+from __future__ import annotations
+
 import sys
+from collections.abc import Callable, Iterable, Iterator
+from typing import IO
 
 
-def comments(count):
+def comments(count: int) -> Iterator[str]:
     for i in range(1, count + 1):
         yield f"# Comment {i:010}, which says nothing and has no answer.\n"
 
 
-def adds(count):
+def adds(count: int) -> Iterator[str]:
     yield "house 1 00000000000a\nroot 1\ncreate 1 1 entry\n"
     # Numbers that look random, so that values come and go in no order.
     x = count
@@ -63,21 +67,21 @@ def adds(count):
     yield "read 1 low /.:/entry Attribute\n"
 
 
-def mixed(count):
+def mixed(count: int) -> Iterator[int]:
     """The numbers below the count, each once, in no order."""
     # A step that shares no divisor with the count visits each number once.
     step = next(s for s in range(count * 2 // 3 + 1, 2 * count + 2) if coprime(s, count))
     return (i * step % count for i in range(count))
 
 
-def values(count):
+def values(count: int) -> Iterator[str]:
     yield "house 1 00000000000a\nroot 1\ncreate 1 1 entry\n"
     for i in mixed(count):
         yield f"add 1 1 entry Attribute {i:08x}\n"
     yield "read 1 low /.:/entry Attribute\n"
 
 
-def creates(count):
+def creates(count: int) -> Iterator[str]:
     yield "house 1 00000000000a\nroot 1\n"
     for i in mixed(count):
         yield f"create 1 1 entry-{i:08}\n"
@@ -86,7 +90,7 @@ def creates(count):
         yield f"read 1 low /.:/entry-{i:08} Attribute\n"
 
 
-def check(count):
+def check(count: int) -> Iterator[str]:
     for i in range(count):
         kind, name = i % 5, f"entry-{i // 5:08}"
         if kind == 0:
@@ -99,28 +103,28 @@ def check(count):
             yield f"{'add' if kind == 2 else 'remove'} 1 1 {name} Attribute {i:08x}\n"
 
 
-def houses(count):
+def houses(count: int) -> Iterator[str]:
     """Houses from 1 on, and the root directory at the first."""
     for house in range(1, count + 1):
         yield f"house {house} {house:012x}\n"
     yield "root 1\n"
 
 
-def pseudorandom(seed):
+def pseudorandom(seed: int) -> Iterator[int]:
     """Numbers below 2048 that look random."""
     while True:
         seed = (seed * 1103515245 + 12345) % 2147483648
         yield seed >> 20
 
 
-def replicate(count):
+def replicate(count: int) -> Iterator[str]:
     """The root directory comes to all houses, by the first messages of the cell."""
     others = range(2, count + 1)
     yield f"epoch 1 1 {' '.join(map(str, others))}\n"
     yield from delivered(range(1, count), 1)
 
 
-def delivered(serials, times):
+def delivered(serials: range | list[int], times: int) -> Iterator[str]:
     """Messages that are each delivered so many times, and then lost."""
     for _ in range(times):
         for serial in serials:
@@ -129,7 +133,7 @@ def delivered(serials, times):
         yield f"lose {serial}\n"
 
 
-def bag(count):
+def bag(count: int) -> Iterator[str]:
     yield from houses(3)
     for i in range(16):
         yield f"create 1 1 entry-{i:02}\n"
@@ -146,7 +150,7 @@ def bag(count):
         yield f"dump {house} 1\n"
 
 
-def two_masters(count):
+def two_masters(count: int) -> Iterator[str]:
     yield from houses(3)
     for i in range(16):
         yield f"create 1 1 entry-{i:02}\n"
@@ -174,7 +178,7 @@ def two_masters(count):
 ENTRIES = 10_000
 
 
-def skulks(count, told=1):
+def skulks(count: int, told: int = 1) -> Iterator[str]:
     """Of each update so many other houses get the message at once, and the rest by the skulk alone."""
     yield from houses(4)
     for i in mixed(ENTRIES):
@@ -200,7 +204,7 @@ def skulks(count, told=1):
         yield f"octets house {house}\n"
 
 
-def crashes(count):
+def crashes(count: int) -> Iterator[str]:
     yield from houses(1)
     for i in mixed(ENTRIES):
         yield f"create 1 1 entry-{i:08}\n"
@@ -210,7 +214,7 @@ def crashes(count):
     yield "octets house 1\n"
 
 
-def purges(count):
+def purges(count: int) -> Iterator[str]:
     yield from houses(1)
     yield "create 1 1 entry\n"
     for command in "add", "remove":
@@ -221,7 +225,7 @@ def purges(count):
     yield "skulk 1 1\noctets house 1\n"
 
 
-def deaths(count):
+def deaths(count: int) -> Iterator[str]:
     yield from houses(3)
     yield from replicate(3)
     serial = 3
@@ -239,11 +243,11 @@ def deaths(count):
         yield f"octets house {house}\n"
 
 
-def interface(number):
+def interface(number: int) -> str:
     return f"a0000000-0000-0000-0000-{number:012x}"
 
 
-def exports(count):
+def exports(count: int) -> Iterator[str]:
     yield from houses(1)
     yield "mkdir 1 1 servers 1\n"
     for i in mixed(count):
@@ -261,7 +265,7 @@ ALIASES = 1_000
 GROUPS = 50
 
 
-def members(group):
+def members(group: int) -> Iterator[str]:
     """The 200 members of a group: 160 servers, 32 aliases, and 8 groups, of which it is one itself."""
     # A step that shares no divisor with their numbers brings each server and each alias into one group or two.
     for i in range(160):
@@ -272,7 +276,7 @@ def members(group):
         yield f"groups/group-{(group + i) % GROUPS:02}"
 
 
-def elements():
+def elements() -> Iterator[str]:
     """For each group an element for an interface, for a later minor version of it, for another interface, and for
     any."""
     for group in range(GROUPS):
@@ -283,7 +287,7 @@ def elements():
         yield f"default {member} 8 -"
 
 
-def searched():
+def searched() -> Iterator[str]:
     """A cell to search in, with the profile at its root."""
     yield from houses(1)
     yield "mkdir 1 1 servers 1\nmkdir 1 1 aliases 1\nmkdir 1 1 groups 1\n"
@@ -301,20 +305,20 @@ def searched():
         yield f"profadd /.:/profile {element}\n"
 
 
-def imports(count):
+def imports(count: int) -> Iterator[str]:
     yield from searched()
     for i in range(count):
         yield f"import 1 {'high' if i % 2 else 'low'} /.:/profile {interface(i % 10)}:1.1 - ncacn_ip_tcp,ncadg_ip_udp\n"
 
 
-def lookups(count):
+def lookups(count: int) -> Iterator[str]:
     yield from searched()
     for i in range(count):
         asked = f"{interface(i % 10)}:1.1 - ncacn_ip_tcp,ncadg_ip_udp {(1, 10, 65_535)[i % 3]}"
         yield f"lookup 1 {'high' if i % 2 else 'low'} /.:/profile {asked}\n"
 
 
-def inquiries(count):
+def inquiries(count: int) -> Iterator[str]:
     yield from houses(1)
     for i in mixed(5_000):
         # Of ten interfaces, in ten versions, at fifty members; each hundredth is for any interface.
@@ -333,7 +337,7 @@ def inquiries(count):
         yield f"proflist 1 low /.:/profile {choices[i % 5]}\n"
 
 
-def reads(names, count):
+def reads(names: int, count: int) -> Iterator[str]:
     """So many entries at two houses, each with a value, and reads of them that look random."""
     yield "house 1 00000000000a\nhouse 2 00000000000b\nroot 1 2\ndeliver 1\n"
     serial = 2
@@ -346,7 +350,7 @@ def reads(names, count):
         yield f"read {i % 2 + 1} low /.:/entry-{next(random) % names:04} Attribute\n"
 
 
-def journals(count):
+def journals(count: int) -> Iterator[str]:
     yield "house 1 00000000000a\nroot 1\n"
     for i in mixed(100):
         yield f"create 1 1 entry-{i:02}\nadd 1 1 entry-{i:02} Attribute {i:08x}\n"
@@ -366,7 +370,7 @@ def journals(count):
             yield "skulk 1 1\nimage 1\n"
 
 
-def idle(count):
+def idle(count: int) -> Iterator[str]:
     yield "house 1 00000000000a\nhouse 2 00000000000b\nroot 1 2\ndeliver 1\n"
     for at, i in enumerate(mixed(100)):
         yield f"create 1 1 entry-{i:02}\nadd 1 1 entry-{i:02} Attribute {i:08x}\n"
@@ -380,7 +384,7 @@ def idle(count):
         )[i % 4]
 
 
-def resumed(count):
+def resumed(count: int) -> Iterator[str]:
     yield "house 1 00000000000a\nroot 1\ncreate 1 1 entry\n"
     for i in range(count):
         yield f"{'remove' if i & 1 else 'add'} 1 1 entry Attribute 01\n"
@@ -388,7 +392,7 @@ def resumed(count):
         yield "image 1\ncrash 1\nstart 1\n"
 
 
-def wide(count):
+def wide(count: int) -> Iterator[str]:
     yield "".join(f"house {house} {house:012x}\n" for house in range(1, 65))
     yield f"root 1 {' '.join(map(str, range(2, 65)))}\n"
     yield from delivered(range(1, 64), 1)
@@ -406,24 +410,24 @@ def wide(count):
         serial += 63
 
 
-def deep(count):
+def deep(count: int) -> Iterator[str]:
     yield "house 1 00000000000a\nroot 1\n"
     yield "".join(f"mkdir 1 {i + 1} d 1\n" for i in range(200))
     yield "create 1 201 entry\nadd 1 201 entry Attribute 01\n"
     yield from (f"read 1 {'high' if i % 2 else 'low'} /.:{'/d' * 200}/entry Attribute\n" for i in range(count))
 
 
-def linked(count):
+def linked(count: int) -> Iterator[str]:
     yield "house 1 00000000000a\nroot 1\ncreate 1 1 entry-00\nadd 1 1 entry-00 Attribute 01\n"
     yield "".join(f"link 1 1 entry-{i:02} /.:/entry-{i - 1:02}\n" for i in range(1, 64))
     yield from (f"read 1 {'high' if i % 2 else 'low'} /.:/entry-63 Attribute\n" for i in range(count))
 
 
-def small(count):
+def small(count: int) -> Iterator[str]:
     yield "house 1 00000000000a\n"
 
 
-def mends(count):
+def mends(count: int) -> Iterator[str]:
     """House 1 is the master, 2 to 8 are secondary, and 9 to 64 read-only. Joins were lost or wait; houses are down; a
     skulk waits for them."""
     for house in range(1, 65):
@@ -451,7 +455,7 @@ def mends(count):
         yield f"create {entry}\n" if i // 8 % 4 == 0 else f"add {entry} Attribute {i:08x}\n"
 
 
-def script(count):
+def script(count: int) -> Iterator[str]:
     for house in 1, 2, 3:
         yield f"house {house} {house:012x}\n"
     yield "root 1 2 3\n"
@@ -480,13 +484,13 @@ def script(count):
             serial += 10
 
 
-def coprime(a, b):
+def coprime(a: int, b: int) -> bool:
     while b:
         a, b = b, a % b
     return a == 1
 
 
-def floors(count):
+def floors(count: int) -> Iterator[tuple[tuple[bytes, bytes], ...]]:
     """The floors of towers: an interface, NDR, connections, a TCP port and an address, which differ from tower to
     tower."""
     ndr = bytes.fromhex("0d045d888aeb1cc9119fe808002b1048600200")
@@ -496,21 +500,27 @@ def floors(count):
         yield (interface, b"\0\0"), (ndr, b"\0\0"), (b"\x0b", b"\0\0"), (b"\x07", port), (b"\x09", host)
 
 
-def towers(count):
+def towers(count: int) -> Iterator[bytes]:
     for tower in floors(count):
         yield b"\x05\0" + b"".join(len(part).to_bytes(2, "little") + part for floor in tower for part in floor)
 
 
-def untowers(count):
+def untowers(count: int) -> Iterator[bytes]:
     for tower in floors(count):
         yield (" ".join(f"{left.hex()}:{right.hex()}" for left, right in tower) + "\n").encode()
 
 
-def stamp(time):
+def stamp(time: int) -> bytes:
     return time.to_bytes(8, "big") + bytes.fromhex("00000000000a")
 
 
-def image(octets_of_format, count, all_up_to=b"\0", house=1, lacks=0):
+def image(
+    octets_of_format: bytes,
+    count: int,
+    all_up_to: bytes = b"\0",
+    house: int = 1,
+    lacks: int = 0,
+) -> Iterator[bytes]:
     """An entry in each piece, the first one behind the head of the image. The house is the only member. The last one
     lacks values."""
     member = b"\x01" + bytes([house]) + (1).to_bytes(8, "big") + b"\x01"
@@ -526,22 +536,22 @@ def image(octets_of_format, count, all_up_to=b"\0", house=1, lacks=0):
         yield (b"" if i else head) + entry + b"".join(marks)
 
 
-def migrate(count):
+def migrate(count: int) -> Iterator[bytes]:
     return image(b"\x01", count)
 
 
-def audits(count, lacks=0):
+def audits(count: int, lacks: int = 0) -> Iterator[bytes]:
     """Two images of houses whose AllUpTo is behind all that they hold."""
     all_up_to = b"\x01" + stamp(5 * count + 1)
     yield from image(b"\x01", count, all_up_to, lacks=lacks)
     yield from image(b"\x01", count, all_up_to, house=2)
 
 
-def encoded(texts):
+def encoded(texts: Iterable[str]) -> Iterator[bytes]:
     return (text.encode() for text in texts)
 
 
-KINDS = {
+KINDS: dict[str, Callable[[int], Iterable[bytes]]] = {
     "comments": lambda count: encoded(comments(count)),
     "adds": lambda count: encoded(adds(count)),
     "values": lambda count: encoded(values(count)),
@@ -578,7 +588,7 @@ KINDS = {
 }
 
 
-def write(kind, count, out):
+def write(kind: str, count: int, out: IO[bytes]) -> int:
     """Writes the input, in pieces, and gives the number of its lines, towers or entries."""
     piece, items = [], 0
     for text in KINDS[kind](count):
@@ -591,13 +601,13 @@ def write(kind, count, out):
     return items + items_in(kind, piece)
 
 
-def items_in(kind, piece):
+def items_in(kind: str, piece: list[bytes]) -> int:
     return (
         len(piece) if kind in ("towers", "migrate", "audits", "differing") else sum(text.count(b"\n") for text in piece)
     )
 
 
-def main():
+def main() -> None:
     if len(sys.argv) != 3 or sys.argv[1] not in KINDS or not sys.argv[2].isdigit():
         sys.exit(__doc__)
     write(sys.argv[1], int(sys.argv[2]), sys.stdout.buffer)

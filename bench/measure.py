@@ -19,6 +19,8 @@ processor times and the peaks of memory of a program at these four sizes, and ho
 as the third: 2 where time grows as the input does, and 4 where it grows as its square.
 """
 
+from __future__ import annotations
+
 import argparse
 import filecmp
 import os
@@ -79,14 +81,14 @@ FORMS = {
 TIME = shutil.which("time")
 
 
-def form_of(kind, size, program):
+def form_of(kind: str, size: int, program: str) -> list[str]:
     """The words behind the program's name."""
     if kind == "mends" and os.path.basename(program) == "cdsmend":
         return ["1"]
     return ["load", str(size)] if kind == "loads" else FORMS.get(kind, ["run"])
 
 
-def run_once(program, form, script, answers):
+def run_once(program: str, form: list[str], script: str, answers: str) -> tuple[float, float, int, int]:
     """Seconds, processor seconds and peak KiB of one run, and its status."""
     with tempfile.NamedTemporaryFile("r") as peak, open(script, "rb") as source, open(answers, "wb") as sink:
         command = [program, *form]
@@ -99,22 +101,22 @@ def run_once(program, form, script, answers):
         return seconds, processor, int(peak.read()) if TIME else after.ru_maxrss, status
 
 
-def instructions(program, form, script):
+def instructions(program: str, form: list[str], script: str) -> int:
     """How many instructions a run takes."""
     command = ["valgrind", "--tool=callgrind", "--callgrind-out-file=/dev/null", program, *form]
     with open(script, "rb") as source:
         ran = subprocess.run(command, stdin=source, stdout=subprocess.DEVNULL, stderr=subprocess.PIPE, text=True)
-    return int(re.search(r"Collected : (\d+)", ran.stderr)[1])
+    return int(re.findall(r"Collected : (\d+)", ran.stderr)[0])
 
 
-def generated(kind, size, folder):
+def generated(kind: str, size: int, folder: str) -> tuple[str, int]:
     """The input's file, and how many items it has."""
     script = os.path.join(folder, "input")
     with open(script, "wb") as out:
         return script, generate.write(kind, size, out)
 
 
-def measure(kind, size, programs, runs, folder):
+def measure(kind: str, size: int, programs: list[tuple[str, str]], runs: int, folder: str) -> tuple[list[float], bool]:
     """Prints the line of each program; the processor time of each, and whether they agree."""
     script, items = generated(kind, size, folder)
     megabytes = os.path.getsize(script) / 1e6
@@ -143,7 +145,7 @@ def measure(kind, size, programs, runs, folder):
     return times, agreed
 
 
-def count(kind, size, programs, folder):
+def count(kind: str, size: int, programs: list[tuple[str, str]], folder: str) -> list[int]:
     """Prints the instructions of each program, and gives them."""
     script, items = generated(kind, size, folder)
     counts = [instructions(program, form_of(kind, size, program), script) for _, program in programs]
@@ -152,11 +154,11 @@ def count(kind, size, programs, folder):
     return counts
 
 
-def grow(kind, size, programs, runs, folder):
+def grow(kind: str, size: int, programs: list[tuple[str, str]], runs: int, folder: str) -> bool:
     """Prints how each program's time and memory grow from an eighth of an input to all of it, and whether the runs
     ended well."""
     sizes, well = [size // it for it in (8, 4, 2, 1)], True
-    found = {name: [] for name, _ in programs}
+    found: dict[str, list[tuple[float, int]]] = {name: [] for name, _ in programs}
     for it in sizes:
         script, _ = generated(kind, it, folder)
         for name, program in programs:
@@ -176,7 +178,7 @@ def grow(kind, size, programs, runs, folder):
     return well
 
 
-def grow_all(kinds, divide, programs, runs):
+def grow_all(kinds: list[str], divide: int, programs: list[tuple[str, str]], runs: int) -> bool:
     """Prints the table of all kinds that have a size, and returns whether all runs ended well."""
     print(
         "| kind | program | N | seconds at N/8, N/4, N/2, N | MB | the last to the third |\n|---|---|---|---|---|---|"
@@ -186,7 +188,7 @@ def grow_all(kinds, divide, programs, runs):
         return all([grow(kind, size, programs, runs, folder) for kind, size in sizes.items() if size >= 8])
 
 
-def main():
+def main() -> None:
     parser = argparse.ArgumentParser(description=__doc__, formatter_class=argparse.RawDescriptionHelpFormatter)
     parser.add_argument("--runs", type=int, default=3)
     parser.add_argument("--divide", type=int, default=1)

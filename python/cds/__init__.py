@@ -7,6 +7,8 @@ docs/EMBEDDING.md says how to begin. The library is the one that CDS_LIBRARY nam
 lib/ of the package that this file came with, or in out/library/lib/ of this repository.
 """
 
+from __future__ import annotations
+
 from cds.calls import ABI, BadInput, Failed, JournalFull, Library, NoMemory, Usage, library, run
 
 __all__ = ["ABI", "BadInput", "Failed", "JournalFull", "Library", "NoMemory", "Usage", "library", "run"]

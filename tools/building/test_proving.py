@@ -7,9 +7,10 @@ import os
 import tempfile
 import threading
 import unittest
+from typing import Any
 from unittest import mock
 
-from building import proving
+from building import proving, sources
 from building.proving import ByGate, ByProver, Pool, Speaker, tasks_of
 
 VERDICT = (
@@ -55,11 +56,12 @@ class WithKit(unittest.TestCase):
         for name in ROWS:
             write(f"{self.room}/crates/{name}/src/{'main' if name == 'cdsmend' else 'lib'}.rt", "fn f() {}\n" * 1000)
         self.speaker, self.installed = Speaker(io.StringIO()), list[tuple[str, str]]()
-        for patch in (
+        patches: tuple[Any, ...] = (
             mock.patch.object(proving, "LIBRARIES", libraries),
-            mock.patch.object(proving.sources, "install", lambda *words: self.installed.append(words)),
+            mock.patch.object(sources, "install", lambda room, name: self.installed.append((room, name))),
             mock.patch.dict(os.environ, {"PATH": f"{self.kit}:{os.environ['PATH']}"}),
-        ):
+        )
+        for patch in patches:
             patch.start()
             self.addCleanup(patch.stop)
 
@@ -154,14 +156,14 @@ class OfTheGate(WithKit):
         self.assertEqual(self.words(), [f"ci low; {processor}", f"ci bad; {processor}"])
 
     def test_a_program_is_proved_in_a_copy_of_its_own(self) -> None:
-        with mock.patch.object(proving.sources, "copy_to", lambda room, names: None):
+        with mock.patch.object(sources, "copy_to", lambda room, names: None):
             self.assertTrue(ByGate(self.room, 1, self.speaker).prove("cdsmend", 1))
         ((room, name),) = self.installed
         self.assertEqual((name, room == self.room), ("cdsmend", False))
 
     def test_a_program_that_did_not_pass_is_not_installed(self) -> None:
         write(f"{self.kit}/fails", "")
-        with mock.patch.object(proving.sources, "copy_to", lambda room, names: None):
+        with mock.patch.object(sources, "copy_to", lambda room, names: None):
             self.assertFalse(ByGate(self.room, 1, self.speaker).prove("cdsmend", 1))
         self.assertEqual(self.installed, [])
 

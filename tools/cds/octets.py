@@ -28,7 +28,8 @@ class Octets:
 
     def number(self, size: int) -> int:
         """A number of so many octets."""
-        return int.from_bytes(self.take(size), "big")
+        self.at += size
+        return int.from_bytes(self.octets[self.at - size : self.at], "big")
 
     def name(self) -> str:
         """A simple name, or that of an attribute."""
@@ -36,8 +37,8 @@ class Octets:
 
     def stamp(self) -> str:
         """A stamp, as answers have it."""
-        time = self.number(8)
-        return f"{time}@{self.take(6).hex()}"
+        at, self.at = self.at, self.at + 14
+        return f"{int.from_bytes(self.octets[at : at + 8], 'big')}@{self.octets[at + 8 : at + 14].hex()}"
 
     def stamp_or_none(self) -> str | None:
         """A stamp, or None."""
@@ -67,10 +68,15 @@ class Octets:
     def attribute(self, key: str, facts: Facts) -> None:
         """The clear of an attribute, and its values."""
         facts[key] = self.stamp_or_none() or "none"
+        octets, at = self.octets, self.at + 8
+        # (most of an image are values: these are read at their places)
         for _ in range(self.number(8)):
-            value = self.take(self.number(2)).hex()
-            is_present = self.number(1)
-            facts[f"{key}\t{value}"] = f"{'present' if is_present else 'absent'} {self.stamp()}"
+            end = at + 2 + int.from_bytes(octets[at : at + 2], "big")
+            time, node = int.from_bytes(octets[end + 1 : end + 9], "big"), octets[end + 9 : end + 15].hex()
+            said = "present" if octets[end : end + 1] != b"\0" else "absent"
+            facts[f"{key}\t{octets[at + 2 : end].hex()}"] = f"{said} {time}@{node}"
+            at = end + 15
+        self.at = at
 
 
 class Replica:

@@ -9,6 +9,10 @@ import sys
 from collections.abc import Callable
 from typing import NoReturn
 
+# Modules are compiled once, into out/, and not beside their sources.
+sys.pycache_prefix = f"{os.path.dirname(os.path.dirname(os.path.dirname(os.path.realpath(__file__))))}/out/python"
+sys.dont_write_bytecode = bool(os.environ.get("PYTHONDONTWRITEBYTECODE"))
+
 
 class Words(argparse.ArgumentParser):
     """The words of a tool. `--help` prints its docstring, and a wrong word the lines of it that begin with the tool's path."""

@@ -7,9 +7,8 @@ import subprocess
 
 from building.sources import ROOT
 from housing import explaining
-from cds import journals
+from cds import journals, memory
 from cds.processes import Process, take_lines
-from housing.program_tests import loaded
 from housing.tool_tests import given, session, worked
 
 # The most lines of a script.
@@ -85,12 +84,11 @@ def test_refused_memory(room, kit):
     folders = [f"{EXAMPLE}/h{house}" for house in (1, 2, 3)]
     if not shutil.which("cc"):
         return
-    refusing = loaded("refuse-memory")
-    runs = refusing.Runs(kit.explainer, folders, refusing.compiled(room), b"", room)
+    runs = memory.Runs(kit.explainer, folders, memory.compiled(room), b"", room)
     status, whole = runs.ran(0)
     count = runs.calls()
     assert status == 0 and count > 100, (status, count)
-    faults = {at: refusing.fault(*runs.ran(at), whole) for at in range(1, count + 1)}
+    faults = {at: memory.fault(*runs.ran(at), whole) for at in range(1, count + 1)}
     assert not any(faults.values()), [it for it in faults.items() if it[1]][:5]
 
 

@@ -1,7 +1,5 @@
 """Tests of a house as a program: how it ends, what it keeps, and which folders it does not touch."""
 import collections
-import importlib.machinery
-import importlib.util
 import itertools
 import os
 import re
@@ -13,7 +11,7 @@ import time
 
 from building.sources import ROOT
 from housing import cases
-from cds import journals
+from cds import journals, memory
 from housing import renewing
 from cds.processes import Process, take_lines
 
@@ -23,14 +21,6 @@ SAID = ["0 new", "1 ok", "2 ok", "3 ok 1@00000000000a"]
 EARLIER = f"{ROOT}/tools/housing/earlier"
 # A message at its longest, and the octets of a line of `more`.
 LONGEST_MESSAGE, PIECE = 16_777_216, 2037
-
-
-def loaded(tool):
-    """A tool of this repository, as a module."""
-    loader = importlib.machinery.SourceFileLoader(tool.replace("-", "_"), f"{ROOT}/tools/{tool}")
-    module = importlib.util.module_from_spec(importlib.util.spec_from_loader(loader.name, loader))
-    loader.exec_module(module)
-    return module
 
 
 def ran(kit, folder, lines=(), **more):
@@ -196,14 +186,13 @@ def test_refused_memory(room, kit):
     first ones of the whole run, and the next process goes on from them."""
     if not shutil.which("cc"):
         return
-    refusing = loaded("refuse-memory")
-    for name, runs in refusing.lives_of(kit.program, refusing.compiled(room), room):
+    for name, runs in memory.lives_of(kit.program, memory.compiled(room), room):
         status, whole = runs.ran(0)
         count, turns = runs.calls(), [record.turn for record in journals.entries(runs.folder)]
         assert status == 0 and count > 100, (name, status, count)
         for at in range(1, count + 1):
             status, said = runs.ran(at)
-            assert not refusing.fault(status, said, whole), (name, at, refusing.fault(status, said, whole))
+            assert not memory.fault(status, said, whole), (name, at, memory.fault(status, said, whole))
             answered = len(journals.entries(runs.folder))
             assert ran(kit, runs.folder)[1] == 0, (name, at)
             assert [record.turn for record in journals.entries(runs.folder)][:answered] == turns[:answered], (name, at)

@@ -18,7 +18,7 @@ base: std
 # Tests alone
 tries: run
 """
-EDGES = {"run": {"walk", "base"}, "walk": {"base"}, "base": set(), "tries": {"run"}}
+EDGES: dict[str, set[str]] = {"run": {"walk", "base"}, "walk": {"base"}, "base": set(), "tries": {"run"}}
 
 
 class GroupsTest(unittest.TestCase):

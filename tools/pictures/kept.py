@@ -4,12 +4,17 @@ They do where nothing went out of the list: where all that the reads of the scri
 that was asked and answered before is answered from the list, unless the houses of a directory were changed since.
 """
 
+from __future__ import annotations
 
-def used_answers(replay, room):
+from .cell import Replay
+from .facts import Step
+
+
+def used_answers(replay: Replay, room: int) -> dict[int, Step]:
     """For each read that is answered from the list, the read that it is kept from; or nothing where that is not
     known."""
-    reads = [it for it in replay.steps if it.command == "read" and it.words[1] == "low" and it.house is not None]
-    asked = {}
+    reads = [it for it in replay.steps if it.command == "read" and it.words[1] == "low" and it.house]
+    asked: dict[tuple[str, ...], list[Step]] = {}
     for step in reads:
         asked.setdefault((step.words[0], step.words[2], step.words[3]), []).append(step)
     # (a question for each component of a name, and one for the attribute; links are walked again)
@@ -18,15 +23,16 @@ def used_answers(replay, room):
         or sum(len(it[0].words[2].split("/")) for it in asked.values()) > room
     ):
         return {}
-    found = {}
+    found: dict[int, Step] = {}
     for steps in asked.values():
         found.update(used_of(replay, steps))
     return found
 
 
-def used_of(replay, steps):
+def used_of(replay: Replay, steps: list[Step]) -> dict[int, Step]:
     """Of reads that ask the same, those that are answered by an earlier one."""
-    found, kept = {}, None
+    found: dict[int, Step] = {}
+    kept = None
     for step in steps:
         if kept and any(it.command in ("epoch", "repoint") and kept.at < it.at < step.at for it in replay.steps):
             kept = None

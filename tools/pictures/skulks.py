@@ -1,7 +1,12 @@
 """Who has answered in the skulks that run: it is in no answer of the program, and follows from the deliveries."""
 
+from __future__ import annotations
 
-def answered(replay):
+from .cell import Replay
+from .facts import Skulk, Step
+
+
+def answered(replay: Replay) -> list[list[tuple[int, int, bool]]]:
     """For each skulk the steps at which its house took an answer, with the member that gave it and whether the round
     ended then."""
     found = []
@@ -11,7 +16,7 @@ def answered(replay):
     return found
 
 
-def answer(step, skulk):
+def answer(step: Step, skulk: Skulk) -> tuple[int, int, bool] | None:
     """What a step says of a skulk: its place, who answered, and whether the next round began; or None."""
     message = step.message
     if (
@@ -23,4 +28,4 @@ def answer(step, skulk):
         return None
     if (message.receiver, message.dir, message.stamp) != (skulk.house, skulk.dir, skulk.stamp):
         return None
-    return [step.at, message.sender, message.kind == "Gathered" and " posted " in step.answer]
+    return step.at, message.sender, message.kind == "Gathered" and " posted " in step.answer

@@ -1,17 +1,22 @@
 """The words of a picture: hover texts, and what is above the columns."""
-from cds import commands
+
+from __future__ import annotations
+
+from .cell import Replay
+from .facts import Epoch, Message, Step
 from .shapes import end_of, short
+from cds import commands
 
 LONGEST_LABEL, LONGEST_READ, LONGEST_LINE, MOST_LINES = 24, 36, 160, 12
 
 
-def cut(lines):
+def cut(lines: list[str]) -> list[str]:
     """Lines of a hover text, of which long ones and many are cut."""
     kept = [short(it, LONGEST_LINE) for it in lines[:MOST_LINES]]
     return kept + ([f"… and {len(lines) - MOST_LINES} more lines"] if len(lines) > MOST_LINES else [])
 
 
-def told(step):
+def told(step: Step) -> list[str]:
     """A step in a hover text: its line of the script, and its answer."""
     return [
         short(f"line {step.line}: {step.text}", LONGEST_LINE),
@@ -19,22 +24,22 @@ def told(step):
     ]
 
 
-def name_of(message):
+def name_of(message: Message) -> str:
     """A message in a hover text."""
-    if message.sender is None:
+    if not message.sender:
         return f"message {message.serial}: {message.kind}; the script does not tell from which house"
     stamp = f" of the skulk {message.stamp}" if message.stamp else ""
     way = f"from house {message.sender} to house {message.receiver}"
     return f"message {message.serial}: {message.kind}{stamp}, {way}, directory {message.dir}, epoch {message.epoch}"
 
 
-def said_of(digits):
+def said_of(digits: str) -> str:
     """A value in a label: as a text, if it is one."""
     octets = bytes.fromhex(digits)
     return short(f'"{octets.decode("ascii")}"' if all(0x20 <= it <= 0x7E for it in octets) else digits, 16)
 
 
-def label_of_read(step):
+def label_of_read(step: Step) -> str:
     """A read in brief: of which entry and attribute, at which confidence, and the values."""
     words, answer = step.words, step.answer.split()[3:]
     label = f"read {words[2].split('/')[-1]} {words[3]} {words[1]}"
@@ -56,7 +61,7 @@ SIGNS = {
 }
 
 
-def effect_of(message, replay):
+def effect_of(message: Message, replay: Replay) -> str:
     """What an Update brings, if the step that posted it says that."""
     step = replay.steps[message.posted]
     if message.kind != "Update" or step.command not in SIGNS:
@@ -64,7 +69,7 @@ def effect_of(message, replay):
     return " " + SIGNS[step.command].format(*(it or "" for it in (*step.words[2:4], "")))
 
 
-def label_of(step, replay):
+def label_of(step: Step, replay: Replay) -> str:
     """The words above a step's column: the command in brief, or the message that is delivered; and why it came to
     nothing."""
     words, command = step.words, step.command
@@ -91,7 +96,7 @@ def label_of(step, replay):
     return short(label, max(12, LONGEST_LABEL - len(outcome))) + outcome
 
 
-def epoch_title(epoch):
+def epoch_title(epoch: Epoch) -> str:
     """The hover text of an epoch."""
     members = " ".join("s" * (it in epoch.secondary) + str(it) for it in epoch.members)
     return f"epoch {epoch.number} of directory {epoch.dir}: master {epoch.master}, members {members}"

@@ -1,8 +1,12 @@
 """Images of 20 directories, names of 254 octets and a megabyte, for the forms `migrate` and `audit D`."""
 
+from __future__ import annotations
+
 import random
+from collections.abc import Iterator, Mapping
 
 from cds import records
+from cds.records import Entries
 from running.runs import Run
 
 NODES = "00000000000a", "00000000000b"
@@ -10,15 +14,18 @@ DIRECTORIES, ENTRIES, ATTRIBUTES, VALUES = 20, 12, 2, 2
 # The AllUpTo of directory D is of this time, and all that it holds is earlier.
 UPTO = 1_000_000
 
+Directories = Mapping[int, Entries]
 
-def name_of(entry):
+
+def name_of(entry: int) -> bytes:
     """Returns a name of 254 octets; these differ at their end, and ascend."""
     return b"n" * 250 + f"{entry:04}".encode()
 
 
-def entries_of(directory):
+def entries_of(directory: int) -> Entries:
     """Returns the entries of a directory, as `records.directory` takes them."""
-    chance, found = random.Random(directory), {}
+    chance = random.Random(directory)
+    found: dict[bytes, tuple[int, bytes, records.Attributes]] = {}
     for i in range(ENTRIES):
         birth = 1000 * directory + 10 * i + 1
         values = (
@@ -29,7 +36,7 @@ def entries_of(directory):
     return found
 
 
-def image_of(layout, house, directories):
+def image_of(layout: int, house: int, directories: Directories) -> bytes:
     """Returns the image of house 1 or 2, which holds each of these directories with the other one."""
     members = [(1, 1, records.MASTER), (2, 1, records.READ_ONLY)]
     held = [
@@ -39,12 +46,17 @@ def image_of(layout, house, directories):
     return records.image(layout, house, NODES[house - 1], UPTO + DIRECTORIES, held)
 
 
-def without(directories, number, entry, attribute=None):
+def without(
+    directories: Directories,
+    number: int,
+    entry: int,
+    attribute: bytes = b"",
+) -> tuple[Directories, tuple[bytes, bytes]]:
     """Returns the directories without this entry, or without the last value of an attribute; and that value with its
-    stamp."""
+    stamp, or nothing."""
     entries = dict(directories[number])
     kind, birth, attributes = entries.pop(name_of(entry))
-    value = None
+    value = b"", b""
     if attribute:
         values = dict(attributes[attribute])
         value = max(values), values.pop(max(values))[1]
@@ -52,12 +64,12 @@ def without(directories, number, entry, attribute=None):
     return {**directories, number: entries}, value
 
 
-def time_of(stamp):
+def time_of(stamp: bytes) -> str:
     """Returns the text of a stamp."""
     return f"{int.from_bytes(stamp[:8], 'big')}@{stamp[8:].hex()}"
 
 
-def audits(directories):
+def audits(directories: Directories) -> Iterator[Run]:
     """Returns runs of `audit D` over two such images: they agree, or the one lacks what the other one has."""
     births, _ = without(directories, 7, 3)
     values, (value, at) = without(directories, DIRECTORIES, ENTRIES - 1, b"Other")
@@ -86,7 +98,7 @@ def audits(directories):
         )
 
 
-def runs():
+def runs() -> list[Run]:
     """Returns all of these."""
     directories = {it: entries_of(it) for it in range(1, DIRECTORIES + 1)}
     former, present = (image_of(it, 1, directories) for it in (1, 2))

@@ -1,12 +1,14 @@
 """Runs with little memory: they end with status 6, after whole answers. One needs no more than there is."""
 
+from __future__ import annotations
+
 from running import large_images, large_scripts
-from running.runs import Starved, StarvedMending
+from running.runs import Limited, Starved, StarvedMending
 
 HOUSES, EPOCHS, VALUES = 64, 1000, 60
 
 
-def script():
+def script() -> tuple[bytes, bytes]:
     """Returns a script whose messages take 60 megabytes and more, and its answers: each epoch posts a copy of all to 63
     houses."""
     lines = [f"house {it} {it:012x}" for it in range(1, HOUSES + 1)]
@@ -24,7 +26,7 @@ def script():
     )
 
 
-def runs():
+def runs() -> list[Starved | StarvedMending | Limited]:
     """Returns all of these."""
     octets, output = script()
     # (images of 13.4 megabytes and of half of that: 16 are read at most)

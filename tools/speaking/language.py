@@ -1,4 +1,7 @@
 """What words of commands are, beside what `docs/SCRIPT.md` says of them, and which of them a line has."""
+
+from __future__ import annotations
+
 from cds.commands import COMMANDS, FORMS, LISTS, STOPPED
 
 # The words of the forms `journal` and `inquire`, which the table of words in SCRIPT.md does not have.
@@ -44,17 +47,17 @@ FAULTS = {
 }
 
 
-def form_of(command):
+def form_of(command: str) -> str | None:
     """The words of the first form that knows a command, or None."""
     return next((form for form, known in FORMS.items() if command in known), None)
 
 
-def pattern(command):
+def pattern(command: str) -> str:
     """The command with the words that it takes."""
     return f"{command} {COMMANDS[command]}"
 
 
-def kinds(words):
+def kinds(words: list[str]) -> list[str]:
     """The kind of each word of a line after its command, as far as the command says; for `stop` those of its command
     too."""
     taken = COMMANDS[words[0]].split()
@@ -67,7 +70,7 @@ def kinds(words):
     return taken
 
 
-def expects(command):
+def expects(command: str) -> tuple[int, int | None]:
     """How many words a command takes after itself: the least, and the most or None."""
     taken = COMMANDS[command].split()
     if taken[-1] in LISTS:

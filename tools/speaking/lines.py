@@ -2,6 +2,9 @@
 
 Each answers what to do, and the lines to write in place of this one, or none where they are not known.
 """
+
+from __future__ import annotations
+
 import difflib
 import re
 
@@ -28,7 +31,7 @@ ANSWERS = ("ok", "refused", "fault", "dump", "end", "binding", "entry", "attr", 
 COMMENTS = ("//", ";", "--", "rem", "!", "%", "'", "/*", "*")
 
 
-def unknown(words, form, line):
+def unknown(words: list[str], form: str, line: str) -> tuple[str, list[str]]:
     """Slips of a first word that is no command."""
     word = words[0]
     lower = word.lower().strip("\"',;:")
@@ -61,13 +64,13 @@ def unknown(words, form, line):
     return 'SCRIPT.md, "All commands", has each command; a comment begins with `#`.', []
 
 
-def fitting(words):
+def fitting(words: list[str]) -> bool:
     """Whether a line has as many words as its command takes."""
     least, most = language.expects(words[0])
     return least < len(words) and (most is None or len(words) <= most + 1)
 
 
-def miscounted(words):
+def miscounted(words: list[str]) -> tuple[str, list[str]]:
     """Slips of a line with too few or too many words."""
     cut = next((at for at, word in enumerate(words) if at and word.startswith(("#", "=>", "//", ";"))), None)
     if cut:
@@ -83,7 +86,7 @@ def miscounted(words):
     return "", []
 
 
-def several(words):
+def several(words: list[str]) -> tuple[str, list[str]] | None:
     """One command for several houses or messages."""
     command, rest = words[0], [word.strip(",") for word in words[1:]]
     if command in ("deliver", "lose", "crash", "start") and len(rest) > 1 and all(word.isdecimal() for word in rest):
@@ -97,7 +100,7 @@ def several(words):
     return None
 
 
-def missing(words):
+def missing(words: list[str]) -> tuple[str, list[str]] | None:
     """A word of a known place is missing."""
     command, rest, kinds = words[0], words[1:], COMMANDS[words[0]].split()
     least, _ = language.expects(command)
@@ -132,7 +135,7 @@ def missing(words):
     return None
 
 
-def octets_missing(word):
+def octets_missing(word: str) -> tuple[str, list[str]]:
     """`octets` takes two words."""
     if word.isdecimal():
         return "Say whether the octets of a message or of a house are meant.", [
@@ -142,7 +145,7 @@ def octets_missing(word):
     return "The number of the message or of the house is missing.", []
 
 
-def split(words):
+def split(words: list[str]) -> tuple[str, list[str]] | None:
     """One word was written as several."""
     command, rest, kinds = words[0], words[1:], COMMANDS[words[0]].split()
     if kinds[-1] in LISTS or len(rest) <= len(kinds):
@@ -170,7 +173,7 @@ def split(words):
     return None
 
 
-def generic(words):
+def generic(words: list[str]) -> tuple[str, list[str]]:
     """How many words there have to be."""
     least, most = language.expects(words[0])
     if words[0] == "stop":
@@ -182,12 +185,12 @@ def generic(words):
     return f"`{language.pattern(words[0])}` has {wanted} after the command; here {are(len(words) - 1)}.", []
 
 
-def are(count):
+def are(count: int) -> str:
     """How many words there are."""
     return "is 1" if count == 1 else f"are {count or 'none'}"
 
 
-def octet(line, place):
+def octet(line: bytes, place: int) -> tuple[str, list[str]]:
     """Slips at an octet that no line has."""
     found, plain = line[place - 1 : place], line
     if found == b"\t":
@@ -213,7 +216,7 @@ def octet(line, place):
     return said, [plain.decode()] if re.fullmatch(rb"[ -~]*", plain) else []
 
 
-def letter(line, place):
+def letter(line: bytes, place: int) -> tuple[str, bytes]:
     """A letter of another alphabet, or a mark that an editor put in place of one."""
     dashes, quotes = {"\u2013": "-", "\u2014": "-"}, {"\u2018": "'", "\u2019": "'", "\u201c": '"', "\u201d": '"'}
     marks = {"\u00a0": " ", "\u2026": "..", "\u2192": "->"} | dashes | quotes

@@ -1,15 +1,20 @@
 """The usual slips where a number is wanted. Each answers what to do, and the word to write, or None where that is not
 known."""
+
+from __future__ import annotations
+
 import re
 
 from speaking import texts
 from speaking.language import GREATEST
 
+# What to do, and the word to write, or None where that is not known.
+Slip = tuple[str, str | None]
 LEAST = {"TIME": 0, "PRI": 0}
 NAMES = {"H": "house", "M": "house", "R..": "house", "H..": "house", "D": "directory", "N": "message", "TIME": "time"}
 
 
-def slip(kind, word, words):
+def slip(kind: str, word: str, words: list[str]) -> Slip:
     """What is wrong with a word where a number of a kind is wanted."""
     for look in (date_or_time, listed, secondary, spelled, out_of_range, named):
         found = look(kind, word, words)
@@ -18,7 +23,7 @@ def slip(kind, word, words):
     return f"Write a number here, from {LEAST.get(kind, 1)} to {GREATEST[kind]:,}.", None
 
 
-def date_or_time(kind, word, _):
+def date_or_time(kind: str, word: str, _: list[str]) -> Slip | None:
     """A time of day, or a date, where a time is wanted."""
     if kind != "TIME":
         return None
@@ -30,7 +35,7 @@ def date_or_time(kind, word, _):
     return None
 
 
-def listed(kind, word, words):
+def listed(kind: str, word: str, words: list[str]) -> Slip | None:
     """Several numbers with commas in between, or a comma after one."""
     parts = [part for part in re.split("[,;]", word) if part]
     if len(parts) > 1 and kind in ("M", "R..", "H.."):
@@ -42,7 +47,7 @@ def listed(kind, word, words):
     return None
 
 
-def secondary(kind, word, words):
+def secondary(kind: str, word: str, words: list[str]) -> Slip | None:
     """A mark of a house's kind where it does not go."""
     digits = re.fullmatch(r"[sS]+:?(\d{1,3})|(\d{1,3}):?[sS]", word)
     if digits and kind in ("M", "H..", "H"):
@@ -69,7 +74,7 @@ def secondary(kind, word, words):
     return None
 
 
-def spelled(kind, word, _):
+def spelled(kind: str, word: str, _: list[str]) -> Slip | None:
     """A number in another spelling."""
     bare = word.strip("\"'").removeprefix("#")
     least = LEAST.get(kind, 1)
@@ -93,7 +98,7 @@ def spelled(kind, word, _):
     return None
 
 
-def out_of_range(kind, word, words):
+def out_of_range(kind: str, word: str, words: list[str]) -> Slip | None:
     """A number that is too small or too great."""
     if not word.isdecimal():
         return None
@@ -113,7 +118,7 @@ def out_of_range(kind, word, words):
     return f"The greatest number here is {GREATEST[kind]:,}{more}.", None
 
 
-def named(kind, word, words):
+def named(kind: str, word: str, words: list[str]) -> Slip | None:
     """A name where a number is wanted."""
     if kind == "N":
         return named_message(word, words)
@@ -134,7 +139,7 @@ def named(kind, word, words):
     return None
 
 
-def named_message(word, words):
+def named_message(word: str, words: list[str]) -> Slip:
     """A name where the number of a message is wanted."""
     if word == "all":
         return (
@@ -147,7 +152,7 @@ def named_message(word, words):
     return "Write the number of the message: the answer to the command that posted it names it, after `posted`.", None
 
 
-def named_directory(word):
+def named_directory(word: str) -> Slip:
     """A name where the number of a directory is wanted."""
     if word in ("/.:", "/.:/", "/", "root", "."):
         return "A directory is a number; the root is 1.", "1"

@@ -1,4 +1,7 @@
 """What refusals and fruitless deliveries mean, and what helps. `docs/SCRIPT.md` has their causes."""
+
+from __future__ import annotations
+
 from cds.answers import OF_OCTETS
 from speaking import pages
 
@@ -88,6 +91,6 @@ VAIN = {
 }
 
 
-def meaning(reason):
+def meaning(reason: str) -> str:
     """What a refusal means: its cause, as SCRIPT.md has it."""
     return pages.refusals().get(reason, "")

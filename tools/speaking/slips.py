@@ -1,11 +1,16 @@
 """The usual slips at each kind of word. Each answers what to do, and the word to write, or None where that is not
 known."""
+
+from __future__ import annotations
+
 import difflib
 import re
+from collections.abc import Callable
 
 from cds.commands import STOPPED
 from speaking import numbers, texts
 from speaking.language import GREATEST
+from speaking.numbers import Slip
 from speaking.texts import UUID
 
 PROTOCOLS = {
@@ -30,7 +35,7 @@ LIKE = {
 }
 
 
-def node(word, words):
+def node(word: str, words: list[str]) -> Slip:
     """A node identifier."""
     digits = texts.node(word)
     if digits:
@@ -47,7 +52,7 @@ def node(word, words):
     return f"{said}, if each house has its own.", None
 
 
-def simple(word, words):
+def simple(word: str, words: list[str]) -> Slip:
     """A simple name."""
     name = texts.full_name(word)
     if len(word) > 254:
@@ -67,7 +72,7 @@ def simple(word, words):
     return "A simple name has no `/`.", None
 
 
-def name(word, words):
+def name(word: str, words: list[str]) -> Slip:
     """A full name."""
     better = texts.full_name(word)
     if len(word) > 1023:
@@ -83,7 +88,7 @@ def name(word, words):
     return "Here goes a full name, which begins with `/.:/`.", better
 
 
-def attribute(word, words):
+def attribute(word: str, words: list[str]) -> Slip:
     """The name of an attribute."""
     if re.fullmatch(r"[\d.]+", word):
         return "Write the attribute's name, as CDS_Class, and not its object identifier.", None
@@ -95,7 +100,7 @@ def attribute(word, words):
     return "The name of an attribute has letters, digits and `_` alone.", better if better.strip("_") else None
 
 
-def value(word, words):
+def value(word: str, words: list[str]) -> Slip:
     """A value."""
     if len(word) > 2048:
         return "A value has at most 1,024 octets, which are 2,048 digits.", None
@@ -123,7 +128,7 @@ def value(word, words):
     )
 
 
-def octets(word, words):
+def octets(word: str, words: list[str]) -> Slip:
     """Octets of a message."""
     if re.fullmatch(r"0[xX]([0-9A-Fa-f]{2})+", word):
         return "Hexadecimal digits have no `0x` in front.", word[2:].lower()
@@ -132,23 +137,23 @@ def octets(word, words):
     return "Octets are hexadecimal digits, two an octet, as `octets msg N` prints them.", None
 
 
-def chosen(kind):
+def chosen(kind: str) -> Callable[[str, list[str]], Slip]:
     """The slips at a word out of a few."""
 
-    def choice(word, words):
+    def choice(word: str, words: list[str]) -> Slip:
         few = CHOICES[kind]
         said = "Write " + ", ".join(few[:-1]) + f" or {few[-1]} here, in small letters."
         if kind == "C" and word.startswith("/"):
             return "The confidence comes before the name: `low` asks the house, `high` the master.", f"low {word}"
-        better = word.lower().strip("\"',")
-        better = better if better in few else LIKE.get(better) if LIKE.get(better) in few else None
+        bare = word.lower().strip("\"',")
+        better = bare if bare in few else LIKE.get(bare) if LIKE.get(bare) in few else None
         near = difflib.get_close_matches(word.lower(), few, 1, 0.7)
         return said, better or (near[0] if near and kind != "COMMAND" else None)
 
     return choice
 
 
-def interface(word, words):
+def interface(word: str, words: list[str]) -> Slip:
     """An interface."""
     found = re.fullmatch(rf"\{{?({UUID})\}}?(?:[:,vV ]+[vV]?(\d+)(?:[.,](\d+))?)?", word)
     if found and found.group(2) is None:
@@ -167,7 +172,7 @@ def interface(word, words):
     return "An interface is its UUID with hyphens, a colon, and its version, as `:1.0`.", None
 
 
-def bindings(word, words):
+def bindings(word: str, words: list[str]) -> Slip:
     """String bindings."""
     if re.match(rf"{UUID}@", word):
         return "A binding has no object here: objects go into the next word.", word.partition("@")[2]
@@ -196,7 +201,7 @@ def bindings(word, words):
     )
 
 
-def objects(word, words):
+def objects(word: str, words: list[str]) -> Slip:
     """UUIDs of objects."""
     if re.fullmatch("[0-]+", word):
         return "The nil UUID is no object; `-` means none.", "-"
@@ -209,7 +214,7 @@ def objects(word, words):
     return "An object is a UUID with hyphens; `-` means none.", None
 
 
-def protocols(word, words):
+def protocols(word: str, words: list[str]) -> Slip:
     """Protocol sequences."""
     parts = [PROTOCOLS.get(part.lower(), part.lower()) for part in word.split(",") if part]
     good = [part for at, part in enumerate(parts) if part in PROTOCOLS.values() and part not in parts[:at]]
@@ -217,7 +222,7 @@ def protocols(word, words):
     return said, ",".join(good) or "ncacn_ip_tcp,ncadg_ip_udp"
 
 
-def member(word, words):
+def member(word: str, words: list[str]) -> Slip:
     """The member of the elements that `proflist` lists."""
     if words[4] in ("bymbr", "byboth"):
         return f"With `{words[4]}` the full name of the member goes here.", (
@@ -226,7 +231,7 @@ def member(word, words):
     return f"With `{words[4]}` no member is named: write `-`.", "-"
 
 
-def interface_or_none(word, words):
+def interface_or_none(word: str, words: list[str]) -> Slip:
     """IFN, of `unexport` and `proflist`."""
     if words[0] == "proflist" and words[4] not in ("byif", "byboth"):
         return f"With `{words[4]}` no interface is named: write `-`.", "-"
@@ -237,7 +242,7 @@ def interface_or_none(word, words):
     return interface(word, words)
 
 
-def versions(word, words):
+def versions(word: str, words: list[str]) -> Slip:
     """VERS of `proflist`."""
     if words[4] not in ("byif", "byboth"):
         return f"With `{words[4]}` no versions are compared: write `all`.", "all"
@@ -251,7 +256,7 @@ KINDS = {
 }  # fmt: skip
 
 
-def word_slip(kind, at, words):
+def word_slip(kind: str, at: int, words: list[str]) -> tuple[str, list[str] | None]:
     """What to do about the word at a place, counted from 0, where a kind is wanted; and the words of the line, mended,
     or None."""
     word = words[at]

@@ -1,10 +1,14 @@
 """Trials of tools/console: lines from a pipe, and keys in a terminal, which tmux plays."""
+
+from __future__ import annotations
+
 import os
 import shutil
 import subprocess
 import sys
 import tempfile
 import time
+from collections.abc import Iterator
 
 from speaking import console, program
 
@@ -53,14 +57,14 @@ TYPED = (
 )  # fmt: skip
 
 
-def piped(path, text, *form, folder=None):
+def piped(path: str, text: str, *form: str, folder: str | None = None) -> tuple[str, int]:
     """What the console says to lines from a pipe, and its exit status."""
     words = [sys.executable, CONSOLE, "--program", path, *form]
     ran = subprocess.run(words, input=text.encode(), capture_output=True, check=False, timeout=PATIENCE, cwd=folder)
     return ran.stdout.decode() + ran.stderr.decode(), ran.returncode
 
 
-def said_problem(said, wanted):
+def said_problem(said: str, wanted: list[str]) -> str | None:
     """The first thing that was not said, or that was and must not be; or None."""
     for it in wanted:
         if it.startswith("!") == (it.removeprefix("!") in said):
@@ -68,9 +72,9 @@ def said_problem(said, wanted):
     return None
 
 
-def typed(path, text):
+def typed(path: str, text: str) -> str:
     """What the console says to lines."""
-    said = []
+    said: list[str] = []
     at = console.Console(program.Program(path), said.append)
     for line in text.splitlines():
         if not at.is_over:
@@ -78,7 +82,7 @@ def typed(path, text):
     return "\n".join(said)
 
 
-def from_a_pipe(path):
+def from_a_pipe(path: str) -> Iterator[tuple[str, str | None]]:
     """Lines that are typed."""
     for text, wanted in TYPED:
         yield repr(text), said_problem(typed(path, text), wanted)
@@ -96,7 +100,7 @@ def from_a_pipe(path):
     yield "a program that is not there", None if status == 1 and "No such file" in said else said
 
 
-def files(path):
+def files(path: str) -> Iterator[tuple[str, str | None]]:
     """Lines that are saved, loaded and drawn."""
     with tempfile.TemporaryDirectory() as folder:
         said, _ = piped(path, CELL + "save cell.cds\nsave cell.cds\nsave cell.cds over\npicture\n", folder=folder)
@@ -120,20 +124,20 @@ def files(path):
 class Terminal:
     """A terminal with the console in it, which tmux plays."""
 
-    def __init__(self, path, folder):
+    def __init__(self, path: str, folder: str) -> None:
         self.name = f"console-{os.getpid()}"
         self.call(
             "new-session", "-d", "-x", "110", "-y", "45", "-c", folder, sys.executable, CONSOLE, "--program", path
         )
 
-    def call(self, *words):
+    def call(self, *words: str) -> str:
         """Calls tmux, with a server of its own."""
         ran = subprocess.run(
             ["tmux", "-L", self.name, "-f", "/dev/null", *words], capture_output=True, check=False, timeout=PATIENCE
         )
         return ran.stdout.decode()
 
-    def type(self, *keys):
+    def type(self, *keys: str) -> None:
         """Types keys, each a name of tmux, or a text."""
         for key in keys:
             self.call(
@@ -141,7 +145,7 @@ class Terminal:
                 *([key] if key in ("Enter", "Up", "Left", "BSpace", "Tab", "C-c", "C-d", "C-a") else ["-l", key]),
             )
 
-    def problem(self, wanted):
+    def problem(self, wanted: list[str]) -> str | None:
         """What does not come to the screen in time, or None."""
         end, shown = time.monotonic() + PATIENCE, ""
         while time.monotonic() < end:
@@ -151,7 +155,7 @@ class Terminal:
             time.sleep(0.1)
         return f"{wanted} is not on the screen:\n{shown}"
 
-    def is_over(self):
+    def is_over(self) -> bool:
         """Whether the console has ended."""
         end = time.monotonic() + PATIENCE
         while time.monotonic() < end:
@@ -160,7 +164,7 @@ class Terminal:
             time.sleep(0.1)
         return False
 
-    def close(self):
+    def close(self) -> None:
         """Ends the server, which is this terminal's own."""
         self.call("kill-server")
 
@@ -185,7 +189,7 @@ KEYS = (
 )
 
 
-def in_a_terminal(path):
+def in_a_terminal(path: str) -> Iterator[tuple[str, str | None]]:
     """Keys in a terminal."""
     if not shutil.which("tmux"):
         print("console: tmux is not there, so no key was typed")
@@ -203,7 +207,7 @@ def in_a_terminal(path):
             terminal.close()
 
 
-def trials(path):
+def trials(path: str) -> Iterator[tuple[str, str | None]]:
     """All trials of tools/console."""
     yield from from_a_pipe(path)
     yield from files(path)

@@ -2,20 +2,24 @@
 
 Those that begin with `$ ` are sessions of a shell, which tools/testing/page-commands tries.
 """
+
+from __future__ import annotations
+
 import re
+from collections.abc import Iterator
 
 from speaking import console, pages, program
 
 
-def blocks():
+def blocks() -> list[str]:
     """The fenced blocks of the page."""
     with open(f"{pages.ROOT}/docs/TOOLS.md", encoding="ascii") as it:
         return re.findall(r"(?ms)^```console\n(.*?)^```$", it.read())
 
 
-def typed(path, block):
+def typed(path: str, block: str) -> str:
     """What the console says to the lines of a session, with the lines."""
-    said = []
+    said: list[str] = []
     at = console.Console(program.Program(path), said.append)
     for line in re.findall(r"(?m)^\d+> (.*)$", block):
         said.append(at.prompt() + line)
@@ -23,7 +27,7 @@ def typed(path, block):
     return "".join(f"{line}\n" for line in said)
 
 
-def trials(path):
+def trials(path: str) -> Iterator[tuple[str, str | None]]:
     """All trials of the page."""
     count = 0
     for block in blocks():
