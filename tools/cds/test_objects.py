@@ -9,7 +9,7 @@ import unittest
 
 from building.sources import ROOT
 from cds.commands import FORMS
-from cds.objects import NoAnswer, line_of, object_of
+from cds.objects import NoAnswer, Object, line_of, object_of
 from housing import cases as of_houses
 from running.case_files import all_cases
 from running.documents import of_documents
@@ -95,7 +95,8 @@ class Objects(unittest.TestCase):
         ):
             with self.assertRaises(NoAnswer):
                 object_of(line)
-        for answer in ({}, {"line": 1, "kind": "ok", "hop": 1}, {"line": 1, "kind": "ok", "result": "hop"}):
+        strange: list[Object] = [{}, {"line": 1, "kind": "ok", "hop": 1}, {"line": 1, "kind": "ok", "result": "hop"}]
+        for answer in strange:
             with self.assertRaises(NoAnswer):
                 line_of(answer)
 
