@@ -161,14 +161,18 @@ class OfOldCopies(HouseTest):
         assert not any("complete" in line for line in said), said
 
     def test_a_house_that_was_put_back_and_does_not_notice(self) -> None:
-        rows = [(1, ["--clock"], "1 2: differ 1 2 birth b "), (2, [], "1 2: differ 1 1 birth b 2@00000000000b")]
+        rows: list[tuple[int, list[str], str]] = [
+            (1, ["--clock"], "1 2: differ 1 2 birth b "),
+            (2, [], "1 2: differ 1 1 birth b 2@00000000000b"),
+        ]
         for house, options, fault in rows:
             said = self.put_back(house, ["skulk 1 1", "audit 1", "audit x", "audit 2"], *options)
             assert "ok complete" in said[-5] and not any("Restored" in line for line in said), said
             assert said[-3].startswith(fault) and said[-2:] == ["audit D", "1 2: refused NoReplica 1"], said
 
     def test_a_house_with_the_node_of_another(self) -> None:
-        join = "0207" + "00000001" + "01" + f"{1:016x}" + f"{9:016x}" + "02" + f"01{1:016x}01" + f"02{1:016x}03" + "00" * 9
+        join = "0207" + "00000001" + "01" + f"{1:016x}" + f"{9:016x}"
+        join += "02" + f"01{1:016x}01" + f"02{1:016x}03" + "00" * 9
         update = "0201" + "00000001" + "01" + f"{1:016x}" + f"{9:016x}" + "0161" + "01" + f"{9:016x}" + "00000000000a"
         update += "00" * 9
         lines = ["house 2 00000000000a", *take_lines(update), *take_lines(join), *take_lines(update), "look 1 a A"]
