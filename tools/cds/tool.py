@@ -24,6 +24,8 @@ class Words(argparse.ArgumentParser):
         ways = [line.strip() for line in doc.split("\n\n")[1].splitlines()]
         super().__init__(ways[0].split()[0], usage="\n       ".join(ways), allow_abbrev=False)
         self.doc = doc
+        # (options may be between the other words)
+        setattr(self, "parse_args", self.parse_intermixed_args)
 
     def format_help(self) -> str:
         return f"{self.doc.strip()}\n"
