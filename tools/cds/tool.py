@@ -26,7 +26,7 @@ class Words(argparse.ArgumentParser):
         self.doc = doc
         setattr(self, "parse_args", self.parsed)
 
-    def parsed(self, words: list[str], given: argparse.Namespace | None = None) -> argparse.Namespace:
+    def parsed(self, words: list[str] | None = None, given: argparse.Namespace | None = None) -> argparse.Namespace:
         """The words. Options may be between the others, if none of these takes all that is left."""
         if any(it.nargs == argparse.REMAINDER for it in self._actions):
             return super().parse_args(words, given)
