@@ -67,6 +67,14 @@ OVER_PROGRAMS = (
         0.7,
     ),
     Part(
+        "commands",
+        "the commands of the pages, each page in a fresh copy",
+        ("tools/testing/page-commands", *(f"{{{it}}}" for it in PROGRAMS)),
+        PROGRAMS,
+        0.5,
+        "rustc",
+    ),
+    Part(
         "tools",
         "tools/why, tools/write and tools/console, as a user runs them",
         ("tools/try-tools", "--program", "{cdsreplay}"),
