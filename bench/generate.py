@@ -46,9 +46,14 @@ The same kind and size is the same input, always.
 
 from __future__ import annotations
 
+import os
 import sys
 from collections.abc import Callable, Iterable, Iterator
 from typing import IO
+
+sys.dont_write_bytecode = True
+sys.path.insert(0, f"{os.path.dirname(os.path.dirname(os.path.realpath(__file__)))}/tools")
+from cds import records, tool
 
 
 def comments(count: int) -> Iterator[str]:
@@ -493,16 +498,15 @@ def coprime(a: int, b: int) -> bool:
 def floors(count: int) -> Iterator[tuple[tuple[bytes, bytes], ...]]:
     """The floors of towers: an interface, NDR, connections, a TCP port and an address, which differ from tower to
     tower."""
-    ndr = bytes.fromhex("0d045d888aeb1cc9119fe808002b1048600200")
     for i in range(count):
         interface = b"\x0d" + (i * 2654435761 % 2**128).to_bytes(16, "little") + b"\x03\x00"
-        port, host = (i % 65536).to_bytes(2, "big"), (i * 40503 % 2**32).to_bytes(4, "big")
-        yield (interface, b"\0\0"), (ndr, b"\0\0"), (b"\x0b", b"\0\0"), (b"\x07", port), (b"\x09", host)
+        port, host = records.number(i % 65536, 2), records.number(i * 40503 % 2**32, 4)
+        yield (interface, b"\0\0"), records.identity(records.NDR), (b"\x0b", b"\0\0"), (b"\x07", port), (b"\x09", host)
 
 
 def towers(count: int) -> Iterator[bytes]:
     for tower in floors(count):
-        yield b"\x05\0" + b"".join(len(part).to_bytes(2, "little") + part for floor in tower for part in floor)
+        yield b"\x05\0" + records.floors_of(tower)
 
 
 def untowers(count: int) -> Iterator[bytes]:
@@ -511,40 +515,31 @@ def untowers(count: int) -> Iterator[bytes]:
 
 
 def stamp(time: int) -> bytes:
-    return time.to_bytes(8, "big") + bytes.fromhex("00000000000a")
+    return records.stamp(time, "00000000000a")
 
 
-def image(
-    octets_of_format: bytes,
-    count: int,
-    all_up_to: bytes = b"\0",
-    house: int = 1,
-    lacks: int = 0,
-) -> Iterator[bytes]:
-    """An entry in each piece, the first one behind the head of the image. The house is the only member. The last one
+def image(layout: int, count: int, all_up_to: bytes = b"", house: int = 1, lacks: int = 0) -> Iterator[bytes]:
+    """An entry in each piece, the first one after the head of the image. The house is the only member. The last one
     lacks values."""
-    member = b"\x01" + bytes([house]) + (1).to_bytes(8, "big") + b"\x01"
-    head = octets_of_format + b"\x09" + bytes([house]) + bytes.fromhex("00000000000a") + (5 * count).to_bytes(8, "big")
-    head += (1).to_bytes(8, "big") + (1).to_bytes(4, "big")
-    head += b"\x01" + (1).to_bytes(8, "big") + member + all_up_to + count.to_bytes(8, "big")
+    head = records.image_head(layout, house, "00000000000a", 5 * count, 1)
+    head += records.directory_head(1, 1, [(house, 1, records.MASTER)], all_up_to, count)
     for i in range(count):
-        values = 4 - lacks if i + 1 == count else 4
-        name, time = f"entry-{i:08}".encode(), 5 * i + 1
-        entry = len(name).to_bytes(1, "big") + name + b"\x01" + stamp(time) + b"\0" + (1).to_bytes(8, "big")
-        entry += b"\x09Attribute\0" + values.to_bytes(8, "big")
-        marks = (b"\0\x04" + (4 * i + j).to_bytes(4, "big") + b"\x01" + stamp(time + 1 + j) for j in range(values))
-        yield (b"" if i else head) + entry + b"".join(marks)
+        values, time = 4 - lacks if i + 1 == count else 4, 5 * i + 1
+        marks = {records.number(4 * i + j, 4): (1, stamp(time + 1 + j)) for j in range(values)}
+        yield (b"" if i else head) + records.entry(
+            f"entry-{i:08}".encode(), records.OBJECT, stamp(time), {b"Attribute": marks}
+        )
 
 
 def migrate(count: int) -> Iterator[bytes]:
-    return image(b"\x01", count)
+    return image(1, count)
 
 
 def audits(count: int, lacks: int = 0) -> Iterator[bytes]:
-    """Two images of houses whose AllUpTo is behind all that they hold."""
-    all_up_to = b"\x01" + stamp(5 * count + 1)
-    yield from image(b"\x01", count, all_up_to, lacks=lacks)
-    yield from image(b"\x01", count, all_up_to, house=2)
+    """Two images of houses whose AllUpTo is after all that they hold."""
+    all_up_to = stamp(5 * count + 1)
+    yield from image(1, count, all_up_to, lacks=lacks)
+    yield from image(1, count, all_up_to, house=2)
 
 
 def encoded(texts: Iterable[str]) -> Iterator[bytes]:
@@ -607,11 +602,15 @@ def items_in(kind: str, piece: list[bytes]) -> int:
     )
 
 
-def main() -> None:
-    if len(sys.argv) != 3 or sys.argv[1] not in KINDS or not sys.argv[2].isdigit():
-        sys.exit(__doc__)
-    write(sys.argv[1], int(sys.argv[2]), sys.stdout.buffer)
+def main(words: list[str]) -> int:
+    """Writes an input, and returns the exit status."""
+    parser = tool.Words(__doc__)
+    parser.add_argument("kind", choices=KINDS)
+    parser.add_argument("count", type=int)
+    given = parser.parse_args(words)
+    write(given.kind, given.count, sys.stdout.buffer)
+    return 0
 
 
 if __name__ == "__main__":
-    main()
+    tool.run(main)

@@ -14,7 +14,8 @@ CHANGES = f"{ACTS} StampsSpent"
 SERVES = f"{WALK} NotObject StampsSpent"
 LISTED = f"NoHouse {WALK} NotObject"
 
-# Why each command may be refused. (`read by clerk` is a `read` at low confidence in the form `clerk`; of `stop` these are its own.)
+# Why each command may be refused. (`read by clerk` is a `read` at low confidence in the form `clerk`; of `stop` these
+# are its own.)
 REFUSALS = {
     "house": "HouseExists",
     "clock": "NoHouse",
@@ -68,7 +69,10 @@ FAULT = re.compile(r"([1-9]\d*) fault ([A-Za-z]+) (\d+)")
 COUNT = re.compile(r"end \d+")
 # Answers of several lines: those before the last, and the last.
 LONG = {
-    "dump": (re.compile(rf"dump epoch {NUMBER} allupto (?:{STAMP}|none) members .*|(?:entry|attr|value) .*"), re.compile("end")),
+    "dump": (
+        re.compile(rf"dump epoch {NUMBER} allupto (?:{STAMP}|none) members .*|(?:entry|attr|value) .*"),
+        re.compile("end"),
+    ),
     "import": (re.compile("binding .*"), COUNT),
     "grouplist": (re.compile("member .*"), COUNT),
     "entrylist": (re.compile("(?:interface|object) .*"), COUNT),

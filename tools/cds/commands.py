@@ -1,4 +1,5 @@
-"""The commands of scripts, by form: which words each takes, and the form of its line. `docs/SCRIPT.md` says what the words are."""
+"""The commands of scripts, by form: which words each takes, and the form of its line. `docs/SCRIPT.md` says what the
+words are."""
 
 from __future__ import annotations
 

@@ -18,13 +18,15 @@ FIELDS = 21
 
 
 class Damaged(Exception):
-    """A folder is not what houses write. `begun` is the segment of which only the first records are good, if there is one."""
+    """A folder is not what houses write. `begun` is the segment of which only the first records are good, if there is
+    one."""
 
     begun: Segment | None = None
 
 
 class Record:
-    """A record of a segment: its number, the clock, the lines of its text, and the image, or None: only the first one has it."""
+    """A record of a segment: its number, the clock, the lines of its text, and the image, or None: only the first one
+    has it."""
 
     def __init__(self, place: str, body: bytes) -> None:
         if len(body) < FIELDS:
@@ -81,7 +83,9 @@ class Record:
 def body(number: int, clock: int, lines: list[str], image: bytes | None) -> bytes:
     """The octets of a record before its sum."""
     text = "".join(f"{line}\n" for line in lines).encode("ascii")
-    fields = number.to_bytes(8, "big") + clock.to_bytes(8, "big") + bytes([image is not None]) + len(text).to_bytes(4, "big")
+    fields = (
+        number.to_bytes(8, "big") + clock.to_bytes(8, "big") + bytes([image is not None]) + len(text).to_bytes(4, "big")
+    )
     return fields + text + (image or b"")
 
 
@@ -155,6 +159,17 @@ def chained(number: int, before: bytes, bodies: Iterable[bytes]) -> Iterator[byt
     yield b"\0"
 
 
+def sealed(number: int, bodies: Iterable[bytes], before: bytes = NO_SUM) -> bytes:
+    """The octets of a segment with records of these bodies after a sum."""
+    return b"".join(chained(number, before, bodies))
+
+
+def bodies_of(path: str) -> list[bytes]:
+    """The bodies of the records of a segment."""
+    with open(path, "rb") as file:
+        return [record[:-SUM] for record in listed(file.read())[0][1:]]
+
+
 def numbers(folder: str) -> list[int]:
     """The numbers of the segments of a folder."""
     found = (int(name) for name in os.listdir(folder) if name.isdigit() and name[0] != "0")
@@ -162,7 +177,8 @@ def numbers(folder: str) -> list[int]:
 
 
 def segments(folder: str, fewest: int = 2, version: int = VERSION) -> Iterator[Segment]:
-    """The segments of a folder, each of which follows the one before, and has so many records or more: two in the folder of a house."""
+    """The segments of a folder, each of which follows the one before, and has so many records or more: two in the
+    folder of a house."""
     last: Segment | None = None
     for number in numbers(folder):
         if last and number != last.number + 1:
@@ -221,11 +237,18 @@ def front(folder: str, fewest: int = 2, version: int = VERSION) -> tuple[list[Re
 
 
 def entries(folder: str, fewest: int = 2, version: int = VERSION) -> list[Record]:
-    """The entries of a house from the first on: its turns and its starts, by their numbers. One before a segment has the image of that."""
+    """The entries of a house from the first on: its turns and its starts, by their numbers. One before a segment has
+    the image of that."""
     found, fault = front(folder, fewest, version)
     if fault:
         raise fault
     return found
+
+
+def houses_of(folders: Iterable[str]) -> dict[int, list[Record]]:
+    """The entries of houses, by their numbers."""
+    found = map(entries, folders)
+    return {int(own[0].line.split(" ")[1]): own for own in found}
 
 
 def add_entries(found: list[Record], records: Iterable[Record]) -> None:

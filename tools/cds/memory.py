@@ -1,4 +1,5 @@
-"""Programs of which one allocation is refused, each in turn: a library in front of the C library's allocator refuses it."""
+"""Programs of which one allocation is refused, each in turn: a library in front of the C library's allocator refuses
+it."""
 
 from __future__ import annotations
 
@@ -11,9 +12,26 @@ from cds.programs import ran
 
 NO_MEMORY = 6
 # What a house reads in its first life, and in its second one.
-MADE = ["house 1 00000000000a", "root 2", "clock 100", "create 1 lpr", "add 1 lpr A 5072", "put 1 lpr B 00", "link 1 l /.:/lpr"]
+MADE = [
+    "house 1 00000000000a",
+    "root 2",
+    "clock 100",
+    "create 1 lpr",
+    "add 1 lpr A 5072",
+    "put 1 lpr B 00",
+    "link 1 l /.:/lpr",
+]
 MADE += ["mkdir 1 sub 2", "repoint 1 sub 1 2", "skulk 1", "delete 1 l"]
-ASKED = ["clear 1 lpr B", "remove 1 lpr A 5072", "epoch 1 2 1:1:m 2:1:s 3:2:r", "more 02", "take 01", "image", "bogus", "create 1 lpr"]
+ASKED = [
+    "clear 1 lpr B",
+    "remove 1 lpr A 5072",
+    "epoch 1 2 1:1:m 2:1:s 3:2:r",
+    "more 02",
+    "take 01",
+    "image",
+    "bogus",
+    "create 1 lpr",
+]
 ASKED += ["dump 1", "look 1 lpr A", "show low 1 lpr", "show high 1 sub", "status 1", "directories", "add 2 x A 00"]
 LIVES = {"a house": MADE, "a house that does its lines again": ASKED}
 
@@ -33,12 +51,15 @@ static int refuses(void) {
     return refused && calls == atol(refused);
 }
 
-#define NEXT(name) ({ static __typeof__(&name) next; if (!next) next = (__typeof__(&name))dlsym(RTLD_NEXT, #name); next; })
+#define NEXT(name) \
+    ({ static __typeof__(&name) next; if (!next) next = (__typeof__(&name))dlsym(RTLD_NEXT, #name); next; })
 
 void *malloc(size_t size) { return refuses() ? NULL : NEXT(malloc)(size); }
 void *realloc(void *old, size_t size) { return refuses() ? NULL : NEXT(realloc)(old, size); }
 void *aligned_alloc(size_t to, size_t size) { return refuses() ? NULL : NEXT(aligned_alloc)(to, size); }
-int posix_memalign(void **found, size_t to, size_t size) { return refuses() ? ENOMEM : NEXT(posix_memalign)(found, to, size); }
+int posix_memalign(void **found, size_t to, size_t size) {
+    return refuses() ? ENOMEM : NEXT(posix_memalign)(found, to, size);
+}
 
 __attribute__((destructor)) static void tell(void) {
     const char *name = getenv("COUNTED");
@@ -91,7 +112,8 @@ class Lives(Runs):
 
 
 def lives_of(program: str, library: str, room: str) -> Iterator[tuple[str, Lives]]:
-    """The runs of a house, one life after the other, each with its name. (The next one begins with the folder that the last run left.)"""
+    """The runs of a house, one life after the other, each with its name. (The next one begins with the folder that the
+    last run left.)"""
     before = f"{room}/before"
     os.makedirs(before)
     for name, lines in LIVES.items():
@@ -106,4 +128,6 @@ def fault(status: int, output: bytes, whole: bytes) -> str | None:
     """What is wrong with such an end of a run, or None."""
     if status == 0 and output == whole or status == NO_MEMORY and whole.startswith(output):
         return None
-    return f"status {status}, and {len(output)} of {len(whole)} octets" + ("" if whole.startswith(output) else ", which differ")
+    return f"status {status}, and {len(output)} of {len(whole)} octets" + (
+        "" if whole.startswith(output) else ", which differ"
+    )

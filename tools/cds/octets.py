@@ -81,7 +81,8 @@ class Octets:
 
 class Replica:
     """What a house has of a directory: its epoch, AllUpTo (None where no skulk was complete), members, and facts. A
-    house that left the directory has an epoch alone."""
+    house that left the directory has an epoch alone.
+    """
 
     def __init__(self, epoch: int, up_to: str | None = None, members: str = "", facts: Facts | None = None) -> None:
         self.epoch, self.up_to, self.members, self.facts = epoch, up_to, members, {} if facts is None else facts

@@ -1,5 +1,5 @@
-"""The programs that tools run. If the user names none it is the proved one of these sources, or one that is not proved: nothing is proved
-unasked. The plain programs of bench/, and the disk under a house, are compiled with `rustc`."""
+"""The programs that tools run. If the user names none it is the proved one of these sources, or one that is not proved:
+nothing is proved unasked. The plain programs of bench/, and the disk under a house, are compiled with `rustc`."""
 
 from __future__ import annotations
 
@@ -29,14 +29,17 @@ def built(name: str) -> None:
 
 def found(name: str, kind: str) -> str:
     """The path that `tools/build` prints."""
-    ran = subprocess.run([f"{ROOT}/tools/build", name, kind], stdin=subprocess.DEVNULL, stdout=subprocess.PIPE, text=True, check=False)
+    ran = subprocess.run(
+        [f"{ROOT}/tools/build", name, kind], stdin=subprocess.DEVNULL, stdout=subprocess.PIPE, text=True, check=False
+    )
     if ran.returncode:
         raise NoProgram(name)
     return ran.stdout.strip()
 
 
 def chosen(name: str, given: str | None = None, is_to_be_proved: bool = False) -> str:
-    """The path of a program: the one that is given, or the one that `tools/build` finds, or proves first if that is asked for."""
+    """The path of a program: the one that is given, or the one that `tools/build` finds, or proves first if that is
+    asked for."""
     if given:
         return os.path.abspath(given)
     if is_to_be_proved:
@@ -55,7 +58,8 @@ def proved(name: str, is_to_be_proved: bool) -> str:
 
 
 def compiled(source: str, target: str, *options: str, root: str = ROOT) -> str:
-    """The path of what a source is compiled to; it is compiled if it is not there, or older than the sources beside it."""
+    """The path of what a source is compiled to; it is compiled if it is not there, or older than the sources beside
+    it."""
     source, target = f"{root}/{source}", f"{root}/{target}"
     sources = [source, *glob.glob(f"{os.path.dirname(source)}/**/*.rs", recursive=True)]
     os.makedirs(os.path.dirname(target), exist_ok=True)
@@ -64,7 +68,9 @@ def compiled(source: str, target: str, *options: str, root: str = ROOT) -> str:
         fcntl.flock(lock, fcntl.LOCK_EX)
         if not os.path.exists(target) or os.path.getmtime(target) < max(map(os.path.getmtime, sources)):
             # (in two steps: another trial may run what was compiled before)
-            subprocess.run(["rustc", "--edition", "2021", "-O", *options, "-o", f"{target}.{os.getpid()}", source], check=True)
+            subprocess.run(
+                ["rustc", "--edition", "2021", "-O", *options, "-o", f"{target}.{os.getpid()}", source], check=True
+            )
             os.replace(f"{target}.{os.getpid()}", target)
     return target
 

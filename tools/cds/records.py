@@ -9,8 +9,8 @@ MASTER, READ_ONLY, SECONDARY = 1, 2, 3
 # The kinds of messages: the tag of the first is 1.
 KINDS = ("Update", "Gather", "Gathered", "Spread", "SpreadAck", "Advance", "Join", "Leave")
 
-# The values of an attribute, each with whether it is present and its stamp; the attributes of an entry; and the entries of a
-# replica: kind, birth, attributes.
+# The values of an attribute, each with whether it is present and its stamp; the attributes of an entry; and the entries
+# of a replica: kind, birth, attributes.
 Values = Mapping[bytes, tuple[int, bytes]]
 Attributes = Mapping[bytes, Values]
 Entries = Mapping[bytes, tuple[int, bytes, Attributes]]
@@ -57,10 +57,14 @@ def entry(name: bytes, kind: int, birth: bytes, attributes: Attributes) -> bytes
 
 def members_of(members: Sequence[tuple[int, int, int]]) -> bytes:
     """A list of members: houses, each with its since and kind."""
-    return number(len(members), 1) + b"".join(number(it, 1) + number(since, 8) + number(kind, 1) for it, since, kind in members)
+    return number(len(members), 1) + b"".join(
+        number(it, 1) + number(since, 8) + number(kind, 1) for it, since, kind in members
+    )
 
 
-def directory_head(directory: int, epoch: int, members: Sequence[tuple[int, int, int]], all_up_to: bytes, count: int) -> bytes:
+def directory_head(
+    directory: int, epoch: int, members: Sequence[tuple[int, int, int]], all_up_to: bytes, count: int
+) -> bytes:
     """What is before the entries of a directory of an image that is held: `count` is how many they are."""
     head = number(directory, 4) + b"\x01" + number(epoch, 8) + members_of(members)
     return head + stamp_or_none(all_up_to) + number(count, 8)

@@ -31,9 +31,21 @@ class OfCommands(unittest.TestCase):
         self.assertEqual(set(commands.RUN) - found, set())
 
     def test_a_line_has_the_form_of_its_command(self) -> None:
-        for line in ("mkdir 1 1 sub 2 s3", "root 1", "put 1 1 a CDS_Class 5072", "octets msg 7", "lookup 1 low /.:/a x y z 7"):
+        for line in (
+            "mkdir 1 1 sub 2 s3",
+            "root 1",
+            "put 1 1 a CDS_Class 5072",
+            "octets msg 7",
+            "lookup 1 low /.:/a x y z 7",
+        ):
             self.assertTrue(commands.LINES[line.split()[0]].fullmatch(line), line)
-        for line in ("mkdir 1 1 sub", "house 256 00000000000a", "put 1 1 a A 507", "read 1 mid /.:/a A", "create 0 1 a"):
+        for line in (
+            "mkdir 1 1 sub",
+            "house 256 00000000000a",
+            "put 1 1 a A 507",
+            "read 1 mid /.:/a A",
+            "create 0 1 a",
+        ):
             self.assertFalse(commands.LINES[line.split()[0]].fullmatch(line), line)
 
     def test_the_places_of_houses_and_directories(self) -> None:
@@ -53,7 +65,9 @@ class OfAnswers(unittest.TestCase):
     """The tables of answers and refusals."""
 
     def test_refusals_are_those_of_the_pages(self) -> None:
-        listed = re.findall(r"(?m)^\| .*", chapter(page("SCRIPT"), "All refusals") + chapter(page("FORMS"), "All refusals"))
+        listed = re.findall(
+            r"(?m)^\| .*", chapter(page("SCRIPT"), "All refusals") + chapter(page("FORMS"), "All refusals")
+        )
         found = {name for row in listed for name in re.findall(r"`([A-Z][A-Za-z]+)[^`]*`", row.split(" | ")[0])}
         self.assertEqual(found - answers.REASONS, set())
         self.assertEqual({it for it in answers.REASONS if it not in page("SCRIPT") + page("FORMS")}, set())

@@ -43,7 +43,10 @@ class OfFolders(unittest.TestCase):
 
     def test_entries(self) -> None:
         found = entries(self.folder)
-        self.assertEqual([(it.number, it.clock, it.kind) for it in found], [(1, 0, "house"), (2, 0, "root"), (3, 0, "start"), (4, 7, "create")])
+        self.assertEqual(
+            [(it.number, it.clock, it.kind) for it in found],
+            [(1, 0, "house"), (2, 0, "root"), (3, 0, "start"), (4, 7, "create")],
+        )
         self.assertEqual([it.line for it in found], ["house 1 00000000000a", "root 2", "root 2", "create 1 a"])
         self.assertEqual((found[2].posts, found[2].answer, found[2].image), ([(2, "0207")], "ok", b"image"))
 

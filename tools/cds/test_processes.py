@@ -50,7 +50,9 @@ class OfProcesses(unittest.TestCase):
 
     def test_posts_are_whole_messages(self) -> None:
         self.process.send(["post"])
-        self.assertEqual((self.process.answer(), self.process.fetched(), self.process.fetched()), (["ok"], [(2, "0207")], []))
+        self.assertEqual(
+            (self.process.answer(), self.process.fetched(), self.process.fetched()), (["ok"], [(2, "0207")], [])
+        )
 
     def test_what_it_says_at_its_end(self) -> None:
         self.process.send(["a", "b"])

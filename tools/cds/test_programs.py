@@ -29,9 +29,8 @@ class OfChoices(unittest.TestCase):
         with open(f"{self.tools}/build", "w", encoding="utf-8") as it:
             it.write(BUILD)
         os.chmod(f"{self.tools}/build", 0o755)
-        for patch in (mock.patch.object(programs, "ROOT", place.name), mock.patch.dict(os.environ)):
-            patch.start()
-            self.addCleanup(patch.stop)
+        self.enterContext(mock.patch.object(programs, "ROOT", place.name))
+        self.enterContext(mock.patch.dict(os.environ))
         os.environ.pop(SAID, None)
 
     def words(self) -> list[str]:
@@ -65,13 +64,11 @@ class OfChoices(unittest.TestCase):
     def test_a_failure_is_one(self) -> None:
         with open(f"{self.tools}/fails", "w", encoding="utf-8"):
             pass
-        for call in (
-            lambda: chosen("cdsmend"),
-            lambda: chosen("cdsmend", None, True),
-            lambda: proved("cdsmend", False),
-        ):
+        for is_to_be_proved in (False, True):
             with self.assertRaises(NoProgram):
-                call()
+                chosen("cdsmend", None, is_to_be_proved)
+        with self.assertRaises(NoProgram):
+            proved("cdsmend", False)
 
 
 if __name__ == "__main__":

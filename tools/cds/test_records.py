@@ -9,7 +9,10 @@ from cds.octets import Image, Load
 
 NODE = "00000000000a"
 BIRTH, ADDED = records.stamp(5, NODE), records.stamp(6, NODE)
-ENTRIES = {b"lpr": (records.OBJECT, BIRTH, {b"CDS_Class": {b"\x50\x72": (1, ADDED), b"\x01": (0, ADDED)}}), b"a": (records.LINK, BIRTH, {})}
+ENTRIES: records.Entries = {
+    b"lpr": (records.OBJECT, BIRTH, {b"CDS_Class": {b"\x50\x72": (1, ADDED), b"\x01": (0, ADDED)}}),
+    b"a": (records.LINK, BIRTH, {}),
+}
 FACTS = {
     "a": f"link 5@{NODE} live",
     "lpr": f"object 5@{NODE} live",

@@ -35,6 +35,12 @@ tool.run(main)
 '''
 
 
+def text_of(path: str) -> str:
+    """The text of a file."""
+    with open(path, encoding="utf-8", errors="replace") as it:
+        return it.read()
+
+
 class OfTools(unittest.TestCase):
     """A tool that counts to ten, or far."""
 
@@ -68,6 +74,21 @@ class OfTools(unittest.TestCase):
             self.assertEqual(tool.stdout.readline(), "0\n")
             tool.stdout.close()
             self.assertEqual((tool.stderr.read(), tool.wait()), ("", 141))
+
+
+class OfHelp(unittest.TestCase):
+    """The tools that take their words by their docstrings."""
+
+    def test_help_of_all(self) -> None:
+        texts = {it: text_of(f"{TOOLS}/{it}") for it in os.listdir(TOOLS) if os.path.isfile(f"{TOOLS}/{it}")}
+        tools = [it for it, text in texts.items() if "tool.Words(__doc__)" in text]
+        self.assertGreater(len(tools), 8)
+        for name in tools:
+            ran = subprocess.run([f"{TOOLS}/{name}", "--help"], capture_output=True, text=True, check=False)
+            with self.subTest(name):
+                self.assertEqual((ran.returncode, ran.stderr), (0, ""))
+                self.assertEqual(ran.stdout, texts[name].split('"""')[1])
+                self.assertIn(f"\n    tools/{name}", ran.stdout)
 
 
 if __name__ == "__main__":

@@ -1,4 +1,5 @@
-"""How a tool begins and ends: its words by what its docstring says of them, its sum, and a reader of its output that goes away."""
+"""How a tool begins and ends: its words by what its docstring says of them, its sum, and a reader of its output that
+goes away."""
 
 from __future__ import annotations
 
@@ -6,7 +7,8 @@ import argparse
 import os
 import signal
 import sys
-from collections.abc import Callable
+import unittest
+from collections.abc import Callable, Iterable
 from typing import NoReturn
 
 # Modules are compiled once, into out/, and not beside their sources.
@@ -15,7 +17,8 @@ sys.dont_write_bytecode = bool(os.environ.get("PYTHONDONTWRITEBYTECODE"))
 
 
 class Words(argparse.ArgumentParser):
-    """The words of a tool. `--help` prints its docstring, and a wrong word the lines of it that begin with the tool's path."""
+    """The words of a tool. `--help` prints its docstring, and a wrong word the lines of it that begin with the tool's
+    path."""
 
     def __init__(self, doc: str) -> None:
         ways = [line.strip() for line in doc.split("\n\n")[1].splitlines()]
@@ -32,6 +35,13 @@ def summed(passed: int, failed: int) -> int:
     return 1 if failed else 0
 
 
+def tested(tests: Iterable[unittest.TestCase]) -> int:
+    """Runs tests, prints what fails and the sum, and returns the exit status."""
+    found = unittest.TextTestRunner(sys.stdout, verbosity=0).run(unittest.TestSuite(tests))
+    failed = len({id(getattr(test, "test_case", test)) for test, _ in (*found.failures, *found.errors)})
+    return summed(found.testsRun - failed, failed)
+
+
 def fail(tool: str, fault: object, status: int = 1) -> int:
     """Says why a tool ends, and returns the exit status."""
     print(f"{tool}: {fault}", file=sys.stderr)
@@ -44,7 +54,8 @@ def leave_output() -> None:
 
 
 def run(main: Callable[[list[str]], int]) -> NoReturn:
-    """Runs a tool, and ends with its status. It ends quietly if nobody reads its output any more, or somebody interrupts it."""
+    """Runs a tool, and ends with its status. It ends quietly if nobody reads its output any more, or somebody
+    interrupts it."""
     try:
         try:
             status = main(sys.argv[1:])

@@ -272,7 +272,7 @@ def random_scripts(seed: int, plain: str, seconds: float) -> Iterator[Script]:
 
 def tried(comparison: Comparison, scripts: Iterable[Script]) -> bool:
     """Does all scripts, and prints the sum. Whether none differs."""
-    for name, script in scripts:
-        comparison.run(name, script)
+    for name, it in scripts:
+        comparison.run(name, it)
     print(comparison.summed())
     return not comparison.counts["differences"]

@@ -24,8 +24,8 @@ DONE = {
 # The answers of each command: `ok`, or why it is refused.
 ANSWERS = {
     **{command: f"{DONE.get(command, 'ok')} {reasons}" for command, reasons in REFUSALS.items()},
-    # A delivery by the kind of its message. An Update and a Gather alone can be early, since all else comes after an answer of its
-    # receiver in that epoch, and a house goes back to no earlier one.
+    # A delivery by the kind of its message. An Update and a Gather alone can be early, since all else comes after an
+    # answer of its receiver in that epoch, and a house goes back to no earlier one.
     "deliver Update": "taken late early noreplica",
     "deliver Gather": "taken late early noreplica",
     "deliver Gathered": "taken late stale noreplica",
@@ -34,8 +34,8 @@ ANSWERS = {
     "deliver Advance": "taken late noreplica",
     "deliver Join": "taken late",
     "deliver Leave": "taken late",
-    # The faults of a line, and how the other forms end. (A fault TooManyLines or TooManyTowers takes 16,777,216 of them, and TooLong as
-    # many octets.)
+    # The faults of a line, and how the other forms end. (A fault TooManyLines or TooManyTowers takes 16,777,216 of
+    # them, and TooLong as many octets.)
     "run": "LineTooLong NotAscii NoLineEnd UnknownCommand WrongCount BadWord",
     "check": "ok fault",
     "load": "load",
@@ -170,13 +170,22 @@ class Met:
     def lacking(self, forms: Sequence[str]) -> list[str]:
         """The answers of these forms that were never met, each after its command."""
         due = {it: answers.split() for it, answers in ANSWERS.items() if set(FORMS_OF.get(it, SCRIPTS)) & set(forms)}
-        return [f"{command}: {answer}" for command, answers in due.items() for answer in answers if not self.counts[command][answer]]
+        return [
+            f"{command}: {answer}"
+            for command, answers in due.items()
+            for answer in answers
+            if not self.counts[command][answer]
+        ]
 
     def unknown(self) -> list[str]:
         """The answers that were met and that no table has."""
         known = {command: answers.split() for command, answers in ANSWERS.items()}
         rows = [(command, answer) for command, counts in self.counts.items() for answer in counts]
-        return [f"{command}: {answer}" for command, answer in rows if answer not in known.get(command, []) and not answer.isdigit()]
+        return [
+            f"{command}: {answer}"
+            for command, answer in rows
+            if answer not in known.get(command, []) and not answer.isdigit()
+        ]
 
     def rows(self) -> Iterator[str]:
         """The table, a line for each command."""

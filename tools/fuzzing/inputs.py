@@ -10,7 +10,18 @@ from fuzzing.records import Record, damaged, image, rarely, towers
 from fuzzing.scripts import HOUSES, script
 
 # How often each form has its turn.
-FORMS = {"run": 10, "journal": 6, "clerk": 3, "inquire": 4, "check": 1, "towers": 4, "untowers": 4, "migrate": 2, "audit": 4, "load": 1}
+FORMS = {
+    "run": 10,
+    "journal": 6,
+    "clerk": 3,
+    "inquire": 4,
+    "check": 1,
+    "towers": 4,
+    "untowers": 4,
+    "migrate": 2,
+    "audit": 4,
+    "load": 1,
+}
 # The forms whose input is a script.
 OF_SCRIPTS = ["run", "journal", "clerk", "inquire", "check"]
 # The forms whose input is no text.
@@ -19,12 +30,14 @@ ROOMS = [1, 2, 8, 1000]
 
 
 def images(random_source: Random, plain: str) -> bytes:
-    """The octets of two images: of two houses of one script, or made field by field, mostly with the same beginning. Now and then they
-    are damaged, cut short, or followed by more."""
+    """The octets of two images: of two houses of one script, or made field by field, mostly with the same beginning.
+    Now and then they are damaged, cut short, or followed by more."""
     kind = random_source.randrange(4)
     if kind == 0:
         lines = script(random_source, plain, ["run"]) + b"".join(b"octets house %d\n" % house for house in HOUSES)
-        told = re.findall(r"ok \d+ (02090[1-5][0-9a-f]+)$", ran([plain, "run"], lines)[1].decode(errors="replace"), re.M)
+        told = re.findall(
+            r"ok \d+ (02090[1-5][0-9a-f]+)$", ran([plain, "run"], lines)[1].decode(errors="replace"), re.M
+        )
         octets = b"".join(bytes.fromhex(it) for it in random_source.choices(told, k=2)) if told else b""
     elif kind == 1:
         octets = bytes(Record(random_source).image() + Record(random_source).image())

@@ -3,25 +3,25 @@
 
     tools/fuzzing/mend.py SECONDS [--inputs N] [--seed N] [--program PATH] [--mender PATH] [--proved]
 
-Without --program and --mender these are the proved ones of these sources, or else ones that are not proved, and standard error says so;
-with --proved `tools/build` proves and builds them first, if that has to be. PATH may have words behind it, as that
-of the plain program, whose form `mend` does the same. With --inputs it ends after so many scripts. Each script makes a few houses and
-directories, loses messages, delivers some late or twice, crashes houses, and changes epochs; then `cdsmend` mends one of its directories,
-now and then without some of the houses. What it has to write is computed here from the answers of `cdsreplay`: who is listed, who is up,
-which epoch each house holds, which number comes next, and the floors. Then the script followed by these lines is run: no added line may be
-refused or in vain, and the last has to be answered `complete`. After the Advances that this answer names, each house of the list holds one
+Without --program and --mender these are the proved ones of these sources, or else ones that are not proved, and
+standard error says so; with --proved `tools/build` proves and builds them first, if that has to be. PATH may have words
+behind it, as that of the plain program, whose form `mend` does the same. With --inputs it ends after so many scripts.
+Each script makes a few houses and directories, loses messages, delivers some late or twice, crashes houses, and changes
+epochs; then `cdsmend` mends one of its directories, now and then without some of the houses. What it has to write is
+computed here from the answers of `cdsreplay`: who is listed, who is up, which epoch each house holds, which number
+comes next, and the floors. Then the script followed by these lines is run: no added line may be refused or in vain, and
+the last has to be answered `complete`. After the Advances that this answer names, each house of the list holds one
 epoch, and their dumps are the same.
 
-Script number K is made from the seed N + K, where N is 1 if it is not given. At the first script that is not mended its seed is printed;
-it stands in out/fuzz-input. The last line is `N cells, all mended`, with how many were in which trouble before it, or `N cells, 1 not`,
-and the exit status is 1 for that.
+Script number K is made from the seed N + K, where N is 1 if it is not given. At the first script that is not mended its
+seed is printed; it stands in out/fuzz-input. The last line is `N cells, all mended`, with how many were in which
+trouble before it, or `N cells, 1 not`, and the exit status is 1 for that.
 """
 
 from __future__ import annotations
 
 import os
 import random
-import re
 import shlex
 import sys
 import time
@@ -38,7 +38,18 @@ from cds.console import Members, listing  # noqa: E402
 FOUND = f"{ROOT}/out/fuzz-input"
 LAST_TIME = 2**64 - 1
 # The kinds of the lines of a script, and how often each is made.
-OFTEN: dict[str, float] = {"deliver": 60, "lose": 8, "create": 14, "skulk": 10, "epoch": 8, "crash": 5, "start": 4, "clock": 2, "mkdir": 5, "group": 2}
+OFTEN: dict[str, float] = {
+    "deliver": 60,
+    "lose": 8,
+    "create": 14,
+    "skulk": 10,
+    "epoch": 8,
+    "crash": 5,
+    "start": 4,
+    "clock": 2,
+    "mkdir": 5,
+    "group": 2,
+}
 OFTEN["last"] = 0.3
 
 
@@ -117,11 +128,16 @@ class Directory:
 
     def words(self, without: Sequence[int] = ()) -> list[tuple[int, str]]:
         """Its houses but these, each with its word of a list."""
-        return [(house, f"s{house}" if kind == "s" else str(house)) for house, (_, kind) in self.members.items() if house not in without]
+        return [
+            (house, f"s{house}" if kind == "s" else str(house))
+            for house, (_, kind) in self.members.items()
+            if house not in without
+        ]
 
 
 class Cell:
-    """What the answers to a script tell of its cell: the directories by their numbers, and how many messages were posted."""
+    """What the answers to a script tell of its cell: the directories by their numbers, and how many messages were
+    posted."""
 
     def __init__(self, program: str, lines: list[str]) -> None:
         self.directories: dict[int, Directory] = {}
@@ -161,9 +177,13 @@ def houses_left_out(source: random.Random, cell: Cell, number: int) -> list[int]
     return chosen + ([source.randint(1, 255)] if source.random() < 0.1 else [])
 
 
-def state_of(program: str, lines: list[str], number: int, houses: list[int]) -> tuple[set[int], dict[int, int], set[int]]:
+def state_of(
+    program: str, lines: list[str], number: int, houses: list[int]
+) -> tuple[set[int], dict[int, int], set[int]]:
     """Which of these houses are down, the epoch that each holds, and which of them have a stamp left."""
-    asked = [f"{line} {it}" for it in houses for line in ("start", "octets house")] + [f"dump {it} {number}" for it in houses]
+    asked = [f"{line} {it}" for it in houses for line in ("start", "octets house")] + [
+        f"dump {it} {number}" for it in houses
+    ]
     answers, _ = run([program, "run"], lines + asked)
     told = [answers[it][0].split() for it in range(len(lines) + 1, len(lines) + len(asked) + 1)]
     down = {house for house, said in zip(houses, told[::2]) if said[0] == "ok"}
@@ -177,7 +197,11 @@ def master_without(directory: Directory, held: dict[int, int], without: list[int
     """The master of a directory once these houses are left out, if any house can be."""
     if directory.master not in without:
         return directory.master
-    able = [(held[it], -it) for it, (since, _) in directory.members.items() if it not in without and held.get(it, 0) >= since]
+    able = [
+        (held[it], -it)
+        for it, (since, _) in directory.members.items()
+        if it not in without and held.get(it, 0) >= since
+    ]
     return -max(able)[1] if able else None
 
 
@@ -253,7 +277,8 @@ def keep(lines: list[str]) -> None:
 
 
 def mends(seconds: float, seed: int, program: str, mender: str, inputs: int = -1) -> bool:
-    """Mends random cells for so long, or so many of them, prints their troubles and the first fault, and returns whether there is none."""
+    """Mends random cells for so long, or so many of them, prints their troubles and the first fault, and returns
+    whether there is none."""
     troubles, start, count, fault = Counter[str](), time.monotonic(), 0, None
     while not fault and time.monotonic() - start < seconds and count != inputs:
         source = random.Random(seed + count)

@@ -1,4 +1,5 @@
-"""Random octets: messages and images that are made field by field, towers, and damage. (tools/cds/records.py writes good ones.)"""
+"""Random octets: messages and images that are made field by field, towers, and damage. (tools/cds/records.py writes
+good ones.)"""
 
 from __future__ import annotations
 
@@ -8,7 +9,9 @@ from random import Random
 from cds import records
 
 # What damage puts in.
-PIECES = """# house stop image lookup keep 5 upto 18446744073709551616 -1 01 /.: /.:/ /.:a 0g - high default 256 é""".split()
+PIECES = (
+    "# house stop image lookup keep 5 upto 18446744073709551616 -1 01 /.: /.:/ /.:a 0g - high default 256 é".split()
+)
 PIECES += ["", "x" * 255]
 # A time and a node.
 Stamp = tuple[int, int]
@@ -22,9 +25,11 @@ def rarely(random_source: Random, least: int = 50) -> bool:
 class Record:
     """The octets of a message or an image, made field by field at random. One of the fields may break its rule."""
 
-    def __init__(self, random_source: Random, breaks: bool = True, same: int | None = None, is_full: bool = False) -> None:
-        """With `same` so many fields are those of a record that this source would make without it. A full image has a directory, of
-        which it holds a replica with an AllUpTo."""
+    def __init__(
+        self, random_source: Random, breaks: bool = True, same: int | None = None, is_full: bool = False
+    ) -> None:
+        """With `same` so many fields are those of a record that this source would make without it. A full image has a
+        directory, of which it holds a replica with an AllUpTo."""
         self.random, self.octets, self.same, self.is_full = random_source, bytearray(), same, is_full
         self.before_broken = random_source.choice([None, random_source.randrange(30)]) if breaks else None
 
@@ -212,7 +217,8 @@ def towers(random_source: Random) -> bytes:
 
 
 def image(random_source: Random) -> bytes:
-    """The octets of an image of either format, of which one field may break its rule; now and then damaged, or cut short."""
+    """The octets of an image of either format, of which one field may break its rule; now and then damaged, or cut
+    short."""
     octets = bytes(Record(random_source).image())
     if rarely(random_source, 3):
         octets = bytes(damaged(random_source, octets))

@@ -20,13 +20,24 @@ Maker = tuple[int, Callable[[], str]]
 # Few of each, so that commands meet.
 HOUSES = range(1, 6)
 SIMPLE_NAMES = ["a", "b", "lpr", "lpr", "sub", "a" * 254]
-ATTRIBUTES = ["A", "B", "CDS_Class", "CDS_Towers", "RPC_ObjectUUIDs", "RPC_Group", "RPC_Profile", "CDS_LinkTarget", "CDS_Replicas"]
+ATTRIBUTES = [
+    "A",
+    "B",
+    "CDS_Class",
+    "CDS_Towers",
+    "RPC_ObjectUUIDs",
+    "RPC_Group",
+    "RPC_Profile",
+    "CDS_LinkTarget",
+    "CDS_Replicas",
+]
 UUIDS = [f"a0000000-0000-0000-0000-{number:012x}" for number in range(1, 4)] + ["00000000-0000-0000-0000-000000000000"]
 VERSIONS = ["1.0", "1.0", "1.0", "1.1", "1.1", "1.65535", "2.0"]
 TIMES = ["0", "1", "7", "100", "4000000000", "18446744073709551613", "18446744073709551615"]
 VERSION_OPTIONS = ["all", "compatible", "exact", "major_only", "upto"]
 
-# Names of which a walk makes ever longer ones, or too long ones, or the same again, once begin_links has made the links.
+# Names of which a walk makes ever longer ones, or too long ones, or the same again, once begin_links has made the
+# links.
 LONG = "a" * 254
 LINKS = {"long": f"/.:/{LONG}/{LONG}/{LONG}", "grow": "/.:/grow/x", "loop": "/.:/loop"}
 LINKED = [f"/.:/long/{LONG}/x", "/.:/grow/x", "/.:/loop", "/.:/loop/x"]
@@ -34,9 +45,9 @@ LINKED = [f"/.:/long/{LONG}/x", "/.:/grow/x", "/.:/loop", "/.:/loop/x"]
 LONG_MEMBER = f"/.:/{LONG}/{LONG}/{LONG}/{'b' * 230}"
 
 
-
 class Script:
-    """A script that is being made: its lines, the masters and secondary houses of its directories, and the messages that may be there."""
+    """A script that is being made: its lines, the masters and secondary houses of its directories, and the messages
+    that may be there."""
 
     def __init__(self, random_source: Random, form: str) -> None:
         self.random, self.form = random_source, form
@@ -171,12 +182,23 @@ class Script:
             "start": (5, self.house),
             "read": (4, self.read),
             "readlink": (2, lambda: f"{ask} {self.name()}"),
-            "export": (8, lambda: f"{self.name()} {self.interface()} {self.some(self.binding)} {self.some(self.object)}"),
-            "unexport": (2, lambda: self.undone("export", [0, 1, 3]) or f"{self.name()} {self.one('-', self.interface())} {self.some(self.object)}"),
+            "export": (
+                8,
+                lambda: f"{self.name()} {self.interface()} {self.some(self.binding)} {self.some(self.object)}",
+            ),
+            "unexport": (
+                2,
+                lambda: self.undone("export", [0, 1, 3])
+                or f"{self.name()} {self.one('-', self.interface())} {self.some(self.object)}",
+            ),
             "groupadd": (5, lambda: f"{self.name()} {self.name()}"),
             "groupdel": (1, lambda: self.undone("groupadd", [0, 1]) or f"{self.name()} {self.name()}"),
             "profadd": (4, self.element),
-            "profdel": (1, lambda: self.undone("profadd", [0, 1, 2]) or f"{self.name()} {self.one('default', self.interface())} {self.name()}"),
+            "profdel": (
+                1,
+                lambda: self.undone("profadd", [0, 1, 2])
+                or f"{self.name()} {self.one('default', self.interface())} {self.name()}",
+            ),
             "import": (8, lambda: f"{ask} {self.name()} {self.wanted()}"),
             "dump": (2, lambda: f"{self.house()} {self.directory()}"),
             "octets": (2, lambda: self.one(f"msg {self.message()}", f"house {self.house()}")),
@@ -185,13 +207,18 @@ class Script:
         if self.form == "journal":
             makers |= {"image": (3, self.house), "stop": (20, self.stopped)}
         elif self.form == "clerk":
-            makers |= {"read": (40, self.read), "create": (12, lambda: at), "delete": (12, lambda: at), "crash": (3, self.house)}
+            makers |= {
+                "read": (40, self.read),
+                "create": (12, lambda: at),
+                "delete": (12, lambda: at),
+                "crash": (3, self.house),
+            }
         elif self.form == "inquire":
             makers |= {
                 "grouplist": (8, lambda: f"{ask} {self.named('groupadd')}"),
                 "entrylist": (8, lambda: f"{ask} {self.named('export')}"),
                 "proflist": (16, lambda: f"{ask} {self.named('profadd')} {self.choice()}"),
-                "lookup": (12, lambda: f"{ask} {self.named(self.one('export', 'groupadd'))} {self.wanted()} {self.one(1, 1, 2, 3, 65535)}"),
+                "lookup": (12, lambda: f"{ask} {self.offered()} {self.wanted()} {self.one(1, 1, 2, 3, 65535)}"),
             }
         return makers
 
@@ -201,7 +228,8 @@ class Script:
             return f"{self.house()} {self.one('low', 'high')} {self.name()} {self.random.choice(ATTRIBUTES)}"
         made = [words[3] for words in self.accepted if words[:3:2] == ["create", "1"]]
         name = f"/.:/{self.random.choice(made)}" if made and not rarely(self.random, 4) else self.name()
-        return f"{self.one('1', '1', self.house())} {self.one('low', 'low', 'low', 'high')} {name} {self.one('A', 'B', 'C')}"
+        house, confidence = self.one("1", "1", self.house()), self.one("low", "low", "low", "high")
+        return f"{house} {confidence} {name} {self.one('A', 'B', 'C')}"
 
     def stopped(self) -> str:
         """A house that loses its power, mostly the one that has to act, and the command inside which it does."""
@@ -226,6 +254,10 @@ class Script:
         """The name of an entry that an earlier command of this kind made, mostly."""
         return (self.done(command) or ["", self.name()])[1]
 
+    def offered(self) -> str:
+        """The name of an entry with bindings, or of a group, mostly."""
+        return self.named(self.one("export", "groupadd"))
+
     def choice(self) -> str:
         """Which elements of a profile are asked for."""
         kind = self.one("all", "default", "byif", "byif", "bymbr", "byboth")
@@ -238,7 +270,9 @@ class Script:
     def undone(self, command: str, places: Sequence[int]) -> str | None:
         """The words at these places of an earlier command, each second time."""
         earlier = [it.split()[1:] for it in self.lines if it.startswith(f"{command} ")]
-        return " ".join(self.random.choice(earlier)[at] for at in places) if earlier and self.random.randrange(2) else None
+        return (
+            " ".join(self.random.choice(earlier)[at] for at in places) if earlier and self.random.randrange(2) else None
+        )
 
     def new_epoch(self) -> str:
         """A directory and its new members, of which the master mostly is the one that it has."""
@@ -249,7 +283,9 @@ class Script:
 
     def element(self) -> str:
         """A new element of a profile; some are wrong."""
-        interface, priority = self.random.choice([(self.interface(), self.random.randint(0, 8)), ("default", self.one(8, 8, 8, 3))])
+        interface, priority = self.random.choice(
+            [(self.interface(), self.random.randint(0, 8)), ("default", self.one(8, 8, 8, 3))]
+        )
         member = LONG_MEMBER if rarely(self.random) else self.name()
         return f"{self.name()} {interface} {member} {priority} {self.one('-', 'note')}"
 
@@ -269,7 +305,9 @@ class Script:
         """Sets each clock to the last time but a few, and spends them."""
         self.lines += [f"clock {house} {18446744073709551615 - self.random.randrange(4)}" for house in HOUSES]
         self.lines += [self.command() for _ in range(20)]
-        self.lines += [f"{word} {self.masters[1]} 1 {self.simple()} 1" for word in ["mkdir", "repoint"] for _ in range(3)]
+        self.lines += [
+            f"{word} {self.masters[1]} 1 {self.simple()} 1" for word in ["mkdir", "repoint"] for _ in range(3)
+        ]
 
     def part(self) -> None:
         """A part of the script: some commands, or deliveries of what waits."""
@@ -317,7 +355,8 @@ class Script:
         self.members_of[directory] = sorted(int(word.removeprefix("s")) for word in words)
 
     def sent_to(self, command: str, words: list[str], before: list[int], count: int) -> list[int]:
-        """The houses that so many messages of a command go to, as far as its words tell; those of a delivery as if in directory 1."""
+        """The houses that so many messages of a command go to, as far as its words tell; those of a delivery as if in
+        directory 1."""
         is_at_house = command in STOPPED and command not in ("root", "epoch", "deliver") or command == "mkdir"
         directory = int(words[0]) if command == "epoch" else int(words[1]) if is_at_house else 1
         house = int(words[0]) if is_at_house else self.masters.get(directory, 1)

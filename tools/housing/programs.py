@@ -8,8 +8,8 @@ from cds import programs
 
 
 class Programs:
-    """The house that is tried, the program that replays, the one that explains, if it is tried, too, and the disk between the house and its
-    folder."""
+    """The house that is tried, the program that replays, the one that explains, if it is tried, too, and the disk
+    between the house and its folder."""
 
     def __init__(self, house: str | None = None, plain: str | None = None, explainer: str | None = None) -> None:
         self.house = programs.plain_house(house)

@@ -129,7 +129,7 @@ is_plain = true
     "crates/base/must-fail/odd.edit": "file: specs/Numbers.antt\nold: is_even 0 = true\nnew: is_even 0 = false\n",
     "crates/cell_replay/plants/nothing.edit": "file: src/replay.rt\nold: number\nnew: 0\n",
     "crates/cdsreplay/cases/first.case": "--- run\n--- 0\n",
-    "tools/housing/program_tests.py": "def test_lives():\n    pass\n",
+    "tools/housing/program_tests.py": "class OfPrograms:\n    def test_lives(self):\n        pass\n",
 }
 CACHED: tuple[functools._lru_cache_wrapper[Any], ...] = (
     sources.text_of, sources.stood_on, sources.functions, sources.fields, sources.traits, sources.reached,

@@ -305,7 +305,7 @@ def cases() -> list[str]:
 def house_tests() -> set[str]:
     """The names of the tests of houses, and of the file of their cases."""
     texts = (text_of(os.path.relpath(it, ROOT)) for it in glob.glob(f"{ROOT}/tools/housing/*.py"))
-    return {"house.case", *(name for text in texts for name in re.findall(r"(?m)^def (test_\w+)", text))}
+    return {"house.case", *(name for text in texts for name in re.findall(r"(?m)^ +def (test_\w+)", text))}
 
 
 @functools.cache

@@ -14,8 +14,8 @@ from building.sources import ROOT, lines_of_crates
 from planting.plants import BAD, PASSED, UNTRIED, Plant
 from planting.verdicts import fallen_in, has_ended, is_named, is_of, is_proved, last_words, verdicts_in
 
-# How long a check of functions may take, and how much longer with each of them, in seconds: some wrong bodies set a proof searching
-# with no end in sight.
+# How long a check of functions may take, and how much longer with each of them, in seconds: some wrong bodies set a
+# proof searching with no end in sight.
 LONGEST, LONGER = 180, 60
 
 
@@ -82,11 +82,18 @@ class Copy:
                 sink.write(text)
 
     def check(self, plants: list[Plant], names: Sequence[str] = ()) -> str | None:
-        """Checks the crate with these bugs, or only functions of these names, and returns what the check says if it came to an end."""
+        """Checks the crate with these bugs, or only functions of these names, and returns what the check says if it
+        came to an end."""
         self.written(plants)
         words = ["rt", "check", "--jobs", "1", *(word for name in names for word in ("--only", name))]
         with subprocess.Popen(
-            words, cwd=self.folder, stdin=subprocess.DEVNULL, stdout=subprocess.PIPE, stderr=subprocess.STDOUT, text=True, errors="replace"
+            words,
+            cwd=self.folder,
+            stdin=subprocess.DEVNULL,
+            stdout=subprocess.PIPE,
+            stderr=subprocess.STDOUT,
+            text=True,
+            errors="replace",
         ) as rt:
             try:
                 self.said, _ = rt.communicate(timeout=LONGEST + LONGER * len(names) if names else None)

@@ -6,11 +6,14 @@ import re
 
 KINDS = REFUSED, BY_NAME, PASSED, BAD, UNTRIED = "refused", "by name alone", "let through", "bad", "not tried"
 # A reason that says that a proof names what is not there, or uses one that does.
-NO_SUCH_NAME = re.compile(r"has no field|is not in scope|has no `|was not admitted|`goal\.[^`]*`: module `|which was rejected")
+NO_SUCH_NAME = re.compile(
+    r"has no field|is not in scope|has no `|was not admitted|`goal\.[^`]*`: module `|which was rejected"
+)
 # A form that the toolchain does not check, so that its refusal shows nothing.
 NOT_COVERED = re.compile(r"does not cover this function")
 HEAD = re.compile(r"( *)(?:pub(?:\([a-z ]+\))? )?(?:const )?(?:unsafe )?fn (\w+)")
-# A block of a type, and of no trait. A check names the functions there after the type and the type's module, wherever the block is.
+# A block of a type, and of no trait. A check names the functions there after the type and the type's module, wherever
+# the block is.
 BLOCK = re.compile(r"impl\b(?!.* for )(?:<.*?>)? (?:\w+::)*(\w+)")
 
 
@@ -59,7 +62,8 @@ class Plant:
 
 
 def function_at(text: str, at: int) -> str | None:
-    """The function around a place of a file in the layout of `rt fmt`, as `name`, or `Type::name` in a type's block, or None."""
+    """The function around a place of a file in the layout of `rt fmt`, as `name`, or `Type::name` in a type's block, or
+    None."""
     lines, number = text.split("\n"), text.count("\n", 0, max(at, 0))
     for first in range(number, -1, -1):
         head = HEAD.match(lines[first])

@@ -100,11 +100,14 @@ class OfTexts(unittest.TestCase):
         self.assertFalse(is_of("c::added", ("c::add",)))
 
     def test_what_a_check_says(self) -> None:
-        said = "fn c::add: not proved: it calls c::less\nfn c::less: no proof: 3 is no 2\nfn c::x: proved\nlogic=not-proved\n"
+        said = "fn c::add: not proved: it calls c::less\nfn c::less: no proof: 3 is no 2\nfn c::x: proved\n"
+        said += "logic=not-proved\n"
         self.assertEqual([name for name, _, _ in verdicts_in(said)], ["c::add", "c::less", "c::x"])
         fallen, reasons = fallen_in(said, verdicts_in(said))
         self.assertEqual(([name for name, _ in fallen], reasons), (["c::add", "c::less"], ["3 is no 2"]))
-        self.assertEqual((has_ended(said), is_proved(said), last_words(said).split(" / ")[-1]), (True, False, "logic=not-proved"))
+        self.assertEqual(
+            (has_ended(said), is_proved(said), last_words(said).split(" / ")[-1]), (True, False, "logic=not-proved")
+        )
         self.assertTrue(is_proved("logic=proved\n"))
         self.assertFalse(has_ended("error: a word\n"))
 
@@ -124,9 +127,8 @@ class OfTrials(unittest.TestCase):
         self.write("bin/rt", PROVER)
         os.chmod(f"{self.root}/bin/rt", 0o755)
         there = {"PATH": f"{self.root}/bin:{os.environ['PATH']}", "NOTED": f"{self.root}/noted"}
-        for patch in (mock.patch.object(copies, "ROOT", self.root), mock.patch.dict(os.environ, there)):
-            patch.start()
-            self.addCleanup(patch.stop)
+        self.enterContext(mock.patch.object(copies, "ROOT", self.root))
+        self.enterContext(mock.patch.dict(os.environ, there))
 
     def write(self, path: str, text: str) -> None:
         with open(f"{self.root}/{path}", "w", encoding="utf-8") as it:
@@ -174,7 +176,10 @@ class OfTrials(unittest.TestCase):
         self.assertEqual(self.tried(one=("a + 1", "a + 1 Syntax")), {"one": BAD})
 
     def test_one_outside_functions(self) -> None:
-        self.assertEqual(self.tried(one=("MOST: u64 = 7", "MOST: u64 = 8"), two=("use std::mem", "use std::cmp")), {"one": REFUSED, "two": PASSED})
+        self.assertEqual(
+            self.tried(one=("MOST: u64 = 7", "MOST: u64 = 8"), two=("use std::mem", "use std::cmp")),
+            {"one": REFUSED, "two": PASSED},
+        )
 
     def test_a_crate_that_is_not_proved(self) -> None:
         self.write("crates/c/src/lib.rt", SOURCE.replace("u64 { 2 }", "u64 { 9 }"))

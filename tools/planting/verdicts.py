@@ -48,9 +48,12 @@ def fallen_in(said: str, told: list[Verdict]) -> tuple[list[tuple[str, str]], li
 
 
 def reasons_in(said: str, name: str, rest: str) -> list[str]:
-    """Why a check says that a function is not proved: what is wrong in its proof's files, or else what its line says."""
+    """Why a check says that a function is not proved: what is wrong in its proof's files, or else what its line
+    says."""
     folder = "/".join(name.split("::")[1:])
-    return [" ".join(why.split()) for at, why in IN_PROOF.findall(said) if at == folder] or [rest.strip(": ") or "its line gives no reason"]
+    return [" ".join(why.split()) for at, why in IN_PROOF.findall(said) if at == folder] or [
+        rest.strip(": ") or "its line gives no reason"
+    ]
 
 
 def last_words(said: str) -> str:

@@ -176,7 +176,11 @@ OF_SOURCES = (
     Part("map", "whether the pages that are made of the sources are theirs", ("tools/map", "--check")),
     Part("style", "wide lines, words to avoid, copies", ("tools/check-style",)),
     Part("python", "the unit tests of the tools", ("tools/testing/units",)),
-    Part("linters", "shellcheck, ruff and mypy, those that are there", ("tools/testing/linters",)),
+    Part(
+        "linters",
+        "shellcheck, ruff (or pyflakes and pycodestyle) and mypy, those that are there",
+        ("tools/testing/linters",),
+    ),
 )
 
 

@@ -35,7 +35,8 @@ class Explainer(explaining.Explainer):
         words = item.words
         if words[0] in WHOLE:
             # (a clerk knows where the root directory is by a house, the replay by its console)
-            self.due(f"dump {house} 1", ("root", str(self.directories[1][0] if 1 in self.directories else 0), []))
+            epoch, _ = self.console.directories.get(1, (0, {}))
+            self.due(f"dump {house} 1", ("root", str(epoch), []))
             self.due(" ".join(words), (f"whole {words[0]}", " ".join(words), item.answer))
         elif words[0] in ("dump", "status"):
             self.due(f"dump {house} {words[1]}", (words[0], " ".join(words), item.answer))
