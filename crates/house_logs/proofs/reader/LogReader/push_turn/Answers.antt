@@ -4,5 +4,5 @@ use Rattle.house_logs.proofs.reader.LogReader.push_turn.Goals as goal
 
 pub returns-clause-read : goal.returns-clause-read
 returns-clause-read c bodies octets has is =
-    took_turn c.args.self.now _ bodies octets _ _ _ c.args.parts c.in-Some.turn has is (rw c.in-Some.is at c.in_ok-turn.ensures) c.requires.some
+    took_turn c.args.self.now _ bodies octets _ _ _ c.args.parts c.in-Some.turn has is (rw c.in-Some.is at c.in_ok-turn.ensures.some) c.requires.some
     c.requires.due c.requires.text refl refl refl refl c.in_ok-self.ensures.items c.in_ok-push.ensures.items

@@ -1,5 +1,4 @@
 use Rattle.std.proofs.Common.{refl, ap, ◌∙◌}
-use Rattle.std.proofs.lemmas.Bool.{OnTrue_at}
 use Rattle.house_logs.specs.Records.{with_image}
 use Rattle.house_logs.proofs.ReadingLemmas.{last_shown}
 use Rattle.house_logs.proofs.reader.LogReader.show.Goals as goal
@@ -7,5 +6,5 @@ use Rattle.house_logs.proofs.reader.LogReader.show.Goals as goal
 pub returns-clause-shows : goal.returns-clause-shows
 returns-clause-shows c = λ m.
     last_shown m c.args.self.now (record c.args.self.now { entries = c.push-2.new.self }) c.pop.new.self.items c.in-Some.last _ c.args.image.now _ c.in-Some.ensures.items c.image.ensures
-    (OnTrue_at c.if-not-can_be-2.false c.can_be-2.ensures) (c.with_image.ensures ∙ ap (λ i. with_image i c.in-Some.last) c.in_ok-shown.ensures)
+    (c.can_be-2.ensures.0 c.if-not-can_be-2.false) (c.with_image.ensures ∙ ap (λ i. with_image i c.in-Some.last) c.in_ok-shown.ensures)
     c.in_ok-push-2.ensures.items refl refl refl refl
