@@ -247,3 +247,20 @@ pub fault_called : {U F : Type 0} {P Q : F → Type 0} (r : Result U (AllocOr F)
 fault_called (Ok x) then q = tt
 fault_called (Err e) then q = fault_then e then q
 
+-- what was read does not know of the digest and the number of the segment
+pub read_kept : (read new : LogReader) (bodies : List (List ℕ)) → new.made ≡ read.made → new.image ≡ read.image → new.entries.items ≡ read.entries.items
+    → new.number ≡ read.number → new.clock ≡ read.clock → new.turn ≡ read.turn → HasRead read bodies → HasRead new bodies
+read_kept read new bodies made image es number clock turn has =
+    read_with new read.made bodies made (by read.made has.is)
+  where
+    by : (o : Option Making) → HasReadOf o read bodies → HasReadOf o new bodies
+    by None is = (is.0, number ∙ is.1, es ∙ is.2)
+    by (Some m) is = subst (IsLogOf bodies) (λ j. record {
+      house = m.house;
+      node = m.node;
+      image = sym image j;
+      entries = sym es j;
+      number = sym number j;
+      clock = sym clock j;
+      turn = (sym turn j).items;
+    }) is

@@ -250,7 +250,7 @@ no_body bodies o none is = let b = house_body bodies o is in none b.number b.clo
 
 records_front : (bs others : List (List ℕ)) (a s : Told) → AreRecords a (bs ++ others) s → (mid : Told) × AreRecords a bs mid
 records_front [] others a s all = (a, refl)
-records_front (b ∷ bs) others a s all = let rest = records_front bs others all.0 s all.2 in (rest.0, all.0, all.1, rest.1)
+records_front (b ∷ bs) others a s all = let rest = records_front bs others all.0 s all.2 in (rest.0, (all.0, all.1, rest.1))
 
 log_front : (bodies others : List (List ℕ)) (s : Told) → Log (bodies ++ others) s → All IsNew bodies ⊎ ((mid : Told) × Log bodies mid)
 log_front [] others s log = inl (All-nil IsNew)

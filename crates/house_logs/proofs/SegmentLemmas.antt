@@ -1,6 +1,8 @@
 -- Segments: a head, and the records after it.
-use Rattle.std.proofs.Common.{◌≡◌, ◌≢◌, ℕ, ◌+◌, inl, inr, List, [], ◌∷◌, ◌++◌, length, take, drop, slice_index, refl, sym, ◌∙◌, ap, subst, append_assoc, append-nil, length-append, arith}
+use Rattle.std.proofs.Common.{◌≡◌, ◌≢◌, ℕ, ◌+◌, inl, inr, true, false, List, [], ◌∷◌, ◌++◌, length, take, drop, slice_index, refl, sym, ◌∙◌, ap, subst, append_assoc, append-nil, length-append, arith}
 use Rattle.std.specs.Prelude.{codes, decimal}
+use Rattle.std.specs.Bool.{Decides}
+use Rattle.std.proofs.lemmas.Bool.{false≢true}
 use Rattle.std.proofs.lemmas.Grind.{common_steps}
 use Rattle.std.proofs.lemmas.List.{append_cancel_left}
 use Rattle.std.proofs.Math.Seq.{take-append_seam}
@@ -67,6 +69,18 @@ head_body title head ends before back body parts split size is =
     let whole : (title ++ before) ++ back ≡ body ++ digest_after before body =
     append_assoc title before back ∙ ap (λ (l : List ℕ). title ++ l) (sym split) ∙ sym parts ∙ is in
     sym (same_parts (title ++ before) back body (digest_after before body) whole (size ∙ sym (length-sha256 (before ++ body)))).0
+
+-- ---- heads of other versions
+
+pub no_head : (head : List ℕ) → ((rest : List ℕ) → head ≢ codes "cdshouse journal " ++ rest) → Decides false (IsOtherHead head)
+no_head head none = (λ e. absurd (false≢true e), λ is. absurd (none is.begins.0 is.begins.1))
+
+pub this_head : (head rest : List ℕ) → head ≡ codes "cdshouse journal 2 " ++ rest → Decides false (IsOtherHead head)
+this_head head rest parts = (λ e. absurd (false≢true e), λ is. absurd (is.other rest parts))
+
+pub other_head : (head rest : List ℕ) → head ≡ codes "cdshouse journal " ++ rest → ((behind : List ℕ) → head ≢ codes "cdshouse journal 2 " ++ behind)
+    → Decides true (IsOtherHead head)
+other_head head rest parts none = (λ e. record { begins = (rest, parts); other = none }, λ is. refl)
 
 -- ---- faults of heads
 
@@ -208,6 +222,7 @@ first_in (r ∷ rs) = r
 
 -- where no record goes on, a chain ends
 chain_stops : (digest : List ℕ) (records bodies : List (List ℕ)) → GoesNotOn digest records → records ≡ chained digest bodies → bodies ≡ []
+unfolding first_in
 chain_stops digest records [] stops is = refl
 chain_stops digest [] (b ∷ bodies) stops is = absurd (cc (is))
 chain_stops digest (next ∷ records) (b ∷ bodies) stops is = absurd (stops b (ap first_in is))
@@ -365,12 +380,13 @@ goes_on_from number before octets front others more whole part =
 
 no_break : (number : ℕ) (before octets after : List ℕ) (front others more rest : List (List ℕ)) → IsSegment number before octets more after
     → more ≡ front ++ rest → others ≡ chained (digest_in number before front) rest → BreaksOff (digest_in number before front) octets others → ⊥
-no_break number before octets after front [] more [] is whole chain breaks =
-    breaks (subst (λ (d : List ℕ). HasEnded d octets)
+unfolding first_in
+no_break number before octets after front [] more [] is whole chain broken =
+    broken (subst (λ (d : List ℕ). HasEnded d octets)
     (is.last ∙ ap (λ (l : List (List ℕ)). digest_in number before l) (whole ∙ append-nil front)) is.ended)
-no_break number before octets after front [] more (b ∷ rest) is whole chain breaks = absurd (cc (chain))
-no_break number before octets after front (next ∷ others) more [] is whole chain breaks = absurd (cc (chain))
-no_break number before octets after front (next ∷ others) more (b ∷ rest) is whole chain breaks = breaks b (ap first_in chain)
+no_break number before octets after front [] more (b ∷ rest) is whole chain broken = absurd (cc (chain))
+no_break number before octets after front (next ∷ others) more [] is whole chain broken = absurd (cc (chain))
+no_break number before octets after front (next ∷ others) more (b ∷ rest) is whole chain broken = broken b (ap first_in chain)
 
 -- the next record of a house is of it
 no_bad : (number : ℕ) (before : List ℕ) (bodies : List (List ℕ)) (octets : List ℕ) (front more others : List (List ℕ)) (body : List ℕ)

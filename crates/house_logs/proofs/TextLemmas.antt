@@ -1,14 +1,22 @@
 -- Texts by their lines.
 use Rattle.std.proofs.Common.{◌≡◌, ◌≢◌, ◌<◌, ◌≤◌, ◌+◌, ℕ, List, [], ◌∷◌, ◌++◌, length, take, drop, slice_index, refl, sym, ◌∙◌, ap, subst, arith, append_assoc, append-nil, length-append}
-use Rattle.std.specs.Prelude.{◌==◌, if◌then◌else◌, false, Option, Some, None, Ok, Err, codes}
+use Rattle.std.specs.Prelude.{◌==◌, if◌then◌else◌, Bool, true, false, IfNone, IfOk, IfSome, Option, Some, None, Result, Ok, Err, codes}
 use Rattle.std.specs.List.{AllByRecursion}
 use Rattle.std.proofs.lemmas.List.{append_cancel_left}
 use Rattle.std.proofs.lemmas.List.Elements.{All-head, All-tail}
 use Rattle.std.proofs.Math.Seq.{drop-append_seam, take-append_seam}
+use Rattle.std.specs.Bool.{Decides, OnFalse}
+use Rattle.std.specs.Borrow.{Bor}
+use Rattle.std.proofs.lemmas.Bool.{false≢true}
+use Rattle.std.proofs.lemmas.Bool.Decides.{nat_tests}
+use Rattle.cds_stamps.specs.Outcomes.{Answers}
+use Rattle.cds_stamps.specs.declared.alloc_or.AllocOr.{AllocOr}
+use Rattle.cds_stamps.specs.declared.alloc_or.AllocOr.TheVariants.{Fault, OutOfMemory}
 use Rattle.cds_stamps.specs.declared.numbers.HouseNo.{HouseNo}
+use Rattle.house_logs.specs.Reads.{OfFault}
 use Rattle.cell_script.specs.declared.fault.ParseFault.{ParseFault}
 use Rattle.cell_script.specs.declared.fault.ParseFault.TheVariants.{WrongCount}
-use Rattle.cell_script.specs.WordForms.{◌>>=◌, House, Octets, Words, check_count, next_word, said_at, take_words}
+use Rattle.cell_script.specs.WordForms.{◌>>=◌, House, Octets, Takes, Words, check_count, next_word, said_at, take_words}
 use Rattle.cell_script.specs.Words.{house_of, octets_of, words_of}
 use Rattle.house_logs.specs.declared.log.PostedOctets.{PostedOctets}
 use Rattle.house_logs.specs.PrivateReads.{AreRunning, AreSaid, IsAfterRunning, IsTurnText}
@@ -256,13 +264,23 @@ turn_line_is text line other answer answer' posts posts' one two =
 -- a word that says something
 word_said : {A : Type 0} (says : List ℕ → Option A) (read : ℕ) (w : List ℕ) (ws : List (List ℕ)) (x : A) (left : Words)
     → next_word says read (w ∷ ws) ≡ Ok (x, left) → (says w ≡ Some x) × (left.rest ≡ ws)
-word_said {A} says read w ws x left is = by (says w) refl is
+word_said {A} says read w ws x left is = by (says w) refl
   where
-    by : (o : Option A) → says w ≡ o → (said_at (read + 1) o >>= λ y. Ok (y, record { read = read + 1; rest = ws })) ≡ Ok (x, left) → (says w ≡ Some x) × (left.rest ≡ ws)
-    by None said is = absurd (cc (is))
-    by (Some y) said is =
-        let pair : (y, record { read = read + 1; rest = ws }) ≡ (x, left) = cc (is) in
-        (said ∙ ap (λ (p : A × Words). Some p.0) pair, sym (ap (λ (p : A × Words). p.1.rest) pair))
+    by : (o : Option A) → says w ≡ o → (says w ≡ Some x) × (left.rest ≡ ws)
+    by None said = let none = rw said at is in absurd (cc (none))
+    by (Some y) said =
+        let one : A × Words = (y, record { read = read + 1; rest = ws }) in
+        let other : A × Words = (x, left) in
+        let some = rw said at is in
+        let same : one ≡ other = cc (some) in
+        (said ∙ ap (λ (p : A × Words). Some p.0) same, sym (ap (λ (p : A × Words). p.1.rest) same))
+
+three_counted : (s : Words) (w u v : List ℕ) (us : List (List ℕ)) → s.rest ≡ w ∷ u ∷ v ∷ us → check_count false 2 s ≡ Ok tt → ⊥
+unfolding check_count
+three_counted s w u v us is count =
+    let off : (length (w ∷ u ∷ v ∷ us) == 2) ≡ false = grind (arith, nat_tests) in
+    let so = rw (is, off) at count in
+    absurd (cc (so))
 
 pub words_are : (ws : List (List ℕ)) (s mid left : Words) (to : HouseNo) (octets : List ℕ) → s.rest ≡ ws → check_count false 2 s ≡ Ok tt
     → take_words House s ≡ Ok (to, mid) → take_words Octets mid ≡ Ok (octets, left) → AreWordsOf ws (record { to = to; octets = octets })
@@ -280,7 +298,7 @@ words_are (w ∷ ws) s mid left to octets rest count house digits =
         let second = word_said octets_of mid.read u [] octets left digits in
         record { to = w; digits = u; two = refl; house = first.0; octets = second.0 }
     by (u ∷ v ∷ us) rest first digits =
-        absurd (cc (sym (ap (λ (l : List (List ℕ)). if length l == 2 then Ok tt else Err (WrongCount (s.read + length l))) rest) ∙ count))
+        absurd (three_counted s w u v us rest count)
 
 two_counted : (s : Words) (p : PostedOctets) → AreWordsOf s.rest p → check_count false 2 s ≡ Ok tt
 unfolding check_count
@@ -308,5 +326,42 @@ house_is s f is p words = absurd (cc (sym is ∙ house_taken s p words))
 pub octets_is : (s mid : Words) (to : HouseNo) (f : ParseFault) → take_words House s ≡ Ok (to, mid) → take_words Octets mid ≡ Err f
     → (p : PostedOctets) → ¬ AreWordsOf s.rest p
 octets_is s mid to f house is p words =
-    let pair : (to, mid) ≡ (p.to, record { read = s.read + 1; rest = words.digits ∷ [] }) = cc (sym house ∙ house_taken s p words) in
-    absurd (cc (sym is ∙ octets_taken mid p words.digits (ap (λ (x : HouseNo × Words). x.1.rest) pair) words.octets))
+    let one : HouseNo × Words = (to, mid) in
+    let other : HouseNo × Words = (p.to, record { read = s.read + 1; rest = words.digits ∷ [] }) in
+    let both = sym house ∙ house_taken s p words in
+    let same : one ≡ other = cc (both) in
+    let rest : mid.rest ≡ words.digits ∷ [] = ap (λ (x : HouseNo × Words). x.1.rest) same in
+    let none = sym is ∙ octets_taken mid p words.digits rest words.octets in
+    absurd (cc (none))
+
+-- the words after the first one
+pub behind_first : (old new : Words) (o : Option (Bor (List ℕ))) → IfSome o (λ w. old.rest ≡ w.now ∷ new.rest) → IfNone o (old.rest ≡ []) → IfNone o (new ≡ old)
+    → drop 1 old.rest ≡ new.rest
+behind_first old new (Some w) some none same = ap (λ (l : List (List ℕ)). drop 1 l) some
+behind_first old new None some none same =
+    ap (λ (l : List (List ℕ)). drop 1 l) none ∙ sym (ap (λ (s : Words). s.rest) same ∙ none)
+
+-- ---- answers
+
+pub answers_fault : {T : Type 0} (e : AllocOr ParseFault) (expected : Result T ParseFault) → Answers {T = T} {E = ParseFault} (Err e) expected
+    → OfFault e (λ f. expected ≡ Err f)
+answers_fault (Fault f) expected is = is
+answers_fault OutOfMemory expected is = tt
+
+pub takes_fault : {A : Type 0} (e : AllocOr ParseFault) (left : Words) (expected : Result (A × Words) ParseFault) → Takes {A = A} (Err e) left expected
+    → OfFault e (λ f. expected ≡ Err f)
+takes_fault (Fault f) left expected is = is
+takes_fault OutOfMemory left expected is = tt
+
+-- what is not so
+pub decides_none : {P : Type 0} → ¬ P → Decides false P
+decides_none none = (λ e. absurd (false≢true e), λ p. absurd (none p))
+
+pub decides_off : {P : Type 0} (b : Bool) → b ≡ false → ¬ P → Decides b P
+decides_off b off none = (λ on. absurd (false≢true (sym off ∙ on)), λ p. absurd (none p))
+
+-- what follows where a test fails
+pub refused_then : {E P Q : Type 0} (r : Result Bool E) → (P → Q) → IfOk r (λ b. OnFalse b P) → IfOk r (λ b. OnFalse b Q)
+refused_then (Ok true) gives is = tt
+refused_then (Ok false) gives is = gives is
+refused_then (Err e) gives is = tt

@@ -84,11 +84,17 @@ fn kept_line(alloc: Global, line: &[u8], order: &LoggedOrder) -> Result<Octets, 
 }
 
 // Whether a record begins as a head, and not as one of this version.
+#[tactic(auto, using(crate::proofs::SegmentLemmas::other_head))]
 fn is_other_head(head: &[u8]) -> bool
     ensures { Decides result (IsOtherHead head.now) }
 {
-    without(b"cdshouse journal ", head).is_some()
-        && without(b"cdshouse journal 2 ", head).is_none()
+    let Some(_) = without(b"cdshouse journal ", head) else {
+        return false;
+    };
+    let Some(_) = without(b"cdshouse journal 2 ", head) else {
+        return true;
+    };
+    false
 }
 
 // The digest that a head names, and its own.
@@ -255,9 +261,9 @@ impl LogReader {
             Err(fault) => return Err(AllocOr::Fault(fault)),
         };
         let chain = self.read_chain(alloc, number, head.digest, head.rest)?;
-        if last_record(&title, octets).is_none() {
+        let Some(_) = last_record(&title, octets) else {
             return Err(AllocOr::Fault(LogFault::Damaged(number, chain.place)));
-        }
+        };
         let digest = chain.digest;
         self.digest = digest;
         self.segments = number;
@@ -360,12 +366,21 @@ impl LogReader {
         ensures other { IfSome result (λ due. body.now.number ≢ due) }
         ensures none { IfSome result (λ due. ¬ CanFollow self.now body.now) }
     {
-        let due = if is_entry(body) {
-            self.number.checked_add(1)?
-        } else {
-            self.number
-        };
+        let due = self.due_number(body)?;
         if body.number == due { None } else { Some(due) }
+    }
+
+    // The number that is due: that of the next entry, or of the last one; none, if there is no next.
+    fn due_number(&self, body: &Body<'_>) -> Option<u64>
+        ensures is { IfSome result (λ due. (due ≡ self.now.number) ⊎ (due ≡ self.now.number + 1)) }
+        ensures due { IfSome result
+            (λ due. CanFollow self.now body.now → body.now.number ≡ due) }
+    {
+        if !is_entry(body) {
+            return Some(self.number);
+        }
+        let due = self.number.checked_add(1)?;
+        Some(due)
     }
 
     // Whether the number of an entry is the next one.

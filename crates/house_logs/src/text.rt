@@ -49,7 +49,6 @@ pub(crate) fn without<'a>(front: &[u8], text: &'a [u8]) -> Option<&'a [u8]>
 }
 
 // Whether a text is lines of skulks that run.
-#[tactic(auto, using(crate::proofs::TextLemmas::alike_none, crate::proofs::TextLemmas::alike_more, crate::proofs::TextLemmas::running_not, crate::proofs::TextLemmas::running_endless, crate::proofs::TextLemmas::running_done))]
 fn are_running(text: &[u8]) -> bool
     ensures { Decides result (AreRunning text.now) }
 {
@@ -67,7 +66,6 @@ fn are_running(text: &[u8]) -> bool
 }
 
 /// Whether octets are lines of skulks that run, and then this text.
-#[tactic(auto, using(crate::proofs::TextLemmas::after_parts, crate::proofs::TextLemmas::parts_after, crate::proofs::TextLemmas::few_running))]
 pub(crate) fn is_after_running(octets: &[u8], text: &[u8]) -> bool
     ensures { Decides result (IsAfterRunning octets.now text.now) }
 {
@@ -142,7 +140,6 @@ struct Said<'a> {
 }
 
 // The messages and the answer that a text is.
-#[tactic(auto, using(crate::proofs::TextLemmas::parts_none, crate::proofs::TextLemmas::parts_more, crate::proofs::TextLemmas::parts_bad, crate::proofs::TextLemmas::parts_long, crate::proofs::TextLemmas::parts_all, crate::proofs::TextLemmas::parts_endless))]
 fn said_part(alloc: Global, text: &[u8]) -> Result<Option<Said<'_>>, AllocError>
     ensures { IfOk result (λ o. MatchOption o
         ((posts : List PostedOctets') (answer : List ℕ) → ¬ AreSaid text.now posts answer)
@@ -151,7 +148,7 @@ fn said_part(alloc: Global, text: &[u8]) -> Result<Option<Said<'_>>, AllocError>
     let mut posts = Vec::new(alloc);
     let mut rest = text;
     'lines: while let Some((line, behind)) = first_line(rest) {
-        if without(b"post ", line).is_none() {
+        let Some(_) = without(b"post ", line) else {
             if !behind.is_empty() {
                 return Ok(None);
             }
@@ -159,7 +156,7 @@ fn said_part(alloc: Global, text: &[u8]) -> Result<Option<Said<'_>>, AllocError>
                 posts,
                 answer: line,
             }));
-        }
+        };
         let Some(post) = post_in(alloc, line)? else {
             return Ok(None);
         };
@@ -170,7 +167,6 @@ fn said_part(alloc: Global, text: &[u8]) -> Result<Option<Said<'_>>, AllocError>
 }
 
 /// The turn that a text is, in its parts; none, if it is none.
-#[tactic(auto, using(crate::proofs::TextLemmas::turn_none, crate::proofs::TextLemmas::turn_other, crate::proofs::TextLemmas::turn_said))]
 pub(crate) fn turn_in(alloc: Global, text: &[u8]) -> Result<Option<TurnText<'_>>, AllocError>
     ensures { IfOk result (λ o. MatchOption o
         ((line : List ℕ) (posts : List PostedOctets') (answer : List ℕ)

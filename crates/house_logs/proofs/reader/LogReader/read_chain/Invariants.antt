@@ -7,7 +7,7 @@ abbrev pub invariant-records : goal.invariant-records
 invariant-records l = record {
   digest : l.self.digest ≡ l.fn.self.digest;
   segments : l.self.segments ≡ l.fn.self.segments;
-  read : (bodies : List (List ℕ)) → HasRead l.fn.self bodies → HasChained l.before l.octets l.rest l.digest bodies l.place l.self;
+  read : (bodies : List (List ℕ)) → HasRead l.fn.self bodies → HasChained l.fn.before l.octets l.rest l.digest bodies l.place l.self;
   few : l.place + length l.rest ≤ length l.octets + 2;
 }
 
