@@ -223,13 +223,12 @@ some_damaged : (place : ℕ) (fs : List FolderOctets) (rs : List FolderLog) → 
 some_damaged place [] [] are some = absurd (some refl)
 some_damaged place [] (r ∷ rs) are some = absurd are
 some_damaged place (f ∷ fs) [] are some = absurd are
-some_damaged place (f ∷ fs) (r ∷ rs) are some = by r.fault refl are.0
+some_damaged place (f ∷ fs) (r ∷ rs) are some = by r.fault refl are.0 (λ left. some_damaged (place + 1) fs rs are.1 left)
   where
-    by : (fault : Option FolderFault) → r.fault ≡ fault → IsReadTo f r.log fault → HasDamaged (f ∷ fs)
-    by (Some fault) is read = record { front = []; folder = f; others = fs; parts = refl; damaged = begun_damaged f fault r.log read }
-    by None is read =
-        let rest = some_damaged (place + 1) fs rs are.1
-        (λ none. some (ap (λ (o : Option FolderFault). fault_at place o ++ faults_in (place + 1) rs) is ∙ none)) in
+    by : (fault : Option FolderFault) → r.fault ≡ fault → IsReadTo f r.log fault → (faults_in (place + 1) rs ≢ [] → HasDamaged fs) → HasDamaged (f ∷ fs)
+    by (Some fault) is read more = record { front = []; folder = f; others = fs; parts = refl; damaged = begun_damaged f fault r.log read }
+    by None is read more =
+        let rest = more (λ none. some (ap (λ (o : Option FolderFault). fault_at place o ++ faults_in (place + 1) rs) is ∙ none)) in
         record {
           front = f ∷ rest.front;
           folder = rest.folder;
