@@ -33,8 +33,8 @@ abbrev pub no_digest : List ℕ
 no_digest = replicate 32 0
 
 -- this is the fault of the segments after the first ones, so many, whose records have these bodies,
--- the last one with this digest: the next one is not there; or its octets have the fault, after good
--- records with the bodies of the front
+-- the last one with this digest: the next one is not there; or its octets have the fault, after
+-- good records with the bodies of the front
 abbrev pub Stops : (how : FolderEnd) → (whole : ℕ) → (before : List ℕ) → (own front : List (List ℕ))
     → (others : List (List ℕ)) → FolderFault → Type 0
 Stops how whole before own front [] (why.Missing n) =

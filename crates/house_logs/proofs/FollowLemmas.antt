@@ -1,5 +1,5 @@
 -- Records that cannot be the next ones.
-use Rattle.std.proofs.Common.{◌≡◌, ◌≢◌, ℕ, ◌+◌, Bool, true, false, List, [], ◌∷◌, ◌++◌, length, drop, slice_index, Option, Some, None, Ok, refl, sym, ◌∙◌, ap, subst, append_assoc, length-append, arith}
+use Rattle.std.proofs.Common.{◌≡◌, ◌≢◌, ℕ, ◌+◌, false, List, [], ◌∷◌, ◌++◌, length, drop, slice_index, Option, Some, None, Ok, refl, sym, ◌∙◌, ap, subst, append_assoc, length-append, arith}
 use Rattle.std.specs.Prelude.{codes, decimal, is_none, option_copied}
 use Rattle.std.proofs.lemmas.List.{append_cancel_left}
 use Rattle.std.proofs.lemmas.List.Elements.{All-cons, All-nil}
@@ -15,7 +15,7 @@ use Rattle.house_logs.specs.Logs.{making_text}
 use Rattle.house_logs.specs.Orders.{line_of}
 use Rattle.house_logs.specs.PrivateReads.{AsMaking, AsNew, AsSegment, AsStart, AsTurn, CanBeNew, CanFollow, CanGoOn, CanMake, CanStart, CanTurn, IsAfterRunning, IsTurnText, MakesHouse, known_in}
 use Rattle.house_logs.specs.Records.{CanBe, image_of}
-use Rattle.house_logs.specs.TurnTexts.{AreParts, HasNoEnd, IsAnswer, IsPost, post_line, posts_text, turn_text}
+use Rattle.house_logs.specs.TurnTexts.{HasNoEnd, IsAnswer, posts_text, turn_text}
 use Rattle.house_logs.proofs.RecordLemmas.{known_end}
 use Rattle.house_logs.proofs.TextLemmas.{one_line, turn_line_is}
 

@@ -1,5 +1,5 @@
 -- The records of a house, one after the other, and which one can be the next.
-use Rattle.std.proofs.Common.{◌≡◌, ℕ, ◌+◌, inl, inr, ◌⊎◌, false, List, [], ◌∷◌, ◌++◌, Option, Some, None, refl, sym, ◌∙◌, ap, subst, arith, append_assoc}
+use Rattle.std.proofs.Common.{◌≡◌, ℕ, ◌+◌, inl, inr, ◌⊎◌, List, [], ◌∷◌, ◌++◌, Option, Some, None, refl, sym, ◌∙◌, ap, subst, arith, append_assoc}
 use Rattle.std.specs.Prelude.{All, codes, decimal, is_none, option_copied}
 use Rattle.std.proofs.lemmas.List.Elements.{All-cons, All-head, All-nil, All-tail}
 use Rattle.house_entries.specs.Bodies.{IsBody}
@@ -7,19 +7,18 @@ use Rattle.house_entries.specs.declared.body.Body.{Body}
 use Rattle.house_entries.proofs.BodyLemmas.{one_record}
 use Rattle.house_logs.specs.declared.log.LogEntry.{LogEntry}
 use Rattle.house_logs.specs.declared.log.LogEntry.TheVariants as entry
-use Rattle.house_logs.specs.declared.log.LoggedTurn.{LoggedTurn}
 use Rattle.house_logs.specs.declared.log.Making.{Making}
 use Rattle.house_logs.specs.declared.reader.LogReader.{LogReader}
 use Rattle.house_logs.specs.Faults.{HasLast}
 use Rattle.house_logs.specs.Logs.{AreOfHouse, Begins, IsLogOf, IsNew, making_text}
 use Rattle.house_logs.specs.PrivateReads.{AsMaking, AsNew, AsSegment, AsStart, AsTurn, CanFollow, IsDue, known_in}
 use Rattle.house_logs.specs.Reads.{HasRead, HasReadOf, told_of}
-use Rattle.house_logs.specs.Records.{AreRecords, CanBe, Follows, OfEntry, OfMaking, SegmentRecord, Shows, StartRecord, Told, TurnRecord, after_start, after_turn, image_of, running_text, segment_text, with_image}
+use Rattle.house_logs.specs.Records.{AreRecords, CanBe, Follows, OfEntry, OfMaking, SegmentRecord, Shows, StartRecord, Told, TurnRecord, image_of, running_text, segment_text, with_image}
 use Rattle.house_logs.specs.TurnTexts.{turn_text}
 
 -- ---- a journal, record by record
 
--- the same by recursion: records that are new, then the one that makes the house, then others
+-- a journal by recursion: records that are new, then the one that makes the house, then others
 abbrev pub Log : List (List ℕ) → Told → Type 0
 Log [] s = ⊥
 Log (b ∷ bs) s = (IsNew b × Log bs s) ⊎ ((begun : Told) × Begins b begun × AreRecords begun bs s)
@@ -155,7 +154,7 @@ fields_of s b end (SegmentRecord image body shows) =
 
 -- ---- records say one thing
 
--- the same is known, and the same record is the next
+-- of both one thing is known, and one record is the next
 pub record AreAlike (s t : Told) : Type 0 where
   pub number : s.number ≡ t.number
   pub clock : s.clock ≡ t.clock

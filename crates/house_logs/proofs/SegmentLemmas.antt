@@ -1,9 +1,8 @@
 -- Segments: a head, and the records after it.
-use Rattle.std.proofs.Common.{◌≡◌, ◌≢◌, ℕ, ◌+◌, inl, inr, true, false, List, [], ◌∷◌, ◌++◌, length, take, drop, slice_index, refl, sym, ◌∙◌, ap, subst, append_assoc, append-nil, length-append, arith}
+use Rattle.std.proofs.Common.{◌≡◌, ◌≢◌, ℕ, ◌+◌, inl, inr, true, false, List, [], ◌∷◌, ◌++◌, length, take, drop, refl, sym, ◌∙◌, ap, subst, append_assoc, append-nil, length-append, arith}
 use Rattle.std.specs.Prelude.{codes, decimal}
 use Rattle.std.specs.Bool.{Decides}
 use Rattle.std.proofs.lemmas.Bool.{false≢true}
-use Rattle.std.proofs.lemmas.Grind.{common_steps}
 use Rattle.std.proofs.lemmas.List.{append_cancel_left}
 use Rattle.std.proofs.Math.Seq.{take-append_seam}
 use Rattle.sha2.proofs.Facts256.{length-sha256}
@@ -18,10 +17,10 @@ use Rattle.house_logs.specs.declared.fault.LogFault.TheVariants as why
 use Rattle.house_logs.specs.declared.reader.Chain.{Chain}
 use Rattle.house_logs.specs.declared.reader.Head.{Head}
 use Rattle.house_logs.specs.declared.reader.LogReader.{LogReader}
-use Rattle.house_logs.specs.Faults.{BreaksOff, HasNoHead, IsCutOff, IsFaultOf, IsOfNext, IsOfOther, IsOfRecord, IsOtherHead, NamesOther}
+use Rattle.house_logs.specs.Faults.{BreaksOff, HasNoHead, IsFaultOf, IsOfNext, IsOfOther, IsOfRecord, IsOtherHead, NamesOther}
 use Rattle.house_logs.specs.Logs.{AreOfHouse, HasEnded, IsSegment, digest_in, records_of}
 use Rattle.house_logs.specs.PrivateReads.{GoesNotOn, IsAfterHead, ReadsChain, StopsAt}
-use Rattle.house_logs.specs.Reads.{HasRead, ReadsFront, ReadsOn}
+use Rattle.house_logs.specs.Reads.{HasRead, ReadsFront}
 use Rattle.house_logs.proofs.RecordLemmas.{house_front}
 use Rattle.house_logs.proofs.TextLemmas.{same_parts}
 
@@ -39,7 +38,7 @@ titled number title before is = ap (λ (t : List ℕ). t ++ before) is ∙ head_
 sealed_parts : (title given : List ℕ) → sealed given (title ++ given) ≡ title ++ (given ++ digest_after given (title ++ given))
 sealed_parts title given = append_assoc title given (digest_after given (title ++ given))
 
--- octets that are no head: they begin otherwise; or too few or too many follow; or these do not end in its digest
+-- octets that are no head: they begin otherwise; too few or too many follow; or the digest is another
 pub untitled : (title head : List ℕ) → ((rest : List ℕ) → head ≢ title ++ rest) → (given : List ℕ) → length given ≡ 32 → head ≢ sealed given (title ++ given)
 untitled title head other given size is = other (given ++ digest_after given (title ++ given)) (is ∙ sealed_parts title given)
 

@@ -1,5 +1,5 @@
 -- Texts by their lines.
-use Rattle.std.proofs.Common.{◌≡◌, ◌≢◌, ◌<◌, ◌≤◌, ◌+◌, ℕ, List, [], ◌∷◌, ◌++◌, length, take, drop, slice_index, refl, sym, ◌∙◌, ap, subst, arith, append_assoc, append-nil, length-append}
+use Rattle.std.proofs.Common.{◌≡◌, ◌≢◌, ◌<◌, ◌+◌, ℕ, List, [], ◌∷◌, ◌++◌, length, take, drop, slice_index, refl, sym, ◌∙◌, ap, subst, arith, append_assoc, length-append}
 use Rattle.std.specs.Prelude.{◌==◌, if◌then◌else◌, Bool, true, false, IfNone, IfOk, IfSome, Option, Some, None, Result, Ok, Err, codes}
 use Rattle.std.specs.List.{AllByRecursion}
 use Rattle.std.proofs.lemmas.List.{append_cancel_left}
@@ -21,7 +21,7 @@ use Rattle.cell_script.specs.Words.{house_of, octets_of, words_of}
 use Rattle.house_logs.specs.declared.log.PostedOctets.{PostedOctets}
 use Rattle.house_logs.specs.PrivateReads.{AreRunning, AreSaid, IsAfterRunning, IsTurnText}
 use Rattle.house_logs.specs.Records.{running_text}
-use Rattle.house_logs.specs.TurnTexts.{AreParts, AreWordsOf, HasNoEnd, IsAnswer, IsPost, post_line, posts_text, turn_text}
+use Rattle.house_logs.specs.TurnTexts.{AreWordsOf, HasNoEnd, IsPost, post_line, posts_text}
 
 -- ---- what a text begins with
 

@@ -53,7 +53,8 @@ IsOfOther (head ∷ records) = IsOtherHead head
 -- there is none, or it is no head of the segment with this number, of no version
 abbrev pub HasNoHead : (number : ℕ) → (records : List (List ℕ)) → Type 0
 HasNoHead number [] = Unit {0}
-HasNoHead number (head ∷ records) = ¬ IsOtherHead head × ((given : List ℕ) → ¬ IsHead number given head)
+HasNoHead number (head ∷ records) =
+    ¬ IsOtherHead head × ((given : List ℕ) → ¬ IsHead number given head)
 
 -- it is the head of the segment with this number, and names another digest than this one
 abbrev pub NamesOther : (number : ℕ) → (before : List ℕ) → (records : List (List ℕ)) → Type 0
@@ -118,8 +119,8 @@ pub record IsOfNext (number : ℕ) (before : List ℕ) (bodies : List (List ℕ)
   pub is : IsOfRecord number (length front + 2) (bodies ++ front) body f
 
 -- octets after records of a house with these bodies, the last one with this digest, are not the
--- whole segment with this number, or not of the house: this is the fault of the first record that is
--- bad, after good ones with these bodies
+-- whole segment with this number, or not of the house: this is the fault of the first bad record,
+-- after good ones with these bodies
 abbrev pub IsFaultOf : (number : ℕ) → (before : List ℕ) → (bodies : List (List ℕ))
     → (octets : List ℕ) → (front : List (List ℕ)) → LogFault → Type 0
 IsFaultOf number before bodies octets front (fault.OtherVersion n) =

@@ -1,20 +1,18 @@
 // The journal of a house, read segment by segment.
-ghost use Rattle.std.specs.Prelude.{◌≡◌, ◌≢◌, ◌⊎◌, ◌<◌, ◌+◌, ◌^◌, ◌++◌, ◌∷◌, [], ℕ, List, false, length, Ok, Some, None, All, replicate, IfErr, IfNone, IfOk, IfSome, OnOk, MatchOption, MatchResult, codes, decimal, is_none, option_copied};
+ghost use Rattle.std.specs.Prelude.{◌≡◌, ◌≢◌, ◌⊎◌, ◌<◌, ◌+◌, ◌^◌, ◌++◌, ◌∷◌, [], ℕ, List, false, length, Ok, Some, None, All, replicate, IfErr, IfNone, IfOk, IfSome, OnOk, MatchOption, codes, decimal, is_none, option_copied};
 ghost use Rattle.std.specs.Bool.{Decides, OnFalse, OnTrue};
 ghost use Rattle.cell_script.specs.Words.{words_of};
 ghost use Rattle.house_entries.specs.Bodies.{IsBody, head_of};
-ghost use Rattle.house_journal.specs.JournalRecords.{images};
 ghost use Rattle.house_lines.specs.LineRows.{said_in};
 ghost use Rattle.house_lines.specs.declared.line.HouseLine.{HouseLine as HouseLine'};
 ghost use Rattle.house_segments.specs.Chains.{digest_after, sealed};
-ghost use Rattle.house_segments.specs.Reading.{IsSegment};
-ghost use Rattle.house_logs.specs.Faults.{HasOtherNumber, IsFaultOf, IsOfRecord, IsOtherHead};
-ghost use Rattle.house_logs.specs.Logs.{IsJournalOf, IsNew, digest_in, records_of};
+ghost use Rattle.house_logs.specs.Faults.{IsFaultOf, IsOfRecord, IsOtherHead};
+ghost use Rattle.house_logs.specs.Logs.{IsJournalOf, IsNew};
 ghost use Rattle.house_logs.specs.declared.log.LoggedTurn.{LoggedTurn as LoggedTurn'};
 ghost use Rattle.house_logs.specs.declared.log.Making.{Making as Making'};
 ghost use Rattle.house_logs.specs.declared.reader.LogReader.{LogReader as LogReader'};
 ghost use Rattle.house_logs.specs.Orders.{line_of};
-ghost use Rattle.house_logs.specs.PrivateReads.{CanBeNew, CanFollow, CanGoOn, CanMake, CanStart, CanTurn, IsAfterHead, IsDue, IsMadeBy, IsTurnBy, IsTurnText, MakesHouse, ReadsChain, StopsAt, known_in};
+ghost use Rattle.house_logs.specs.PrivateReads.{CanFollow, CanGoOn, CanMake, CanStart, CanTurn, IsAfterHead, IsDue, IsMadeBy, IsTurnBy, IsTurnText, MakesHouse, ReadsChain, StopsAt, known_in};
 ghost use Rattle.house_logs.specs.Reads.{HasRead, IfFault, ReadsFront, ReadsOn, told_of};
 ghost use Rattle.house_logs.specs.Records.{CanBe, Shows};
 
@@ -370,7 +368,7 @@ impl LogReader {
         if body.number == due { None } else { Some(due) }
     }
 
-    // The number that is due: that of the next entry, or of the last one; none, if there is no next.
+    // The number that is due: that of the next entry, or of the last one; none at the end.
     fn due_number(&self, body: &Body<'_>) -> Option<u64>
         ensures is { IfSome result (λ due. (due ≡ self.now.number) ⊎ (due ≡ self.now.number + 1)) }
         ensures due { IfSome result

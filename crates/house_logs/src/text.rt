@@ -4,7 +4,7 @@ ghost use Rattle.std.specs.Bool.{Decides};
 ghost use Rattle.cell_script.specs.Words.{words_of};
 ghost use Rattle.house_logs.specs.PrivateReads.{AreRunning, AreSaid, IsAfterRunning, IsTurnText};
 ghost use Rattle.house_logs.specs.Reads.{IfFault};
-ghost use Rattle.house_logs.specs.TurnTexts.{AreWordsOf, HasNoEnd, IsPost, post_line, post_text, posts_text, turn_text};
+ghost use Rattle.house_logs.specs.TurnTexts.{AreWordsOf, HasNoEnd, IsPost, post_line};
 ghost use Rattle.house_logs.specs.declared.log.PostedOctets.{PostedOctets as PostedOctets'};
 
 use crate::log::PostedOctets;

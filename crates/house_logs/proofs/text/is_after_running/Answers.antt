@@ -1,4 +1,4 @@
-use Rattle.std.proofs.Common.{◌≡◌, ◌≢◌, ◌++◌, length, ap, List, ℕ, arith, rules}
+use Rattle.std.proofs.Common.{◌≡◌, ◌≢◌, length, ap, List, ℕ, arith, rules}
 use Rattle.std.proofs.lemmas.Bool.Decides.{Decides-like}
 use Rattle.std.proofs.lemmas.Grind.{common_steps}
 use Rattle.house_segments.proofs.ReadLemmas.{joined}

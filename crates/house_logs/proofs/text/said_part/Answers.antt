@@ -1,4 +1,4 @@
-use Rattle.std.proofs.Common.{◌≢◌, List, ℕ, [], subst, sym, arith, rules}
+use Rattle.std.proofs.Common.{◌≢◌, List, [], subst, sym, arith, rules}
 use Rattle.std.proofs.lemmas.Grind.{common_steps}
 use Rattle.house_logs.specs.declared.log.PostedOctets.{PostedOctets}
 use Rattle.house_logs.proofs.TextLemmas.{PartsLeft, parts_bad, parts_endless, parts_long, parts_more}

@@ -1,4 +1,4 @@
-use Rattle.std.proofs.Common.{◌≡◌, ◌≢◌, refl, arith, rules}
+use Rattle.std.proofs.Common.{◌≡◌, ◌≢◌, arith, rules}
 use Rattle.std.proofs.lemmas.Bool.{both_ways}
 use Rattle.std.proofs.lemmas.Grind.{common_steps}
 use Rattle.house_logs.proofs.SegmentLemmas.{after_head, headless_fault, next_fault}
