@@ -128,7 +128,7 @@ IsFaultOf number before bodies octets front (fault.OtherVersion n) =
 IsFaultOf number before bodies octets front (fault.Damaged n place) =
     (n ≡ number)
     × (((place ≡ 1) × (front ≡ []) × HasNoHead number (images octets))
-        ⊎ ((place ≡ length front + 2) × IsCutOff number before octets front))
+    ⊎ ((place ≡ length front + 2) × IsCutOff number before octets front))
 IsFaultOf number before bodies octets front (fault.NotNext n) =
     (n ≡ number) × (front ≡ []) × NamesOther number before (images octets)
 IsFaultOf number before bodies octets front f = IsOfNext number before bodies octets front f

@@ -170,7 +170,7 @@ fn said_part(alloc: Global, text: &[u8]) -> Result<Option<Said<'_>>, AllocError>
 pub(crate) fn turn_in(alloc: Global, text: &[u8]) -> Result<Option<TurnText<'_>>, AllocError>
     ensures { IfOk result (λ o. MatchOption o
         ((line : List ℕ) (posts : List PostedOctets') (answer : List ℕ)
-            → ¬ IsTurnText text.now line posts answer)
+        → ¬ IsTurnText text.now line posts answer)
         (λ t. IsTurnText text.now t.line.now t.posts.items t.answer.now)) }
 {
     let Some((line, rest)) = first_line(text) else {
