@@ -11,7 +11,7 @@ from collections.abc import Sequence
 from typing import IO, Any, ClassVar
 
 from building.sources import ROOT
-from cds import processes
+from cds import processes, records
 from housing.programs import Programs
 
 CELL, HOUSES = f"{ROOT}/tools/cell", f"{ROOT}/tools/houses"
@@ -25,7 +25,7 @@ TWO = ["house 1 00000000000a", "house 2 00000000000b", "root 1 2"]
 WORK = [*TWO, "create 1 1 a", "mkdir 1 1 sub 1 s2", "epoch 2 2 s1", "crash 2", "start 2", "create 2 2 b", "skulk 2 2"]
 WORK += ["clock 1 77", "add 1 1 a A 00"]
 # A message of the kind Update, that no house posted.
-MADE_UP = "0201000000010200000000000000010000000000000009" + "017a01" + f"{9:016x}" + "00000000000b" + "00" * 9
+MADE_UP = records.update(1, 2, 1, 9, b"z", records.OBJECT, records.stamp(9, "00000000000b"), {}).hex()
 
 
 class Kit(Programs):
