@@ -12,8 +12,8 @@ use Rattle.house_logs.specs.declared.order.LoggedOrder.TheVariants as order
 use Rattle.script_answers.specs.Texts.{node_octets}
 
 -- words, each after a space
-abbrev pub spaced : List (List ℕ) → List ℕ
-spaced = flat_map (λ w. 32 ∷ w)
+abbrev pub after_spaces : List (List ℕ) → List ℕ
+after_spaces = flat_map (λ w. 32 ∷ w)
 
 -- the first one of words, if there is one
 abbrev pub first_in : List (List ℕ) → List ℕ
@@ -31,13 +31,13 @@ making_line h node =
 
 -- the words of a turn of the house h, with the house after the first one
 abbrev pub same_line : (h : HouseNo) → (own : List (List ℕ)) → List ℕ
-same_line h own = house_line (first_in own) h ++ spaced (drop 1 own)
+same_line h own = house_line (first_in own) h ++ after_spaces (drop 1 own)
 
 -- those of `mkdir D S N R..`: without the number N, and with h as the master
 abbrev pub mkdir_line : (h : HouseNo) → (own : List (List ℕ)) → List ℕ
 mkdir_line h own =
     house_line (first_in own) h
-    ++ (spaced (take 2 (drop 1 own)) ++ ((32 ∷ decimal h.0) ++ spaced (drop 4 own)))
+    ++ (after_spaces (take 2 (drop 1 own)) ++ ((32 ∷ decimal h.0) ++ after_spaces (drop 4 own)))
 
 -- an `s` before a house that is secondary
 abbrev pub mark_of : MemberKind → List ℕ
@@ -48,7 +48,7 @@ mark_of other = []
 abbrev pub member_word : Member → List ℕ
 member_word m = 32 ∷ (mark_of m.kind ++ decimal m.house.0)
 
--- the same, unless it is of the house h
+-- that of a member, unless it is of the house h
 abbrev pub other_word : (h : HouseNo) → Member → List ℕ
 other_word h m = if m.house.0 == h.0 then [] else member_word m
 

@@ -2,7 +2,7 @@
 // afterwards.
 ghost use Rattle.std.specs.Prelude.{◌≡◌, ◌++◌, ◌∷◌, IfOk, OnOk, codes, decimal, drop, take};
 ghost use Rattle.cell_script.specs.Words.{words_of};
-ghost use Rattle.entry_lines.specs.MadeLines.{epoch_line, first_in, making_line, member_word, mkdir_line, other_word, same_line, spaced, turn_line};
+ghost use Rattle.entry_lines.specs.MadeLines.{epoch_line, first_in, making_line, member_word, mkdir_line, other_word, same_line, after_spaces, turn_line};
 
 use cds_stamps::{HouseNo, Member, MemberKind, Node};
 use cell_script::Words;
@@ -29,7 +29,7 @@ fn push_number_word(line: &mut Vec<u8>, number: u64) -> Result<(), AllocError>
 // Adds the next word, if there is one.
 fn push_next(line: &mut Vec<u8>, words: &mut Words<'_>) -> Result<(), AllocError>
     ensures line { OnOk result
-        (line.new.items ≡ line.old.items ++ spaced (take 1 words.old.rest)) }
+        (line.new.items ≡ line.old.items ++ after_spaces (take 1 words.old.rest)) }
     ensures words { OnOk result (words.new.rest ≡ drop 1 words.old.rest) }
 {
     match words.next() {
@@ -40,7 +40,7 @@ fn push_next(line: &mut Vec<u8>, words: &mut Words<'_>) -> Result<(), AllocError
 
 // Adds the next words, as many as there are.
 fn push_rest(line: &mut Vec<u8>, words: &mut Words<'_>) -> Result<(), AllocError>
-    ensures { OnOk result (line.new.items ≡ line.old.items ++ spaced words.old.rest) }
+    ensures { OnOk result (line.new.items ≡ line.old.items ++ after_spaces words.old.rest) }
 {
     'words: while let Some(word) = words.next() {
         push_word(line, word)?;
@@ -111,7 +111,7 @@ fn push_other(line: &mut Vec<u8>, member: &Member) -> Result<(), AllocError>
     push_number(line, u64::from(member.house.0))
 }
 
-// The same, unless it is of this house.
+// A member, unless it is of this house.
 fn push_unless(line: &mut Vec<u8>, house: HouseNo, member: &Member) -> Result<(), AllocError>
     ensures { OnOk result (line.new.items ≡ line.old.items ++ other_word house member.now) }
 {

@@ -38,7 +38,7 @@ titled number title before is = ap (λ (t : List ℕ). t ++ before) is ∙ head_
 sealed_parts : (title given : List ℕ) → sealed given (title ++ given) ≡ title ++ (given ++ digest_after given (title ++ given))
 sealed_parts title given = append_assoc title given (digest_after given (title ++ given))
 
--- octets that are no head: they begin otherwise; too few or too many follow; or the digest is another
+-- octets that are no head: they begin otherwise; too few or too many follow; or the digest differs
 pub untitled : (title head : List ℕ) → ((rest : List ℕ) → head ≢ title ++ rest) → (given : List ℕ) → length given ≡ 32 → head ≢ sealed given (title ++ given)
 untitled title head other given size is = other (given ++ digest_after given (title ++ given)) (is ∙ sealed_parts title given)
 
