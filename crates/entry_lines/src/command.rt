@@ -96,7 +96,8 @@ pub fn setting(alloc: Global, house: HouseNo, time: u64) -> Result<Option<Said>,
     ensures says { IfOk result (λ o. IfSome o (λ s. SaysCommand s.line.items s.command)) }
     ensures is { IfOk result (λ o. IfSome o (λ s. s.command ≡ command.Clock house time)) }
     ensures none { IfOk result (λ o. IfNone o
-        (¬ SaysCommand (codes "clock" ++ (32 ∷ (decimal house.0 ++ (32 ∷ decimal time)))) (command.Clock house time))) }
+        (¬ SaysCommand (codes "clock" ++ (32 ∷ (decimal house.0 ++ (32 ∷ decimal time))))
+        (command.Clock house time))) }
 {
     let line = clock_line(alloc, house, time)?;
     let Some(command) = command_in(alloc, &line)? else {
