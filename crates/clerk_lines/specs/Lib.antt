@@ -1,0 +1,6 @@
+pub mod ClerkWords
+pub mod AnswerRows
+pub mod ShownEntries
+pub mod Hearings
+pub mod RootLists
+pub mod ClerkTexts
