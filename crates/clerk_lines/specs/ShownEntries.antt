@@ -1,8 +1,9 @@
 -- What a house shows of an entry, as it is heard value by value.
-use Rattle.std.specs.Prelude.{ℕ, ◌-◌, Bool, true, if◌then◌else◌, List, [], ◌∷◌, ◌++◌, length, slice_get, Option, Some, None}
+use Rattle.std.specs.Prelude.{ℕ, ◌-◌, Bool, true, if◌then◌else◌, List, [], ◌∷◌, ◌++◌, length, slice_get, nat_eq, Option, Some, None}
 use Rattle.std.specs.Option.{option_map, option_map_or}
+use Rattle.std.specs.Cmp.Lexicographic.{pointwise}
 use Rattle.std.specs.Ordering.{is_lt}
-use Rattle.cds_stamps.specs.Octets.{is_octets, octets_cmp}
+use Rattle.cds_stamps.specs.Octets.{octets_cmp}
 use Rattle.clerk_lines.specs.declared.shown.ShownAttr.{ShownAttr}
 
 -- a value is above the last of these
@@ -21,9 +22,9 @@ attr_with a v = if rises a.values v then Some (record a { values = a.values ++ v
 unfoldable pub with_value : List ShownAttr → List ℕ → Option (List ShownAttr)
 with_value [] v = None
 with_value (a ∷ []) v = option_map (λ b. b ∷ []) (attr_with a v)
-with_value (a ∷ b ∷ as) v = option_map (λ cs. a ∷ cs) (with_value (b ∷ as) v)
+with_value (a ∷ b ∷ more) v = option_map (λ cs. a ∷ cs) (with_value (b ∷ more) v)
 
 -- the values of an attribute: none, if it was not heard of
 unfoldable pub attr_values : (name : List ℕ) → List ShownAttr → List (List ℕ)
 attr_values name [] = []
-attr_values name (a ∷ as) = if is_octets a.name name then a.values else attr_values name as
+attr_values name (a ∷ more) = if pointwise nat_eq a.name name then a.values else attr_values name more

@@ -12,7 +12,8 @@ fn push_numbered(text: &mut Vec<u8>, number: u64) -> Result<(), AllocError>
         ≡ text.old.items ++ (decimal number ++ 32 ∷ [])) }
 {
     push_number(text, number)?;
-    text.push(b' ')
+    text.push(b' ')?;
+    Ok(())
 }
 
 /// Adds the line that says a line of a command's answer.

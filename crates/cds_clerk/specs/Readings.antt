@@ -1,0 +1,55 @@
+-- What a read answers over a reader, and what it comes to by what was heard.
+use Rattle.std.specs.Prelude.{◌≡◌, ℕ, List, [], Option, Some, None, unwrap_or, Result, Ok, Err}
+use Rattle.resolver.specs.declared.refusal.Refusal.{Refusal}
+use Rattle.resolver.specs.declared.seen.Found.{Found}
+use Rattle.resolver.specs.Readers.{Reader, Unreachable}
+use Rattle.clerk_lines.specs.declared.hearing.Told.TheVariants.{Shows}
+use Rattle.clerk_lines.specs.declared.shown.ShownEntry.{ShownEntry}
+use Rattle.script_answers.specs.declared.answer.Answer.{Answer}
+use Rattle.script_answers.specs.declared.answer.Answer.TheVariants as answer
+use Rattle.ns_commands.specs.Asks.{refusal_of_walk}
+use Rattle.cds_clerk.specs.declared.heard.Heard.{Heard}
+use Rattle.cds_clerk.specs.declared.heard.Lack.{Lack}
+use Rattle.cds_clerk.specs.declared.reading.Read.{Read}
+use Rattle.cds_clerk.specs.declared.reading.Read.TheVariants as read
+use Rattle.cds_clerk.specs.Heards.{heard_root, heard_sight, heard_values, told_of}
+
+-- the values of an attribute of the entry that is found, or why none is
+abbrev pub values_read : Reader → (attr : List ℕ) → Result Found Refusal → Answer
+values_read r attr (Ok found) = answer.Values (r.values found attr)
+values_read r attr (Err why) = answer.Refused (refusal_of_walk why)
+
+-- ---- what a command comes to
+
+-- the answer, if there is one
+abbrev pub IfSaid : Read → (Answer → Type 0) → Type 0
+IfSaid (read.Said a) P = P a
+IfSaid read.LacksRoot P = Unit {0}
+IfSaid (read.Lacks q) P = Unit {0}
+
+-- what lacks, if that is what a house says of a name
+abbrev pub IfUnknown : Read → (Lack → Type 0) → Type 0
+IfUnknown (read.Said a) P = Unit {0}
+IfUnknown read.LacksRoot P = Unit {0}
+IfUnknown (read.Lacks q) P = P q
+
+-- where the root directory is lacks
+abbrev pub IfUnrooted : Read → Type 0 → Type 0
+IfUnrooted (read.Said a) P = Unit {0}
+IfUnrooted read.LacksRoot P = P
+IfUnrooted (read.Lacks q) P = Unit {0}
+
+-- ---- one reader that agrees
+
+-- a reader that tells what was heard, and else that no house answers
+abbrev pub least_reader : Heard → Reader
+least_reader h = record {
+  root = unwrap_or (heard_root h.root) None;
+  sees = λ at name. unwrap_or (heard_sight h at name) Unreachable;
+  values = λ f attr. unwrap_or (heard_values h f attr) [];
+}
+
+-- the house of an entry showed it
+pub record IsShown (h : Heard) (f : Found) : Type 0 where
+  pub entry : ShownEntry
+  pub told : told_of h.answers f.dir.0 f.house.0 f.name ≡ Some (Shows entry)

@@ -1,0 +1,99 @@
+// What a name leads to by what was heard: the values of an attribute, and the target of a link.
+ghost use Rattle.std.specs.Prelude.{◌≡◌, true, Some, None, IfOk};
+ghost use Rattle.resolver.specs.Readers.{Reader};
+ghost use Rattle.resolver.specs.WalkEnds.{walk_end};
+ghost use Rattle.clerk_lines.specs.declared.hearing.Told.TheVariants.{Shows};
+ghost use Rattle.cds_clerk.specs.Heards.{IsUnheard, heard_root, heard_values, told_of};
+ghost use Rattle.cds_clerk.specs.Agreements.{Agrees};
+ghost use Rattle.cds_clerk.specs.Readings.{IfSaid, IfUnknown, IfUnrooted, IsShown, values_read};
+
+use crate::heard::{Heard, Lack};
+use crate::walking::{Walked, walk};
+use attr_sets::Value;
+use cds_stamps::AttrName;
+use cell_names::FullName;
+use clerk_lines::{ShownEntry, Told};
+use ns_commands::refusal_of_walk;
+use resolver::{End, Found, Refusal};
+use script_answers::{Answer, Values};
+use std::alloc::{AllocError, Global};
+
+/// What a command comes to by what was heard: its answer, or what was not heard yet.
+#[derive(Drop)]
+pub enum Read {
+    Said(Answer),
+    /// Where the root directory is.
+    LacksRoot,
+    Lacks(Lack),
+}
+
+// The same values again.
+fn copies(alloc: Global, values: &[Value]) -> Result<Values, AllocError>
+    ensures { IfOk result (λ v. v ≡ values.now) }
+{
+    let mut copies = Values::new(alloc);
+    for value in values {
+        copies.push(value.copy(alloc)?)?;
+    }
+    Ok(copies)
+}
+
+// What a house showed of an entry that a walk found.
+fn entry_of<'a>(heard: &'a Heard, found: &Found) -> &'a ShownEntry
+    requires { IsShown heard.now found.now }
+    ensures { told_of heard.now.answers found.now.dir.0 found.now.house.0 found.now.name
+        ≡ Some (Shows result.now) }
+{
+    match heard.answers.told(found.dir, found.house, &found.name) {
+        Some(Told::Shows(entry)) => entry,
+        _ => unreachable!(),
+    }
+}
+
+// The values of an attribute of an entry that a walk found.
+fn values_in(
+    alloc: Global,
+    heard: &Heard,
+    found: &Found,
+    attr: &AttrName,
+) -> Result<Values, AllocError>
+    requires { IsShown heard.now found.now }
+    ensures { IfOk result (λ vs. heard_values heard.now found.now attr.now ≡ Some vs) }
+{
+    let entry = entry_of(heard, found);
+    match entry.attrs.values(attr) {
+        Some(values) => copies(alloc, values.list()),
+        None => Ok(Values::new(alloc)),
+    }
+}
+
+// The answer that a walk found nothing.
+fn not_found(refusal: Refusal) -> Read {
+    Read::Said(Answer::Refused(refusal_of_walk(refusal)))
+}
+
+/// The values of an attribute of the entry that a name leads to, links followed, by what was heard.
+/// Each reader that agrees with what was heard has that answer, whatever else it tells; and what
+/// lacks was not heard.
+pub fn read(
+    alloc: Global,
+    heard: &Heard,
+    name: &FullName,
+    attr: &AttrName,
+) -> Result<Read, AllocError>
+    ensures done { IfOk result (λ x. IfSaid x (λ a. (r : Reader) → Agrees r heard.now
+        → a ≡ values_read r attr.now (walk_end r true name.now))) }
+    ensures asks { IfOk result (λ x. IfUnknown x (IsUnheard heard.now)) }
+    ensures root { IfOk result (λ x. IfUnrooted x (heard_root heard.now.root ≡ None)) }
+{
+    match walk(alloc, heard, name, true)? {
+        Walked::Ended(End::Found(found)) => {
+            let values = values_in(alloc, heard, &found, attr)?;
+            Ok(Read::Said(Answer::Values(values)))
+        }
+        Walked::Ended(End::Missing(_, done)) => Ok(not_found(Refusal::NoSuchName(done))),
+        Walked::Ended(End::Refused(refusal)) => Ok(not_found(refusal)),
+        Walked::LacksRoot => Ok(Read::LacksRoot),
+        Walked::Lacks(lack) => Ok(Read::Lacks(lack)),
+    }
+}
