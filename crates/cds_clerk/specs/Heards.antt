@@ -63,13 +63,14 @@ seen_among answers dir name (x ∷ xs) later = seen_by (told_of answers dir x na
 abbrev pub near_of : Option ℕ → List ℕ → Option ℕ
 near_of near houses = option_and_then (λ x. if list_any (λ y. y == x) houses then Some x else None) near
 
+-- by what this house said, if there is one, and by later ones
+abbrev pub seen_first : List Answered → (dir : ℕ) → (name : List ℕ) → Option ℕ → (later : Option Sight) → Option Sight
+seen_first answers dir name None later = later
+seen_first answers dir name (Some x) later = seen_by (told_of answers dir x name) x later
+
 -- by what the house said that is near, if it is listed, and by later ones
 abbrev pub seen_near : Heard → Pointer → (name : List ℕ) → (later : Option Sight) → Option Sight
-seen_near h at name later = by_near (near_of (option_map (λ x. x.0) h.near) (at.master ∷ at.others))
-  where
-    by_near : Option ℕ → Option Sight
-    by_near None = later
-    by_near (Some x) = seen_by (told_of h.answers at.dir x name) x later
+seen_near h at name later = seen_first h.answers at.dir name (near_of (option_map (λ x. x.0) h.near) (at.master ∷ at.others)) later
 
 -- by what was heard: of the listed houses the near one comes first, and if no answer counts, none
 -- is reached; nothing yet, if a house was not heard before one whose answer counts

@@ -4,7 +4,8 @@ use Rattle.std.specs.Option.{option_map_or}
 use Rattle.std.specs.Str.{bytes_eq}
 use Rattle.cds_stamps.specs.declared.numbers.DirId.{DirId}
 use Rattle.cds_stamps.specs.declared.numbers.HouseNo.{HouseNo}
-use Rattle.cell_names.specs.Houses.{list_fault}
+use Rattle.cell_names.specs.Houses.{Houses, list_fault}
+use Rattle.cell_names.specs.declared.houses.HousesFault.{HousesFault}
 use Rattle.cell_script.specs.declared.fault.ParseFault.{ParseFault}
 use Rattle.cell_script.specs.Words.{words_of}
 use Rattle.tower_codec.specs.BindingReading.{cut_at_mark}
@@ -27,12 +28,14 @@ abbrev pub begun : Lead → Hearing
 begun to = Amid (record { lead = to; attrs = [] })
 
 -- a child of this directory at these houses, unless they are none of a child
+abbrev pub child_unless : Option HousesFault → DirId → Houses → Hearing
+child_unless None dir houses = begun (lead.Child (record { dir = dir; houses = houses }))
+child_unless (Some fault) dir houses = Nonsense
+
+-- a child of this directory at the house of the master and at others
 abbrev pub child_said : DirId → HouseNo → List HouseNo → Hearing
-child_said dir master others = by_fault (list_fault master.0 (map (λ h. h.0) others))
-  where
-    by_fault : Option _ → Hearing
-    by_fault None = begun (lead.Child (record { dir = dir; houses = record { master = master.0; others = map (λ h. h.0) others } }))
-    by_fault (Some fault) = Nonsense
+child_said dir master others =
+    let numbers = map (λ h. h.0) others in child_unless (list_fault master.0 numbers) dir (record { master = master.0; others = numbers })
 
 -- the first line has the kind of the entry, and where it leads
 abbrev pub first_said : AnswerLine → Hearing

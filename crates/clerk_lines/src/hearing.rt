@@ -42,6 +42,7 @@ fn first_word(line: &[u8]) -> &[u8]
 }
 
 /// Whether a line is the last one of an answer.
+#[tactic(auto, unfolding(crate::specs::Hearings::is_last))]
 pub fn is_last(line: &[u8]) -> bool
     ensures { result ≡ is_last line.now }
 {

@@ -54,6 +54,7 @@ impl ShownValues {
     ghost use Rattle.std.specs.List.Sorted.{IsStrictlySortedBy};
 
     /// No value. Takes no memory.
+    #[tactic(auto, using(crate::proofs::Rising::none_rise))]
     pub fn new(alloc: Global) -> ShownValues
         ensures { result ≡ [] }
     {
@@ -73,6 +74,7 @@ impl ShownValues {
     }
 
     /// Puts a value after the others, if it is above them; says whether it did.
+    #[tactic(auto, using(crate::proofs::Rising::rises_on))]
     pub fn push(&mut self, value: Value) -> Result<bool, AllocError>
         ensures answer { IfOk result (λ done. done ≡ rises self.old value) }
         ensures done { IfOk result (λ done. OnTrue done (self.new ≡ self.old ++ value ∷ [])) }
@@ -144,6 +146,7 @@ impl ShownAttrs {
 
     /// Puts a value after those of the last attribute. None, if there is no attribute, or the value
     /// is not above the others.
+    #[tactic(auto, using(crate::proofs::Adding::with_last, crate::proofs::Adding::with_none))]
     pub fn add(mut self, value: Value) -> Result<Option<ShownAttrs>, AllocError>
         ensures { IfOk result (λ attrs. attrs ≡ with_value self value) }
     {
@@ -158,6 +161,7 @@ impl ShownAttrs {
     }
 
     /// The values of an attribute: none, if it was not heard of.
+    #[tactic(auto, unfolding(crate::specs::ShownEntries::attr_values))]
     pub fn values(&self, name: &AttrName) -> Option<&ShownValues>
         ensures { attr_values name.now self.now
             ≡ unwrap_or (option_copied result) [] }

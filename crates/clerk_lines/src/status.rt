@@ -39,6 +39,7 @@ fn member(word: &[u8]) -> Option<RootMember>
 }
 
 // The members of words.
+#[tactic(auto, unfolding(crate::specs::RootLists::members_said))]
 fn members(alloc: Global, words: &mut Words<'_>) -> Result<Option<Vec<RootMember>>, AllocError>
     ensures { IfOk result (λ ms. option_map (λ v. v.items) ms ≡ members_said words.old.rest) }
 {
