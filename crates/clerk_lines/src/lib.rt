@@ -3,6 +3,7 @@
 
 mod answer;
 mod hearing;
+pub mod laws;
 mod line;
 mod shown;
 mod status;
