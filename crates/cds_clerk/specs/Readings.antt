@@ -10,8 +10,8 @@ use Rattle.script_answers.specs.declared.answer.Answer.TheVariants as answer
 use Rattle.ns_commands.specs.Asks.{refusal_of_walk}
 use Rattle.cds_clerk.specs.declared.heard.Heard.{Heard}
 use Rattle.cds_clerk.specs.declared.heard.Lack.{Lack}
-use Rattle.cds_clerk.specs.declared.reading.Read.{Read}
-use Rattle.cds_clerk.specs.declared.reading.Read.TheVariants as read
+use Rattle.cds_clerk.specs.declared.reading.Outcome.{Outcome}
+use Rattle.cds_clerk.specs.declared.reading.Outcome.TheVariants as outcome
 use Rattle.cds_clerk.specs.Heards.{heard_root, heard_sight, heard_values, told_of}
 
 -- the values of an attribute of the entry that is found, or why none is
@@ -22,22 +22,22 @@ values_read r attr (Err why) = answer.Refused (refusal_of_walk why)
 -- ---- what a command comes to
 
 -- the answer, if there is one
-abbrev pub IfSaid : Read → (Answer → Type 0) → Type 0
-IfSaid (read.Said a) P = P a
-IfSaid read.LacksRoot P = Unit {0}
-IfSaid (read.Lacks q) P = Unit {0}
+abbrev pub IfSaid : Outcome → (Answer → Type 0) → Type 0
+IfSaid (outcome.Said a) P = P a
+IfSaid outcome.LacksRoot P = Unit {0}
+IfSaid (outcome.Lacks q) P = Unit {0}
 
 -- what lacks, if that is what a house says of a name
-abbrev pub IfUnknown : Read → (Lack → Type 0) → Type 0
-IfUnknown (read.Said a) P = Unit {0}
-IfUnknown read.LacksRoot P = Unit {0}
-IfUnknown (read.Lacks q) P = P q
+abbrev pub IfUnknown : Outcome → (Lack → Type 0) → Type 0
+IfUnknown (outcome.Said a) P = Unit {0}
+IfUnknown outcome.LacksRoot P = Unit {0}
+IfUnknown (outcome.Lacks q) P = P q
 
 -- where the root directory is lacks
-abbrev pub IfUnrooted : Read → Type 0 → Type 0
-IfUnrooted (read.Said a) P = Unit {0}
-IfUnrooted read.LacksRoot P = P
-IfUnrooted (read.Lacks q) P = Unit {0}
+abbrev pub IfUnrooted : Outcome → Type 0 → Type 0
+IfUnrooted (outcome.Said a) P = Unit {0}
+IfUnrooted outcome.LacksRoot P = P
+IfUnrooted (outcome.Lacks q) P = Unit {0}
 
 -- ---- one reader that agrees
 

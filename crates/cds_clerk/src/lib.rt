@@ -6,5 +6,5 @@ mod reading;
 mod walking;
 
 pub use heard::{Answered, Answers, Heard, Lack, Looked, Root};
-pub use reading::{Read, read};
+pub use reading::{Outcome, read};
 pub use walking::{Walked, walk};

@@ -20,7 +20,7 @@ use std::alloc::{AllocError, Global};
 
 /// What a command comes to by what was heard: its answer, or what was not heard yet.
 #[derive(Drop)]
-pub enum Read {
+pub enum Outcome {
     Said(Answer),
     /// Where the root directory is.
     LacksRoot,
@@ -68,8 +68,8 @@ fn values_in(
 }
 
 // The answer that a walk found nothing.
-fn not_found(refusal: Refusal) -> Read {
-    Read::Said(Answer::Refused(refusal_of_walk(refusal)))
+fn not_found(refusal: Refusal) -> Outcome {
+    Outcome::Said(Answer::Refused(refusal_of_walk(refusal)))
 }
 
 /// The values of an attribute of the entry that a name leads to, links followed, by what was heard.
@@ -80,7 +80,7 @@ pub fn read(
     heard: &Heard,
     name: &FullName,
     attr: &AttrName,
-) -> Result<Read, AllocError>
+) -> Result<Outcome, AllocError>
     ensures done { IfOk result (λ x. IfSaid x (λ a. (r : Reader) → Agrees r heard.now
         → a ≡ values_read r attr.now (walk_end r true name.now))) }
     ensures asks { IfOk result (λ x. IfUnknown x (IsUnheard heard.now)) }
@@ -89,11 +89,11 @@ pub fn read(
     match walk(alloc, heard, name, true)? {
         Walked::Ended(End::Found(found)) => {
             let values = values_in(alloc, heard, &found, attr)?;
-            Ok(Read::Said(Answer::Values(values)))
+            Ok(Outcome::Said(Answer::Values(values)))
         }
         Walked::Ended(End::Missing(_, done)) => Ok(not_found(Refusal::NoSuchName(done))),
         Walked::Ended(End::Refused(refusal)) => Ok(not_found(refusal)),
-        Walked::LacksRoot => Ok(Read::LacksRoot),
-        Walked::Lacks(lack) => Ok(Read::Lacks(lack)),
+        Walked::LacksRoot => Ok(Outcome::LacksRoot),
+        Walked::Lacks(lack) => Ok(Outcome::Lacks(lack)),
     }
 }

@@ -128,9 +128,9 @@ without_zero (c ∷ []) first all = (and_parts (is_ascii_digit c) true all).0
 without_zero (c ∷ d ∷ cs) first all = let off : (c == 48) ≡ false = grind (arith, nat_tests) in rw off all
 
 chosen : (a b : Bool) (v n : ℕ) → a ≡ true → b ≡ true → v ≡ n → (if a && b then Some v else None) ≡ Some n
-chosen true true v n yes yes' is = ap Some is
-chosen true false v n yes yes' is = cc
-chosen false b v n yes yes' is = cc
+chosen true true v n one two is = ap Some is
+chosen true false v n one two is = cc
+chosen false b v n one two is = cc
 
 -- a number that was written is read
 pub number_read : (n : ℕ) → 0 < n → n < 2 ^ 64 → number_of (decimal n) ≡ Some n

@@ -25,11 +25,18 @@ abbrev pub houses_unless : Option HousesFault → Houses → Option Houses
 houses_unless None houses = Some houses
 houses_unless (Some fault) houses = None
 
+-- the house of the first member that is the master
+abbrev pub master_in : List RootMember → Option HouseNo
+master_in ms = option_map (λ m. m.house) (find (λ m. m.is_master) ms)
+
+-- the houses of the members that are not
+abbrev pub others_in : List RootMember → List ℕ
+others_in ms = map (λ o. o.house.0) (filter (λ o. not o.is_master) ms)
+
 -- the houses of members, of which one has to be the master
 abbrev pub houses_of : List RootMember → Option Houses
 houses_of ms = option_and_then (λ m.
-    let others = map (λ o. o.house.0) (filter (λ o. not o.is_master) ms) in
-    houses_unless (list_fault m.house.0 others) (record { master = m.house.0; others = others })) (find (λ m. m.is_master) ms)
+    houses_unless (list_fault m.0 (others_in ms)) (record { master = m.0; others = others_in ms })) (master_in ms)
 
 -- the epoch of a status, and the words of its members
 abbrev pub front_said : List (List ℕ) → Option (ℕ × List (List ℕ))

@@ -1,8 +1,9 @@
 // Where the root directory is, by what a house answers to `status`.
-ghost use Rattle.std.specs.Prelude.{◌≡◌, IfOk, map, filter, not};
+ghost use Rattle.std.specs.Prelude.{◌≡◌, IfOk, map};
 ghost use Rattle.std.specs.Option.{option_map};
+ghost use Rattle.cell_names.specs.Houses.{list_fault};
 ghost use Rattle.cell_script.specs.Words.{words_of};
-ghost use Rattle.clerk_lines.specs.RootLists.{front_said, houses_of, member_said, members_said, root_said};
+ghost use Rattle.clerk_lines.specs.RootLists.{front_said, houses_of, houses_unless, master_in, member_said, members_said, others_in, root_said};
 
 use cds_stamps::{AllocOr, EpochNo, HouseNo};
 use cell_names::HouseList;
@@ -55,8 +56,7 @@ fn members(alloc: Global, words: &mut Words<'_>) -> Result<Option<Vec<RootMember
 
 // The houses of the members beside the master.
 fn others(alloc: Global, members: &[RootMember]) -> Result<Vec<HouseNo>, AllocError>
-    ensures { IfOk result (λ v. map (λ h. h.0) v.items
-        ≡ map (λ o. o.house.0) (filter (λ o. not o.is_master) members.now)) }
+    ensures { IfOk result (λ v. map (λ h. h.0) v.items ≡ others_in members.now) }
 {
     let mut others = Vec::new(alloc);
     for member in members {
@@ -67,19 +67,44 @@ fn others(alloc: Global, members: &[RootMember]) -> Result<Vec<HouseNo>, AllocEr
     Ok(others)
 }
 
-// The houses of members.
-fn houses(alloc: Global, members: &[RootMember]) -> Result<Option<HouseList>, AllocError>
-    ensures { IfOk result (λ hs. hs ≡ houses_of members.now) }
+// The house of the master.
+fn master(members: &[RootMember]) -> Option<HouseNo>
+    ensures { result ≡ master_in members.now }
 {
-    let Some(master) = members.iter().find(|member| member.is_master) else {
-        return Ok(None);
-    };
-    let others = others(alloc, members)?;
-    match HouseList::new(alloc, master.house, &others) {
+    for member in members {
+        if member.is_master {
+            return Some(member.house);
+        }
+    }
+    None
+}
+
+// The houses of a directory, if they are some.
+fn listed(
+    alloc: Global,
+    master: HouseNo,
+    others: &[HouseNo],
+) -> Result<Option<HouseList>, AllocError>
+    ensures { let numbers = map (λ h. h.0) others.now in IfOk result (λ hs. hs
+        ≡ houses_unless (list_fault master.0 numbers)
+        (record { master = master.0; others = numbers })) }
+{
+    match HouseList::new(alloc, master, others) {
         Ok(houses) => Ok(Some(houses)),
         Err(AllocOr::Fault(_)) => Ok(None),
         Err(AllocOr::OutOfMemory) => Err(AllocError),
     }
+}
+
+// The houses of members.
+fn houses(alloc: Global, members: &[RootMember]) -> Result<Option<HouseList>, AllocError>
+    ensures { IfOk result (λ hs. hs ≡ houses_of members.now) }
+{
+    let Some(master) = master(members) else {
+        return Ok(None);
+    };
+    let others = others(alloc, members)?;
+    listed(alloc, master, &others)
 }
 
 // The epoch of a status. Its members are the words that are left.

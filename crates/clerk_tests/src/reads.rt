@@ -1,6 +1,6 @@
 // A read over what was heard.
 use attr_sets::Value;
-use cds_clerk::{Answered, Answers, Heard, Read, Root, read};
+use cds_clerk::{Answered, Answers, Heard, Outcome, Root, read};
 use cds_stamps::{AttrName, DirId, HouseNo, SimpleName};
 use cell_names::{ChildPointer, FullName, HouseList};
 use clerk_lines::{Hearing, Told};
@@ -40,7 +40,7 @@ fn shown(alloc: Global, lines: &[&[u8]]) -> Result<Told, Fail> {
     Ok(hearing.told(b"end"))
 }
 
-fn asked(alloc: Global, heard: &Heard) -> Result<Read, Fail> {
+fn asked(alloc: Global, heard: &Heard) -> Result<Outcome, Fail> {
     let name = FullName::parse(alloc, b"/.:/up")?;
     Ok(read(alloc, heard, &name, &AttrName::parse(alloc, b"A")?)?)
 }
@@ -50,18 +50,18 @@ fn a_read_asks_the_near_house_first(rt: HostRuntime) -> Result<(), Fail> {
     let alloc = rt.alloc();
     let mut heard = rooted(alloc)?;
     match asked(alloc, &heard)? {
-        Read::Lacks(lack) => assert!(rt; lack.house == HouseNo(2)),
+        Outcome::Lacks(lack) => assert!(rt; lack.house == HouseNo(2)),
         _ => return Err("a question".into()),
     }
     says(alloc, &mut heard, 2, b"up", Told::Passed)?;
     match asked(alloc, &heard)? {
-        Read::Lacks(lack) => assert!(rt; lack.house == HouseNo(1)),
+        Outcome::Lacks(lack) => assert!(rt; lack.house == HouseNo(1)),
         _ => return Err("a question".into()),
     }
     says(alloc, &mut heard, 1, b"up", Told::Passed)?;
     let answer = asked(alloc, &heard)?;
     match &answer {
-        Read::Said(Answer::Refused(ScriptRefusal::Unreachable(dir))) => assert!(rt; dir.0 == 1),
+        Outcome::Said(Answer::Refused(ScriptRefusal::Unreachable(dir))) => assert!(rt; dir.0 == 1),
         _ => return Err("a refusal".into()),
     }
     Ok(())
@@ -74,14 +74,14 @@ fn a_read_follows_links(rt: HostRuntime) -> Result<(), Fail> {
     let link = shown(alloc, &[b"link /.:/lpr"])?;
     says(alloc, &mut heard, 2, b"up", link)?;
     match asked(alloc, &heard)? {
-        Read::Lacks(lack) => assert!(rt; lack.name.octets() == b"lpr".as_slice()),
+        Outcome::Lacks(lack) => assert!(rt; lack.name.octets() == b"lpr".as_slice()),
         _ => return Err("a question".into()),
     }
     let object = shown(alloc, &[b"object", b"attr A", b"value 50"])?;
     says(alloc, &mut heard, 2, b"lpr", object)?;
     let answer = asked(alloc, &heard)?;
     match &answer {
-        Read::Said(Answer::Values(values)) => {
+        Outcome::Said(Answer::Values(values)) => {
             assert!(rt; values.list() == [Value::new(alloc, b"P")?].as_slice());
         }
         _ => return Err("values".into()),
