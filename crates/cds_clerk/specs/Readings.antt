@@ -2,6 +2,8 @@
 use Rattle.std.specs.Prelude.{◌≡◌, ℕ, List, [], Option, Some, None, unwrap_or, Result, Ok, Err}
 use Rattle.resolver.specs.declared.refusal.Refusal.{Refusal}
 use Rattle.resolver.specs.declared.seen.Found.{Found}
+use Rattle.resolver.specs.declared.walk.End.{End}
+use Rattle.resolver.specs.declared.walk.End.TheVariants as ends
 use Rattle.resolver.specs.Readers.{Reader, Unreachable}
 use Rattle.clerk_lines.specs.declared.hearing.Told.TheVariants.{Shows}
 use Rattle.clerk_lines.specs.declared.shown.ShownEntry.{ShownEntry}
@@ -53,3 +55,9 @@ least_reader h = record {
 pub record IsShown (h : Heard) (f : Found) : Type 0 where
   pub entry : ShownEntry
   pub told : told_of h.answers f.dir.0 f.house.0 f.name ≡ Some (Shows entry)
+
+-- an end that finds an entry
+abbrev pub IfFound : End → (Found → Type 0) → Type 0
+IfFound (ends.Found f) P = P f
+IfFound (ends.Missing place done) P = Unit {0}
+IfFound (ends.Refused why) P = Unit {0}

@@ -1,5 +1,6 @@
 // What a clerk heard of houses for one command.
-ghost use Rattle.std.specs.Prelude.{◌≡◌, [], ◌∷◌, ◌++◌, Option, Some, None, map, IfOk, IfSome, OnOk, OnErr, option_copied};
+ghost use Rattle.std.specs.Prelude.{◌≡◌, ◌==◌, [], ◌∷◌, ◌++◌, Option, Some, None, map, IfOk, IfSome, OnOk, OnErr, option_copied};
+ghost use Rattle.std.specs.List.{list_any};
 ghost use Rattle.std.specs.Option.{option_map};
 ghost use Rattle.cell_names.specs.ChildPointers.{pointer_in};
 ghost use Rattle.resolver.specs.Readers.{Sight, sight_of};
@@ -124,6 +125,25 @@ fn seen_at(alloc: Global, house: HouseNo, lead: &Lead) -> Result<Seen, AllocErro
     }
 }
 
+// Whether a house is among these.
+fn is_among(houses: &[HouseNo], house: HouseNo) -> bool
+    ensures { result ≡ list_any (λ y. y == house.0) (map (λ h. h.0) houses.now) }
+{
+    for other in houses {
+        if other.0 == house.0 {
+            return true;
+        }
+    }
+    false
+}
+
+// Whether a house is one of a directory's.
+fn is_listed(houses: &HouseList, house: HouseNo) -> bool
+    ensures { result ≡ list_any (λ y. y == house.0) (houses.now.master ∷ houses.now.others) }
+{
+    houses.master().0 == house.0 || is_among(houses.others(), house)
+}
+
 impl Heard {
     // What is seen of a name by what one house said; none, if that counts for nothing.
     fn look_at(
@@ -196,10 +216,14 @@ impl Heard {
             (option_map (λ h. h.0) self.now.near) (houses.now.master ∷ houses.now.others) }
     {
         match self.near {
-            Some(house) if houses.master() == house || houses.others().contains(&house) => {
-                Some(house)
+            Some(house) => {
+                if is_listed(houses, house) {
+                    Some(house)
+                } else {
+                    None
+                }
             }
-            _ => None,
+            None => None,
         }
     }
 

@@ -1,11 +1,12 @@
 // What a name leads to by what was heard: the values of an attribute, and the target of a link.
 ghost use Rattle.std.specs.Prelude.{◌≡◌, true, Some, None, IfOk};
 ghost use Rattle.resolver.specs.Readers.{Reader};
+ghost use Rattle.resolver.specs.Walks.{found_of};
 ghost use Rattle.resolver.specs.WalkEnds.{walk_end};
 ghost use Rattle.clerk_lines.specs.declared.hearing.Told.TheVariants.{Shows};
 ghost use Rattle.cds_clerk.specs.Heards.{IsUnheard, heard_root, heard_values, told_of};
 ghost use Rattle.cds_clerk.specs.Agreements.{Agrees};
-ghost use Rattle.cds_clerk.specs.Readings.{IfSaid, IfUnknown, IfUnrooted, IsShown, values_read};
+ghost use Rattle.cds_clerk.specs.Readings.{IfFound, IfSaid, IfUnknown, IfUnrooted, IsShown, values_read};
 
 use crate::heard::{Heard, Lack};
 use crate::walking::{Walked, walk};
@@ -14,8 +15,8 @@ use cds_stamps::AttrName;
 use cell_names::FullName;
 use clerk_lines::{ShownEntry, Told};
 use ns_commands::refusal_of_walk;
-use resolver::{End, Found, Refusal};
-use script_answers::{Answer, Values};
+use resolver::{End, Found};
+use script_answers::{Answer, ScriptRefusal, Values};
 use std::alloc::{AllocError, Global};
 
 /// What a command comes to by what was heard: its answer, or what was not heard yet.
@@ -67,9 +68,22 @@ fn values_in(
     }
 }
 
-// The answer that a walk found nothing.
-fn not_found(refusal: Refusal) -> Outcome {
-    Outcome::Said(Answer::Refused(refusal_of_walk(refusal)))
+// The answer to a read, by the end of a walk.
+fn read_at(
+    alloc: Global,
+    heard: &Heard,
+    end: End,
+    attr: &AttrName,
+) -> Result<Answer, AllocError>
+    requires { IfFound end (IsShown heard.now) }
+    ensures { IfOk result (λ a. (r : Reader) → Agrees r heard.now
+        → a ≡ values_read r attr.now (found_of end)) }
+{
+    match end {
+        End::Found(found) => Ok(Answer::Values(values_in(alloc, heard, &found, attr)?)),
+        End::Missing(_, done) => Ok(Answer::Refused(ScriptRefusal::NoSuchName(done))),
+        End::Refused(refusal) => Ok(Answer::Refused(refusal_of_walk(refusal))),
+    }
 }
 
 /// The values of an attribute of the entry that a name leads to, links followed, by what was heard.
@@ -87,12 +101,7 @@ pub fn read(
     ensures root { IfOk result (λ x. IfUnrooted x (heard_root heard.now.root ≡ None)) }
 {
     match walk(alloc, heard, name, true)? {
-        Walked::Ended(End::Found(found)) => {
-            let values = values_in(alloc, heard, &found, attr)?;
-            Ok(Outcome::Said(Answer::Values(values)))
-        }
-        Walked::Ended(End::Missing(_, done)) => Ok(not_found(Refusal::NoSuchName(done))),
-        Walked::Ended(End::Refused(refusal)) => Ok(not_found(refusal)),
+        Walked::Ended(end) => Ok(Outcome::Said(read_at(alloc, heard, end, attr)?)),
         Walked::LacksRoot => Ok(Outcome::LacksRoot),
         Walked::Lacks(lack) => Ok(Outcome::Lacks(lack)),
     }

@@ -1,12 +1,12 @@
 -- What each line of an entry says.
-use Rattle.std.proofs.Common.{◌≡◌, ℕ, ◌+◌, ◌<◌, ◌≤◌, ◌^◌, true, List, [], ◌∷◌, ◌++◌, length, map, refl, ap, ◌∙◌, arith}
-use Rattle.std.specs.Prelude.{Option, Some, None, Result, Ok, codes, decimal, nat_le}
+use Rattle.std.proofs.Common.{◌≡◌, ℕ, ◌+◌, ◌≤◌, true, List, [], ◌∷◌, ◌++◌, length, map, refl, ap, ◌∙◌, arith}
+use Rattle.std.specs.Prelude.{Some, None, Result, Ok, codes, decimal, nat_le}
 use Rattle.std.specs.List.{All}
-use Rattle.std.specs.Option.{option_and_then, option_map}
+use Rattle.std.specs.Option.{option_and_then}
 use Rattle.std.specs.Result.{result_ok}
 use Rattle.std.proofs.lemmas.Bool.Decides.{nat_tests}
-use Rattle.std.proofs.lemmas.List.Elements.{All-cons, All-head, All-tail, All-weaker, All-nil}
-use Rattle.hex.specs.Hex.{decode_of, encode_lower}
+use Rattle.std.proofs.lemmas.List.Elements.{All-cons, All-head, All-tail, All-weaker}
+use Rattle.hex.specs.Hex.{encode_lower}
 use Rattle.hex.proofs.HexLemmas.{decode_of-encode_lower}
 use Rattle.cds_stamps.specs.Names.{attr_fault}
 use Rattle.cds_stamps.specs.declared.numbers.DirId.{DirId}
@@ -15,11 +15,9 @@ use Rattle.attr_sets.specs.Values.{value_fault}
 use Rattle.cell_names.specs.declared.pointer.ChildPointer.{ChildPointer}
 use Rattle.cell_names.specs.FullNames.{IsComponentList, full_name_octets}
 use Rattle.cell_names.proofs.FullNameLaws.{components_of-spelling, name_fault-spelling}
-use Rattle.cell_script.specs.declared.fault.ParseFault.{ParseFault}
-use Rattle.cell_script.specs.Words.{attr_name_of, directory_of, full_name_of, house_of, most_directory, most_house, number_of, octets_value_of, value_in, words_of}
+use Rattle.cell_script.specs.Words.{attr_name_of, directory_of, full_name_of, house_of, most_directory, most_house, octets_value_of, value_in, words_of}
 use Rattle.cell_script.specs.WordForms.{check_count, each_word, take_words}
 use Rattle.script_answers.specs.Texts.{spaced_numbers}
-use Rattle.clerk_lines.specs.declared.answer.AnswerLine.{AnswerLine}
 use Rattle.clerk_lines.specs.declared.answer.AnswerLine.TheVariants as line
 use Rattle.clerk_lines.specs.AnswerRows.{answer_said, said_by}
 use Rattle.clerk_lines.specs.ShownTexts.{IsHouseNumber, IsSayableChild, IsValue, value_text}

@@ -1,6 +1,7 @@
 -- The definitions at single lines, by computing.
-use Rattle.std.proofs.Common.{◌≡◌, [], ◌∷◌, map, replicate, refl, List, ℕ, true, false}
+use Rattle.std.proofs.Common.{◌≡◌, [], ◌∷◌, map, replicate, refl, List, ℕ, true}
 use Rattle.std.specs.Prelude.{Some, None, Option, codes}
+use Rattle.std.specs.Fmt.{digits}
 use Rattle.hex.specs.Hex.{decode_pairs}
 use Rattle.tower_codec.specs.BindingReading.{cut_at_mark}
 use Rattle.cell_script.specs.Words.{number_of, words_of}
@@ -36,9 +37,11 @@ unfolding line_said said_by numbered cut_at_mark number_of
 no_lines = refl
 
 ask_is : ask_text 1 7 255 (show_text true 2 (codes "lpr")) ≡ codes "ask 1 7 255 show high 2 lpr\n"
+unfolding digits
 ask_is = refl
 
 say_is : say_text 7 (codes "ok 0") ≡ codes "say 7 ok 0\n"
+unfolding digits
 say_is = refl
 
 -- ---- answers to `show`

@@ -1,6 +1,6 @@
 -- Entries are read back as they are said.
-use Rattle.std.proofs.Common.{◌≡◌, ℕ, ◌+◌, ◌-◌, ◌<◌, Bool, true, false, List, [], ◌∷◌, ◌++◌, length, map, get_or, refl, sym, ap, subst, ◌∙◌, arith, append_assoc, append-nil, length-append}
-use Rattle.std.specs.Prelude.{Option, Some, None, Result, Ok, codes, slice_get, ◌||◌}
+use Rattle.std.proofs.Common.{◌≡◌, ℕ, ◌-◌, ◌<◌, true, false, List, [], ◌∷◌, ◌++◌, length, map, get_or, refl, sym, ap, subst, ◌∙◌, arith, append_assoc, append-nil, length-append}
+use Rattle.std.specs.Prelude.{Option, Some, None, Result, Ok, codes, slice_get}
 use Rattle.std.specs.Option.{option_map, option_map_or}
 use Rattle.std.specs.Ordering.{is_lt}
 use Rattle.std.specs.List.{All, flat_map}
@@ -11,20 +11,16 @@ use Rattle.std.proofs.lemmas.List.Elements.{All-head, All-tail}
 use Rattle.std.proofs.lemmas.Map.Keys.{Less-from_sorted}
 use Rattle.std.proofs.lemmas.Option.{slice_get-get_or}
 use Rattle.std.proofs.Math.Seq.{get_or-append_seam}
-use Rattle.hex.specs.Hex.{encode_lower}
 use Rattle.tower_codec.specs.BindingReading.{cut_at_mark}
 use Rattle.cds_stamps.specs.Octets.{octets_cmp}
-use Rattle.cell_names.specs.FullNames.{full_name_octets}
 use Rattle.cell_names.specs.Houses.{list_fault}
 use Rattle.cell_names.proofs.HouseLaws.{list_fault-none, numbers_of_made}
 use Rattle.cell_script.specs.declared.fault.ParseFault.{ParseFault}
 use Rattle.cell_script.specs.Words.{words_of}
-use Rattle.script_answers.specs.Texts.{spaced_numbers}
 use Rattle.clerk_lines.specs.declared.answer.AnswerLine.{AnswerLine}
 use Rattle.clerk_lines.specs.declared.answer.AnswerLine.TheVariants as line
 use Rattle.clerk_lines.specs.declared.hearing.Hearing.{Hearing}
 use Rattle.clerk_lines.specs.declared.hearing.Hearing.TheVariants.{Begun, Amid, Nonsense}
-use Rattle.clerk_lines.specs.declared.hearing.Told.{Told}
 use Rattle.clerk_lines.specs.declared.hearing.Told.TheVariants.{Shows}
 use Rattle.clerk_lines.specs.declared.shown.Lead.{Lead}
 use Rattle.clerk_lines.specs.declared.shown.Lead.TheVariants as lead
@@ -32,7 +28,7 @@ use Rattle.clerk_lines.specs.declared.shown.ShownAttr.{ShownAttr}
 use Rattle.clerk_lines.specs.declared.shown.ShownEntry.{ShownEntry}
 use Rattle.clerk_lines.specs.AnswerRows.{answer_said}
 use Rattle.clerk_lines.specs.Hearings.{begun, child_unless, heard_with, is_last, said_after, told_by}
-use Rattle.clerk_lines.specs.ShownEntries.{attr_with, rises, with_value}
+use Rattle.clerk_lines.specs.ShownEntries.{attr_with, rises}
 use Rattle.clerk_lines.specs.ShownTexts.{IsSayable, IsSayableAttr, IsSayableLead, IsValue, attr_texts, entry_texts, lead_text, value_text}
 use Rattle.clerk_lines.proofs.Adding.{with_last}
 use Rattle.clerk_lines.proofs.AnswerTexts.{attr_said, child_said, link_said, object_said, value_said}

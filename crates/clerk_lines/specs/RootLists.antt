@@ -1,5 +1,5 @@
 -- Where the root directory is, by what a house answers to `status`.
-use Rattle.std.specs.Prelude.{ℕ, Bool, not, ◌&&◌, if◌then◌else◌, List, [], ◌∷◌, find, filter, map, Option, Some, None, codes}
+use Rattle.std.specs.Prelude.{ℕ, not, ◌&&◌, if◌then◌else◌, List, [], ◌∷◌, find, filter, map, Option, Some, None, codes}
 use Rattle.std.specs.Option.{option_and_then, option_map}
 use Rattle.std.specs.Str.{bytes_eq}
 use Rattle.cds_stamps.specs.declared.numbers.HouseNo.{HouseNo}
