@@ -1,20 +1,20 @@
 -- What is seen by what was heard, and readers that agree with it.
 use Rattle.std.proofs.Common.{◌≡◌, ℕ, Bool, true, List, [], ◌∷◌, refl, sym, ap, subst, ◌∙◌}
 use Rattle.std.specs.Prelude.{Option, Some, None, unwrap_or}
-use Rattle.std.specs.Option.{option_map}
+use Rattle.std.specs.Option.{option_map, option_map_or}
 use Rattle.cell_names.specs.ChildPointers.{Pointer}
 use Rattle.directory.specs.declared.entry.Kind.{Kind}
+use Rattle.directory.specs.declared.entry.Kind.TheVariants as kind
 use Rattle.resolver.specs.declared.seen.Found.{Found}
 use Rattle.resolver.specs.declared.seen.Seen.{Seen}
 use Rattle.resolver.specs.declared.walk.End.{End}
 use Rattle.resolver.specs.declared.walk.End.TheVariants as ends
 use Rattle.resolver.specs.Readers.{Reader, Sight, Unreachable, sight_of}
-use Rattle.resolver.specs.SeenEnds.{IsSeen, entry_seen}
+use Rattle.resolver.specs.SeenEnds.{IsSeen, IsSeenEnd, entry_seen}
 use Rattle.resolver.specs.Walks.{Walker, Ends, EndsFrom, found_of}
-use Rattle.resolver.specs.WalkEnds.{walk_end}
+use Rattle.resolver.specs.WalkEnds.{end_of, walk_end}
 use Rattle.resolver.specs.PassWords.{first_walker}
-use Rattle.resolver.proofs.EndLaws.{end_is}
-use Rattle.resolver.proofs.SeenLaws.{ends_seen}
+use Rattle.resolver.specs.WalkEndProofs.{one_end, some_end}
 use Rattle.script_answers.specs.declared.answer.Answer.{Answer}
 use Rattle.clerk_lines.specs.declared.hearing.Told.{Told}
 use Rattle.clerk_lines.specs.declared.hearing.Told.TheVariants as told
@@ -64,6 +64,10 @@ rooted_walk h last name root w (walked.Ended e) there first ends = λ r agrees. 
 rooted_walk h last name root w walked.LacksRoot there first ends = tt
 rooted_walk h last name root w (walked.Lacks q) there first ends = tt
 
+-- what is known of a walk that comes to its end
+pub if_ended : (x : Walked) (e : End) (P : End → Type 0) → x ≡ walked.Ended e → IfEnded x P → P e
+if_ended x e P is there = subst (λ (y : Walked). IfEnded y P) is there
+
 -- ---- one reader that agrees
 
 or_is : {A : Type 0} (o : Option A) (d x : A) → o ≡ Some x → unwrap_or o d ≡ x
@@ -84,14 +88,17 @@ abbrev IsTold : List Answered → (dir : ℕ) → (name : List ℕ) → Option S
 IsTold answers dir name o =
     (x : ℕ) (k : Kind) → entry_seen (unwrap_or o Unreachable) ≡ Some (x, k) → (e : ShownEntry) × (told_of answers dir x name ≡ Some (told.Shows e))
 
+same_house : (x y : ℕ) (k l : Kind) → Some (x, k) ≡ Some (y, l) → x ≡ y
+same_house x y k l is = ap (λ (o : Option (ℕ × Kind)). option_map_or (λ q. q.0) o x) is
+
 lead_told : (answers : List Answered) (dir : ℕ) (name : List ℕ) (x : ℕ) (e : ShownEntry) (to : Lead) → told_of answers dir x name ≡ Some (told.Shows e)
     → IsTold answers dir name (Some (lead_sight x to))
 lead_told answers dir name x e lead.Object is y k seen =
-    let same : x ≡ y = cc in (e, subst (λ (z : ℕ). told_of answers dir z name ≡ Some (told.Shows e)) same is)
+    let same = same_house x y kind.Object k seen in (e, subst (λ (z : ℕ). told_of answers dir z name ≡ Some (told.Shows e)) same is)
 lead_told answers dir name x e (lead.Link target) is y k seen =
-    let same : x ≡ y = cc in (e, subst (λ (z : ℕ). told_of answers dir z name ≡ Some (told.Shows e)) same is)
+    let same = same_house x y kind.Link k seen in (e, subst (λ (z : ℕ). told_of answers dir z name ≡ Some (told.Shows e)) same is)
 lead_told answers dir name x e (lead.Child p) is y k seen =
-    let same : x ≡ y = cc in (e, subst (λ (z : ℕ). told_of answers dir z name ≡ Some (told.Shows e)) same is)
+    let same = same_house x y kind.Child k seen in (e, subst (λ (z : ℕ). told_of answers dir z name ≡ Some (told.Shows e)) same is)
 
 house_told : (answers : List Answered) (dir : ℕ) (name : List ℕ) (x : ℕ) (t : Option Told) (later : Option Sight) → told_of answers dir x name ≡ t
     → IsTold answers dir name later → IsTold answers dir name (seen_by t x later)
@@ -124,12 +131,17 @@ found_shown h last f seen =
     record { entry = shown.0; told = subst (λ (d : ℕ). told_of h.answers d f.house.0 f.name ≡ Some (told.Shows shown.0)) seen.dir shown.1 }
 
 -- an entry that a walk finds over what was heard was shown by its house
-pub ended_shown : (h : Heard) (last : Bool) (name : List (List ℕ)) (e : End) → Ends (least_reader h) last name e → IfFound e (IsShown h)
-ended_shown h last name (ends.Found f) there = found_shown h last f (ends_seen there)
-ended_shown h last name (ends.Missing place done) there = tt
-ended_shown h last name (ends.Refused why) there = tt
+pub ended_shown : (h : Heard) (last : Bool) (e : End) → IsSeenEnd (least_reader h) last e → IfFound e (IsShown h)
+ended_shown h last (ends.Found f) seen = found_shown h last f seen
+ended_shown h last (ends.Missing place done) seen = tt
+ended_shown h last (ends.Refused why) seen = tt
+
+-- an end to which a walk comes is its end
+end_is : (r : Reader) (last : Bool) (name : List (List ℕ)) (e : End) → Ends r last name e → end_of r last name ≡ e
+unfolding end_of
+end_is r last name e there = one_end (some_end r last name).1 there
 
 -- the answer to a read, by the end of the walk
 pub read_so : (r : Reader) (attr : List ℕ) (name : List (List ℕ)) (e : End) (a : Answer) → Ends r true name e → a ≡ values_read r attr (found_of e)
     → a ≡ values_read r attr (walk_end r true name)
-read_so r attr name e a there is = is ∙ ap (λ (x : End). values_read r attr (found_of x)) (sym (end_is there))
+read_so r attr name e a there is = is ∙ ap (λ (x : End). values_read r attr (found_of x)) (sym (end_is r true name e there))

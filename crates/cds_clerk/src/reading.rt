@@ -15,6 +15,7 @@ use cds_stamps::AttrName;
 use cell_names::FullName;
 use clerk_lines::{ShownEntry, Told};
 use ns_commands::refusal_of_walk;
+use resolver::laws::ends_are_seen;
 use resolver::{End, Found};
 use script_answers::{Answer, ScriptRefusal, Values};
 use std::alloc::{AllocError, Global};
@@ -100,6 +101,7 @@ pub fn read(
     ensures asks { IfOk result (λ x. IfUnknown x (IsUnheard heard.now)) }
     ensures root { IfOk result (λ x. IfUnrooted x (heard_root heard.now.root ≡ None)) }
 {
+    ends_are_seen();
     match walk(alloc, heard, name, true)? {
         Walked::Ended(end) => Ok(Outcome::Said(read_at(alloc, heard, end, attr)?)),
         Walked::LacksRoot => Ok(Outcome::LacksRoot),
