@@ -88,7 +88,7 @@ abbrev IsTold : List Answered → (dir : ℕ) → (name : List ℕ) → Option S
 IsTold answers dir name o =
     (x : ℕ) (k : Kind) → entry_seen (unwrap_or o Unreachable) ≡ Some (x, k) → (e : ShownEntry) × (told_of answers dir x name ≡ Some (told.Shows e))
 
-same_house : (x y : ℕ) (k l : Kind) → Some (x, k) ≡ Some (y, l) → x ≡ y
+same_house : (x y : ℕ) (k l : Kind) → ◌≡◌ {A = Option (ℕ × Kind)} (Some (x, k)) (Some (y, l)) → x ≡ y
 same_house x y k l is = ap (λ (o : Option (ℕ × Kind)). option_map_or (λ q. q.0) o x) is
 
 lead_told : (answers : List Answered) (dir : ℕ) (name : List ℕ) (x : ℕ) (e : ShownEntry) (to : Lead) → told_of answers dir x name ≡ Some (told.Shows e)

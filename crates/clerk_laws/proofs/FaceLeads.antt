@@ -5,7 +5,7 @@ use Rattle.std.specs.List.{AllByRecursion}
 use Rattle.std.specs.Option.{option_map, option_map_or}
 use Rattle.std.proofs.lemmas.Bool.Decides.{nat_tests}
 use Rattle.cds_stamps.specs.declared.stamp.Stamp.{Stamp}
-use Rattle.cell_names.specs.ChildPointers.{Pointer, is_child_pointer, pointer_of}
+use Rattle.cell_names.specs.ChildPointers.{Pointer, is_child_pointer}
 use Rattle.cell_names.specs.FullNames.{components_of, is_full_name, name_fault}
 use Rattle.cell_names.proofs.FullNameLaws.{spelling-components}
 use Rattle.directory.specs.Kinds.{link_target, replicas}

@@ -1,31 +1,28 @@
 -- What a clerk reads of a house's answer is what the house has.
-use Rattle.std.proofs.Common.{◌≡◌, ℕ, Bool, true, false, List, [], ◌∷◌, ◌++◌, refl, sym, ap, subst, ◌∙◌}
+use Rattle.std.proofs.Common.{◌≡◌, ℕ, Bool, true, false, List, [], ◌∷◌, ◌++◌, refl, sym, ap, ◌∙◌}
 use Rattle.std.specs.Prelude.{Option, Some, None, codes, is_some, is_none, not, ◌&&◌, ◌==◌, if◌then◌else◌}
-use Rattle.std.specs.FinMap.{entries, find, get, get-entries}
-use Rattle.std.specs.List.{flat_map}
+use Rattle.std.specs.FinMap.{entries, get, get-entries}
 use Rattle.std.specs.Option.{option_map_or}
 use Rattle.attr_sets.specs.AttributeCells.{cell_values}
 use Rattle.attr_sets.proofs.ShownLaws.{map_rises}
 use Rattle.cds_stamps.specs.Members.{master_of, members_of}
-use Rattle.cds_stamps.specs.Octets.{octets_cmp}
 use Rattle.tower_codec.specs.BindingReading.{cut_at_mark}
-use Rattle.directory.specs.Shown.{Shown, entry_values, face_of, lead_of, leads, shown_entry, shown_if_live}
+use Rattle.directory.specs.Shown.{Shown, entry_values, face_of, leads, shown_entry}
 use Rattle.directory.specs.declared.entry.EntryCell.{EntryCell}
 use Rattle.house_directory.specs.declared.states.DirState.{DirState}
 use Rattle.house_directory.specs.declared.states.DirState.TheVariants as state
 use Rattle.script_answers.specs.declared.answer.ScriptRefusal.TheVariants as why
 use Rattle.cell_runs.specs.LineAnswers.{refused}
 use Rattle.script_answers.specs.Texts.{each_lines}
-use Rattle.house_turns.specs.Showings.{attr_shown, entry_said, entry_shown, lead_line, show_said}
+use Rattle.house_turns.specs.Showings.{attr_shown, entry_said, entry_shown, show_said}
 use Rattle.clerk_lines.specs.declared.hearing.Hearing.TheVariants.{Begun}
 use Rattle.clerk_lines.specs.declared.hearing.Told.{Told}
 use Rattle.clerk_lines.specs.declared.hearing.Told.TheVariants as told
 use Rattle.clerk_lines.specs.declared.shown.ShownEntry.{ShownEntry}
 use Rattle.clerk_lines.specs.Hearings.{is_last, told_by}
-use Rattle.clerk_lines.specs.ShownEntries.{attr_values}
 use Rattle.clerk_lines.specs.ShownTexts.{IsSayable, entry_texts, lead_text}
 use Rattle.clerk_lines.proofs.ReadBack.{entry_read_back}
-use Rattle.clerk_laws.specs.Faces.{IsFace, IsHeardOf, IsSayableCell, IsSayableShown, IsSayableTo, live, shown_to}
+use Rattle.clerk_laws.specs.Faces.{IsHeardOf, IsSayableCell, IsSayableShown, IsSayableTo, live, shown_to}
 use Rattle.clerk_laws.proofs.FaceLeads.{led}
 use Rattle.clerk_laws.proofs.FaceValues.{attrs_as, attrs_lines, attrs_sayable, attrs_values}
 

@@ -1,5 +1,5 @@
 -- What a house has of a name, and what a clerk hears of it.
-use Rattle.std.specs.Prelude.{◌≡◌, ℕ, Bool, ◌&&◌, not, ◌==◌, if◌then◌else◌, List, [], Option, Some, None, is_some}
+use Rattle.std.specs.Prelude.{◌≡◌, ℕ, Bool, ◌&&◌, not, ◌==◌, if◌then◌else◌, List, Option, Some, None, is_some}
 use Rattle.std.specs.FinMap.{get, entries}
 use Rattle.std.specs.List.{All}
 use Rattle.std.specs.Option.{option_map}
