@@ -77,6 +77,7 @@ same_ties a b = by_both (eq_by_cmp octets_cmp a b) (eq_by_cmp octets_cmp b a) re
     itself x y tie =
         let same : x ≡ y = ties_are_equal octets_exact x y tie in
         subst (λ (z : List ℕ). eq_by_cmp octets_cmp z x ≡ true) same (ap is_eq (tied_itself nat_list_cmp_total x))
+
     by_both : (s t : Bool) → eq_by_cmp octets_cmp a b ≡ s → eq_by_cmp octets_cmp b a ≡ t → s ≡ t
     by_both true t p q = sym (itself a b p) ∙ q
     by_both false true p q = sym p ∙ itself b a q

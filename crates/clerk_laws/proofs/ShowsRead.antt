@@ -69,10 +69,14 @@ entry_heard e on is =
     let sayable : IsSayable s = record { lead = to.sayable; attrs = attrs_sayable es is.named is.values } in (
       told.Shows s,
       ap (told_by Begun) lines ∙ entry_read_back s sayable,
-      (s, refl, record {
-        leads = to.leads;
-        values = λ a. attrs_values a es (map_rises e.attrs) ∙ ap (λ (o : Option _). option_map_or cell_values o []) (sym (get-entries e.attrs a));
-      }),
+      (
+        s,
+        refl,
+        record {
+          leads = to.leads;
+          values = λ a. attrs_values a es (map_rises e.attrs) ∙ ap (λ (o : Option _). option_map_or cell_values o []) (sym (get-entries e.attrs a));
+        },
+      ),
     )
 
 -- ---- any answer

@@ -80,11 +80,7 @@ fn child(alloc: Global, words: &mut Words<'_>) -> Parsed<AnswerLine>
     ensures { Answers result (said_by (codes "child") words.old) }
 {
     words.at_least(2)?;
-    Ok(AnswerLine::Child(
-        words.directory()?,
-        words.house()?,
-        words.houses(alloc)?,
-    ))
+    Ok(AnswerLine::Child(words.directory()?, words.house()?, words.houses(alloc)?))
 }
 
 #[tactic(auto, unfolding(crate::specs::AnswerRows::said_by))]

@@ -17,7 +17,14 @@ fn a_clerk_reads_its_lines(rt: HostRuntime) -> Result<(), Fail> {
     assert!(rt; line.text == b"attr A".as_slice());
     let line = read_clerk_line(b"down 2").ok_or("a house")?;
     assert!(rt; line.word == ClerkWord::Down && line.number == 2);
-    for other in [b"down 2 3".as_slice(), b"hear 2", b"do 0 x", b"done 1 x", b"do", b""] {
+    for other in [
+        b"down 2 3".as_slice(),
+        b"hear 2",
+        b"do 0 x",
+        b"done 1 x",
+        b"do",
+        b"",
+    ] {
         assert!(rt; read_clerk_line(other).is_none());
     }
     Ok(())
@@ -27,7 +34,12 @@ fn a_clerk_reads_its_lines(rt: HostRuntime) -> Result<(), Fail> {
 fn a_clerk_writes_its_lines(rt: HostRuntime) -> Result<(), Fail> {
     let alloc = rt.alloc();
     let mut question = Vec::new(alloc);
-    push_show(&mut question, true, DirId(2), &SimpleName::parse(alloc, b"lpr")?)?;
+    push_show(
+        &mut question,
+        true,
+        DirId(2),
+        &SimpleName::parse(alloc, b"lpr")?,
+    )?;
     let mut text = Vec::new(alloc);
     push_ask(&mut text, 1, 7, HouseNo(255), &question)?;
     push_say(&mut text, 7, b"ok 0")?;
@@ -58,10 +70,21 @@ fn shown(alloc: Global, lines: &[&[u8]]) -> Result<ShownEntry, Fail> {
 #[test]
 fn entries_are_heard(rt: HostRuntime) -> Result<(), Fail> {
     let alloc = rt.alloc();
-    let lines = [b"object".as_slice(), b"attr A", b"value 01", b"value 0100", b"attr B", b"value ff", b"end"];
+    let lines = [
+        b"object".as_slice(),
+        b"attr A",
+        b"value 01",
+        b"value 0100",
+        b"attr B",
+        b"value ff",
+        b"end",
+    ];
     let entry = shown(alloc, &lines)?;
     assert!(rt; matches!(&entry.lead, Lead::Object));
-    let values = entry.attrs.values(&AttrName::parse(alloc, b"A")?).ok_or("A")?;
+    let values = entry
+        .attrs
+        .values(&AttrName::parse(alloc, b"A")?)
+        .ok_or("A")?;
     assert!(rt; values.list().len() == 2);
     assert!(rt; values.list()[1].octets() == b"\x01\x00".as_slice());
     assert!(rt; entry.attrs.values(&AttrName::parse(alloc, b"C")?).is_none());
@@ -106,7 +129,13 @@ fn other_answers_are_passed_over(rt: HostRuntime) -> Result<(), Fail> {
     assert!(rt; other);
     let other = is_nonsense(alloc, &[b"object 1"])?;
     assert!(rt; other);
-    for line in [b"refused NoReplica".as_slice(), b"refused NotMaster", b"end", b"ok", b"fault UnknownCommand 1"] {
+    for line in [
+        b"refused NoReplica".as_slice(),
+        b"refused NotMaster",
+        b"end",
+        b"ok",
+        b"fault UnknownCommand 1",
+    ] {
         let answer = told(alloc, &[line])?;
         assert!(rt; matches!(&answer, Told::Passed));
     }
@@ -123,7 +152,10 @@ fn the_list_of_the_root_is_read(rt: HostRuntime) -> Result<(), Fail> {
     assert!(rt; root.houses.others() == [HouseNo(1), HouseNo(5)].as_slice());
     let none = read_root(alloc, b"refused NoReplica")?;
     assert!(rt; none.is_none());
-    let none = read_root(alloc, b"ok epoch 3 allupto none skulk none entries 2 members 1:1:r")?;
+    let none = read_root(
+        alloc,
+        b"ok epoch 3 allupto none skulk none entries 2 members 1:1:r",
+    )?;
     assert!(rt; none.is_none());
     Ok(())
 }

@@ -1,10 +1,7 @@
 use Rattle.std.proofs.Common.{sym, ap, ◌∙◌}
 use Rattle.std.specs.Prelude.{None}
-use Rattle.cell_names.specs.ChildPointers.{pointer_in}
-use Rattle.resolver.specs.PassWords.{walker_of}
 use Rattle.resolver.proofs.PassLaws.{empty_walk, rootless_walk}
 use Rattle.cds_clerk.specs.Heards.{heard_root}
-use Rattle.cds_clerk.proofs.HeardLaws.{rooted_walk}
 use Rattle.cds_clerk.proofs.walking.walk.Goals as goal
 
 pub returns-then-len-eq0-clause-done : goal.returns-then-len-eq0-clause-done
