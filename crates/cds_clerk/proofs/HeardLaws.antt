@@ -83,7 +83,7 @@ least_agrees h = record {
 
 -- ---- entries that were shown
 
--- what shows an entry was told by the house that is seen
+-- an entry that is seen was shown by that house
 abbrev IsTold : List Answered → (dir : ℕ) → (name : List ℕ) → Option Sight → Type 0
 IsTold answers dir name o =
     (x : ℕ) (k : Kind) → entry_seen (unwrap_or o Unreachable) ≡ Some (x, k) → (e : ShownEntry) × (told_of answers dir x name ≡ Some (told.Shows e))

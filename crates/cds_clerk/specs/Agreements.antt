@@ -13,8 +13,10 @@ use Rattle.cds_clerk.specs.Heards.{heard_root, heard_sight, heard_values}
 -- a reader tells all that was heard
 pub record Agrees (r : Reader) (h : Heard) : Type 0 where
   pub root : (p : Option Pointer) → heard_root h.root ≡ Some p → r.root ≡ p
-  pub sees : (at : Pointer) (name : List ℕ) (s : Sight) → heard_sight h at name ≡ Some s → r.sees at name ≡ s
-  pub values : (f : Found) (attr : List ℕ) (vs : List (List ℕ)) → heard_values h f attr ≡ Some vs → r.values f attr ≡ vs
+  pub sees : (at : Pointer) (name : List ℕ) (s : Sight) → heard_sight h at name ≡ Some s
+      → r.sees at name ≡ s
+  pub values : (f : Found) (attr : List ℕ) (vs : List (List ℕ)) → heard_values h f attr ≡ Some vs
+      → r.values f attr ≡ vs
 
 -- what a walk comes to, if it comes to its end
 abbrev pub IfEnded : Walked → (End → Type 0) → Type 0

@@ -30,7 +30,8 @@ is_about a dir house name = a.dir.0 == dir && (a.house.0 == house && pointwise n
 -- what a house said of a name, if it was heard: its first answer
 unfoldable pub told_of : List Answered → (dir house : ℕ) → (name : List ℕ) → Option Told
 told_of [] dir house name = None
-told_of (a ∷ more) dir house name = if is_about a dir house name then Some a.told else told_of more dir house name
+told_of (a ∷ more) dir house name =
+    if is_about a dir house name then Some a.told else told_of more dir house name
 
 -- where the root directory is, if that was heard; there may be none
 abbrev pub heard_root : Root → Option (Option Pointer)
@@ -55,27 +56,35 @@ seen_by (Some told.Absent) house later = Some (Absent house)
 seen_by (Some (told.Shows e)) house later = Some (lead_sight house e.lead)
 
 -- by what these houses said, one after the other, and by later ones
-unfoldable pub seen_among : List Answered → (dir : ℕ) → (name : List ℕ) → (houses : List ℕ) → (later : Option Sight) → Option Sight
+unfoldable pub seen_among : List Answered → (dir : ℕ) → (name : List ℕ) → (houses : List ℕ)
+    → (later : Option Sight) → Option Sight
 seen_among answers dir name [] later = later
-seen_among answers dir name (x ∷ xs) later = seen_by (told_of answers dir x name) x (seen_among answers dir name xs later)
+seen_among answers dir name (x ∷ xs) later =
+    seen_by (told_of answers dir x name) x (seen_among answers dir name xs later)
 
 -- the house that is near, if it is one of these
 abbrev pub near_of : Option ℕ → List ℕ → Option ℕ
-near_of near houses = option_and_then (λ x. if list_any (λ y. y == x) houses then Some x else None) near
+near_of near houses =
+    option_and_then (λ x. if list_any (λ y. y == x) houses then Some x else None) near
 
 -- by what this house said, if there is one, and by later ones
-abbrev pub seen_first : List Answered → (dir : ℕ) → (name : List ℕ) → Option ℕ → (later : Option Sight) → Option Sight
+abbrev pub seen_first : List Answered → (dir : ℕ) → (name : List ℕ) → Option ℕ
+    → (later : Option Sight) → Option Sight
 seen_first answers dir name None later = later
 seen_first answers dir name (Some x) later = seen_by (told_of answers dir x name) x later
 
 -- by what the house said that is near, if it is listed, and by later ones
 abbrev pub seen_near : Heard → Pointer → (name : List ℕ) → (later : Option Sight) → Option Sight
-seen_near h at name later = seen_first h.answers at.dir name (near_of (option_map (λ x. x.0) h.near) (at.master ∷ at.others)) later
+seen_near h at name later =
+    let near = near_of (option_map (λ x. x.0) h.near) (at.master ∷ at.others) in
+    seen_first h.answers at.dir name near later
 
 -- by what was heard: of the listed houses the near one comes first, and if no answer counts, none
 -- is reached; nothing yet, if a house was not heard before one whose answer counts
 abbrev pub heard_sight : Heard → Pointer → (name : List ℕ) → Option Sight
-heard_sight h at name = seen_near h at name (seen_among h.answers at.dir name (at.master ∷ at.others) (Some Unreachable))
+heard_sight h at name =
+    seen_near h at name
+    (seen_among h.answers at.dir name (at.master ∷ at.others) (Some Unreachable))
 
 -- ---- what shows of an entry
 

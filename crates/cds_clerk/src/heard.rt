@@ -167,7 +167,7 @@ impl Heard {
         }
     }
 
-    // The same of the first of these houses whose answer counts.
+    // What is seen of a name by what the first of these houses said whose answer counts.
     #[tactic(auto, unfolding(crate::specs::Heards::seen_among))]
     fn look_among(
         &self,
@@ -190,7 +190,7 @@ impl Heard {
         Ok(None)
     }
 
-    // The same of the listed houses, in their order.
+    // What is seen of a name by what the listed houses said, in their order.
     #[tactic(auto, unfolding(crate::specs::Heards::seen_among))]
     fn look_listed(
         &self,
@@ -234,11 +234,10 @@ impl Heard {
         at: &ChildPointer,
         name: &SimpleName,
     ) -> Result<Option<Looked>, AllocError>
-        ensures seen { IfOk result (λ o. (later : Option Sight)
-            → seen_near self.now (pointer_in at.now) name.now later
-            ≡ sight_after o later) }
         ensures lacks { IfOk result (λ o. IfSome o (λ l. IfLacks l (λ x.
             told_of self.now.answers at.now.dir.0 x.0 name.now ≡ None))) }
+        ensures seen { IfOk result (λ o. (later : Option Sight)
+            → seen_near self.now (pointer_in at.now) name.now later ≡ sight_after o later) }
     {
         match self.near_of(&at.houses) {
             Some(house) => self.look_at(alloc, at.dir, house, name),

@@ -29,7 +29,7 @@ pub enum Outcome {
     Lacks(Lack),
 }
 
-// The same values again.
+// Copies of values.
 fn copies(alloc: Global, values: &[Value]) -> Result<Values, AllocError>
     ensures { IfOk result (λ v. v ≡ values.now) }
 {
@@ -70,12 +70,7 @@ fn values_in(
 }
 
 // The answer to a read, by the end of a walk.
-fn read_at(
-    alloc: Global,
-    heard: &Heard,
-    end: End,
-    attr: &AttrName,
-) -> Result<Answer, AllocError>
+fn read_at(alloc: Global, heard: &Heard, end: End, attr: &AttrName) -> Result<Answer, AllocError>
     requires { IfFound end (IsShown heard.now) }
     ensures { IfOk result (λ a. (r : Reader) → Agrees r heard.now
         → a ≡ values_read r attr.now (found_of end)) }

@@ -31,17 +31,23 @@ live None = None
 live (Some e) = if is_some (shown_entry e) then Some e else None
 
 -- what the house x shows of a name, if it answers; at `high` the master alone does, by its own list
-abbrev pub shown_to : (x : ℕ) → (high : Bool) → (name : List ℕ) → Option DirState → Option (Option EntryCell)
+abbrev pub shown_to : (x : ℕ) → (high : Bool) → (name : List ℕ) → Option DirState
+    → Option (Option EntryCell)
 shown_to x high name None = None
 shown_to x high name (Some (state.Gone e)) = None
 shown_to x high name (Some (state.Held h)) =
-    if high && not (master_of (members_of h.members) == x) then None else Some (live (get h.replica.table name))
+    if high && not (master_of (members_of h.members) == x) then None
+    else Some (live (get h.replica.table name))
 
 -- ---- what is heard of it
 
 -- a child that leads there
 abbrev pub child_at : Pointer → ChildPointer
-child_at p = record { dir = record { 0 = p.dir }; houses = record { master = p.master; others = p.others } }
+child_at p = record {
+  dir = record { 0 = p.dir };
+  houses =
+      record { master = p.master; others = p.others };
+}
 
 -- where an entry of this kind leads, by the octets that say so
 abbrev pub lead_at : Kind → Option (List ℕ) → Option Lead
@@ -68,7 +74,8 @@ abbrev pub IsSayableLed : Kind → Option (List ℕ) → Type 0
 IsSayableLed kind.Object octets = Unit {0}
 IsSayableLed kind.Link octets = Unit {0}
 IsSayableLed kind.Child None = Unit {0}
-IsSayableLed kind.Child (Some v) = (p : Pointer) × (pointer_of v ≡ Some p) × IsSayableChild (child_at p)
+IsSayableLed kind.Child (Some v) =
+    (p : Pointer) × (pointer_of v ≡ Some p) × IsSayableChild (child_at p)
 
 -- the names of the attributes are such, and so are the values
 pub record IsSayableCell (e : EntryCell) : Type 0 where

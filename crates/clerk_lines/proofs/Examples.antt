@@ -13,7 +13,7 @@ use Rattle.clerk_lines.specs.declared.hearing.Told.TheVariants.{Passed, Absent, 
 use Rattle.clerk_lines.specs.declared.shown.Lead.TheVariants as lead
 use Rattle.clerk_lines.specs.AnswerRows.{answer_said, said_by as answer_by}
 use Rattle.clerk_lines.specs.ClerkTexts.{ask_text, say_text, show_text}
-use Rattle.clerk_lines.specs.ClerkWords.{line_said, numbered, said_by}
+use Rattle.clerk_lines.specs.ClerkWords.{line_said, number_said, said_by}
 use Rattle.clerk_lines.specs.Hearings.{is_last, told_by}
 use Rattle.clerk_lines.specs.RootLists.{member_said, members_said, root_said}
 use Rattle.clerk_lines.specs.ShownEntries.{with_value}
@@ -21,19 +21,19 @@ use Rattle.clerk_lines.specs.ShownEntries.{with_value}
 -- ---- lines of a clerk
 
 do_is : line_said (codes "do 7 read low /.:/a A") ≡ Some (Do, 7, codes "read low /.:/a A")
-unfolding line_said said_by numbered cut_at_mark number_of
+unfolding line_said said_by number_said cut_at_mark number_of
 do_is = refl
 
 hear_is : line_said (codes "hear 2  end") ≡ Some (Hear, 2, codes " end")
-unfolding line_said said_by numbered cut_at_mark number_of
+unfolding line_said said_by number_said cut_at_mark number_of
 hear_is = refl
 
 down_is : line_said (codes "down 3") ≡ Some (Down, 3, [])
-unfolding line_said said_by numbered cut_at_mark number_of
+unfolding line_said said_by number_said cut_at_mark number_of
 down_is = refl
 
 no_lines : map line_said (codes "down 3 " ∷ codes "hear 2" ∷ codes "do 0 x" ∷ codes "done 1 x" ∷ []) ≡ replicate 4 None
-unfolding line_said said_by numbered cut_at_mark number_of
+unfolding line_said said_by number_said cut_at_mark number_of
 no_lines = refl
 
 ask_is : ask_text 1 7 255 (show_text true 2 (codes "lpr")) ≡ codes "ask 1 7 255 show high 2 lpr\n"

@@ -27,7 +27,7 @@ use Rattle.clerk_lines.specs.declared.shown.Lead.TheVariants as lead
 use Rattle.clerk_lines.specs.declared.shown.ShownAttr.{ShownAttr}
 use Rattle.clerk_lines.specs.declared.shown.ShownEntry.{ShownEntry}
 use Rattle.clerk_lines.specs.AnswerRows.{answer_said}
-use Rattle.clerk_lines.specs.Hearings.{begun, child_unless, heard_with, is_last, said_after, told_by}
+use Rattle.clerk_lines.specs.Hearings.{entry_begun, child_unless, heard_with, is_last, said_after, told_by}
 use Rattle.clerk_lines.specs.ShownEntries.{attr_with, rises}
 use Rattle.clerk_lines.specs.ShownTexts.{IsSayable, IsSayableAttr, IsSayableLead, IsValue, attr_texts, entry_texts, lead_text, value_text}
 use Rattle.clerk_lines.proofs.Adding.{with_last}
@@ -136,7 +136,7 @@ lead_goes_on lead.Object = refl
 lead_goes_on (lead.Link target) = refl
 lead_goes_on (lead.Child p) = refl
 
-lead_heard : (to : Lead) → IsSayableLead to → heard_with Begun (lead_text to) ≡ begun to
+lead_heard : (to : Lead) → IsSayableLead to → heard_with Begun (lead_text to) ≡ entry_begun to
 lead_heard lead.Object is = heard_so Begun (codes "object") line.Object object_said
 lead_heard (lead.Link target) is =
     heard_so Begun (lead_text (lead.Link target)) (line.Link target) (link_said target is)
@@ -152,6 +152,6 @@ lead_heard (lead.Child p) is =
 -- an entry, by all its lines
 pub entry_read_back : (e : ShownEntry) → IsSayable e → told_by Begun (entry_texts e) ≡ Some (Shows e)
 entry_read_back e is =
-    told_on Begun (begun e.lead) (lead_text e.lead) (flat_map attr_texts e.attrs ++ codes "end" ∷ []) (lead_goes_on e.lead) (lead_heard e.lead is.lead)
+    told_on Begun (entry_begun e.lead) (lead_text e.lead) (flat_map attr_texts e.attrs ++ codes "end" ∷ []) (lead_goes_on e.lead) (lead_heard e.lead is.lead)
     ∙ attrs_heard e.lead [] e.attrs (codes "end" ∷ []) is.attrs
     ∙ ends_there e

@@ -24,35 +24,38 @@ use Rattle.clerk_lines.specs.ShownEntries.{with_attr, with_value}
 -- ---- lines before the last one
 
 -- an entry that leads there, before any attribute
-abbrev pub begun : Lead → Hearing
-begun to = Amid (record { lead = to; attrs = [] })
+abbrev pub entry_begun : Lead → Hearing
+entry_begun to = Amid (record { lead = to; attrs = [] })
 
 -- a child of this directory at these houses, unless they are none of a child
 abbrev pub child_unless : Option HousesFault → DirId → Houses → Hearing
-child_unless None dir houses = begun (lead.Child (record { dir = dir; houses = houses }))
+child_unless None dir houses = entry_begun (lead.Child (record { dir = dir; houses = houses }))
 child_unless (Some fault) dir houses = Nonsense
 
 -- a child of this directory at the house of the master and at others
 abbrev pub child_said : DirId → HouseNo → List HouseNo → Hearing
 child_said dir master others =
-    let numbers = map (λ h. h.0) others in child_unless (list_fault master.0 numbers) dir (record { master = master.0; others = numbers })
+    let numbers = map (λ h. h.0) others in
+    child_unless (list_fault master.0 numbers) dir
+    (record { master = master.0; others = numbers })
 
 -- the first line has the kind of the entry, and where it leads
 abbrev pub first_said : AnswerLine → Hearing
-first_said Object = begun lead.Object
-first_said (Link target) = begun (lead.Link target)
+first_said Object = entry_begun lead.Object
+first_said (Link target) = entry_begun (lead.Link target)
 first_said (Child dir master others) = child_said dir master others
 first_said (Attr name) = Nonsense
 first_said (Value v) = Nonsense
 
 -- an entry with a value, if that can be its next one
-abbrev pub valued : ShownEntry → List ℕ → Hearing
-valued e v = option_map_or (λ attrs. Amid (record e { attrs = attrs })) (with_value e.attrs v) Nonsense
+abbrev pub entry_with : ShownEntry → List ℕ → Hearing
+entry_with e v =
+    option_map_or (λ attrs. Amid (record e { attrs = attrs })) (with_value e.attrs v) Nonsense
 
 -- each later line has an attribute, or a value of the last one
 abbrev pub later_said : ShownEntry → AnswerLine → Hearing
 later_said e (Attr name) = Amid (record e { attrs = with_attr e.attrs name })
-later_said e (Value v) = valued e v
+later_said e (Value v) = entry_with e v
 later_said e Object = Nonsense
 later_said e (Link target) = Nonsense
 later_said e (Child dir master others) = Nonsense
@@ -89,4 +92,5 @@ told_at_end Nonsense line = Passed
 -- what the house says by all lines of its answer, if the last one is among them
 unfoldable pub told_by : Hearing → List (List ℕ) → Option Told
 told_by h [] = None
-told_by h (line ∷ lines) = if is_last line then Some (told_at_end h line) else told_by (heard_with h line) lines
+told_by h (line ∷ lines) =
+    if is_last line then Some (told_at_end h line) else told_by (heard_with h line) lines

@@ -27,4 +27,5 @@ with_value (a ∷ b ∷ more) v = option_map (λ cs. a ∷ cs) (with_value (b �
 -- the values of an attribute: none, if it was not heard of
 unfoldable pub attr_values : (name : List ℕ) → List ShownAttr → List (List ℕ)
 attr_values name [] = []
-attr_values name (a ∷ more) = if pointwise nat_eq a.name name then a.values else attr_values name more
+attr_values name (a ∷ more) =
+    if pointwise nat_eq a.name name then a.values else attr_values name more

@@ -22,7 +22,8 @@ use Rattle.clerk_lines.specs.declared.shown.ShownEntry.{ShownEntry}
 abbrev pub lead_text : Lead → List ℕ
 lead_text lead.Object = codes "object"
 lead_text (lead.Link target) = codes "link " ++ full_name_octets target
-lead_text (lead.Child p) = codes "child" ++ spaced_numbers (p.dir.0 ∷ p.houses.master ∷ p.houses.others)
+lead_text (lead.Child p) =
+    codes "child" ++ spaced_numbers (p.dir.0 ∷ p.houses.master ∷ p.houses.others)
 
 -- a value
 abbrev pub value_text : List ℕ → List ℕ

@@ -1,6 +1,6 @@
 // The answer to `show`, heard line by line.
 ghost use Rattle.std.specs.Prelude.{◌≡◌, IfOk};
-ghost use Rattle.clerk_lines.specs.Hearings.{begun, child_said, first_said, heard_with, is_last, later_said, told_at_end, word_of};
+ghost use Rattle.clerk_lines.specs.Hearings.{entry_begun, child_said, first_said, heard_with, is_last, later_said, told_at_end, word_of};
 
 use crate::answer::{AnswerLine, parse_answer_line};
 use crate::shown::{Lead, ShownAttrs, ShownEntry};
@@ -71,7 +71,7 @@ fn child(
 
 // An entry of which only the first line was heard.
 fn entry(alloc: Global, lead: Lead) -> Hearing
-    ensures { result ≡ begun lead }
+    ensures { result ≡ entry_begun lead }
 {
     Hearing::Amid(ShownEntry {
         lead,

@@ -1,7 +1,7 @@
 // The lines that a clerk reads.
 ghost use Rattle.std.specs.Prelude.{◌≡◌};
 ghost use Rattle.std.specs.Option.{option_map};
-ghost use Rattle.clerk_lines.specs.ClerkWords.{line_said, numbered, said_by};
+ghost use Rattle.clerk_lines.specs.ClerkWords.{line_said, number_said, said_by};
 ghost use Rattle.tower_codec.specs.BindingReading.{cut_at_mark};
 
 use cell_script::number_up_to;
@@ -57,9 +57,9 @@ fn said_by<'a>(word: &[u8], rest: &'a [u8]) -> Option<ClerkLine<'a>>
 }
 
 // A line with a number and a text after that.
-#[tactic(auto, unfolding(crate::specs::ClerkWords::numbered))]
+#[tactic(auto, unfolding(crate::specs::ClerkWords::number_said))]
 fn numbered(word: ClerkWord, rest: &[u8]) -> Option<ClerkLine<'_>>
-    ensures { option_map (λ l. (l.word, l.number, l.text.now)) result ≡ numbered word rest.now }
+    ensures { option_map (λ l. (l.word, l.number, l.text.now)) result ≡ number_said word rest.now }
 {
     let (number, text) = split_at_mark(rest, b' ')?;
     Some(ClerkLine {
