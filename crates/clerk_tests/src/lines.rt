@@ -70,8 +70,12 @@ fn shown(alloc: Global, lines: &[&[u8]]) -> Result<ShownEntry, Fail> {
 
 // The name to which a link leads.
 fn link_of(alloc: Global) -> Result<FullName, Fail> {
-    let entry = shown(alloc, &[b"link /.:/a/b", b"end"])?;
-    match entry.lead {
+    let lines = [b"link /.:/a/b".as_slice(), b"end"];
+    let ShownEntry {
+        lead,
+        attrs: _attrs,
+    } = shown(alloc, &lines)?;
+    match lead {
         Lead::Link(target) => Ok(target),
         _ => Err("a link".into()),
     }
@@ -79,8 +83,12 @@ fn link_of(alloc: Global) -> Result<FullName, Fail> {
 
 // The pointer of a child.
 fn child_of(alloc: Global) -> Result<ChildPointer, Fail> {
-    let entry = shown(alloc, &[b"child 2 1 3 4", b"attr A", b"end"])?;
-    match entry.lead {
+    let lines = [b"child 2 1 3 4".as_slice(), b"attr A", b"end"];
+    let ShownEntry {
+        lead,
+        attrs: _attrs,
+    } = shown(alloc, &lines)?;
+    match lead {
         Lead::Child(child) => Ok(child),
         _ => Err("a child".into()),
     }
