@@ -6,7 +6,7 @@ use Rattle.house_serving.specs.Turns.{Dialogue, Turn, bodies_in, bodies_of}
 use Rattle.house_serving.proofs.Works.{bodies-append, talks_on}
 use Rattle.house_turns.specs.declared.house.House.{House}
 use Rattle.house_turns.specs.HouseReplies.{Responds}
-use Rattle.house_turns.specs.Openings.{EndsLife, IsSegmentRecord, NoneMade, OpensBy, RedoneBy, Redoes, Restarts, Resumes, new_house}
+use Rattle.house_turns.specs.Openings.{EndsLife, IsSegmentRecord, NoneMade, RedoneBy, Redoes, Restarts, Resumes, new_house}
 use Rattle.house_runs.specs.Folders.{AreSegments, Beginning, BeginsWith, FolderSegment, OpensFrom, ProcessBegins, ProcessGoesOn, last_bodies, segment_bodies}
 use Rattle.house_sessions.specs.Refusals.{why_no_line}
 use Rattle.house_sessions.specs.Steps.{IsSaid, IsStarted}

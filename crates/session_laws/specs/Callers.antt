@@ -1,5 +1,5 @@
 -- Callers of sessions who do their part, and the records that they have kept. Own.
-use Rattle.std.specs.Prelude.{◌≡◌, ℕ, Bool, true, false, List, [], ◌∷◌, ◌++◌, map, Option, Some, None}
+use Rattle.std.specs.Prelude.{◌≡◌, ℕ, Bool, true, false, List, [], ◌∷◌, ◌++◌, map, Some, None}
 use Rattle.house_turns.specs.Openings.{IsSegmentRecord, Redoes, Resumes, new_house}
 use Rattle.house_runs.specs.Folders.{FolderSegment, IsFolder, segment_bodies}
 use Rattle.house_sessions.specs.Steps.{IsSaid, IsStarted, at_first}
