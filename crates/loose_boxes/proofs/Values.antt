@@ -11,7 +11,7 @@ use denote.RattleType.{RattleType, Valss}
 use denote.Builtin.{RawPtr}
 use denote.Laws.{Typed}
 use denote.Exit.{no}
-use denote.Param.{arg, param, layout}
+use denote.Param.{arg, layout}
 use denote.Param.Laws.{Laws, arg_laws}
 use denote.RawPtr.{Ptr, block_ptr, null_ptr, ptr_val}
 use denote.Steps.{nothing}
@@ -21,10 +21,6 @@ use Rattle.std.specs.contracts.alloc.Global as heap
 use Rattle.std.proofs.alloc.Global.TheLaws as heap_laws
 use Rattle.loose_boxes.specs.Boxed.{boxed_at}
 use Rattle.loose_boxes.specs.contracts.Loose as loose
-
--- the type of a pointer to a value of the parameter
-abbrev pub L : RattleType → RattleType
-L R = loose.the_row (param 0 R)
 
 -- the allocator as a call passes it
 abbrev pub Z : RattleType
@@ -47,14 +43,14 @@ pub pointer_fits : (p : Ptr) → T (has_ty ty_ptr (ptr_val p)) × WT (ptr_val p)
 pointer_fits null_ptr = (tt, record { fits = lit< tt })
 pointer_fits (block_ptr b o) = (tt, tt)
 
-pub one_fits : (R : RattleType) (p : Ptr) → T (has_ty (layout (L R)) (one p)) × WT (one p)
+pub one_fits : (R : RattleType) (p : Ptr) → T (has_ty (layout (loose.the_row R)) (one p)) × WT (one p)
 one_fits R null_ptr = (tt, (record { fits = lit< tt }, tt))
 one_fits R (block_ptr b o) = (tt, (tt, tt))
 
 module _ {M : Type 1} {𝓤 : Ura M} {𝓛 : Logic 𝓤} {K : Type 0} {Γ : List (Item 𝓤)} {G : Goal 𝓤 𝓛.H} (R : RattleType) where
   -- it is made of what it owns
   pub made : K → (p : Ptr) (x : R.Denot)
-      → Step K 𝓛 (‵ ((L R).own_val (record { at = p; value = x }) (one p ∷ [])) ∷ Γ) G (‵ (boxed_at (param 0 R) p x) ∷ Γ) G
+      → Step K 𝓛 (‵ ((loose.the_row R).own_val (record { at = p; value = x }) (one p ∷ [])) ∷ Γ) G (‵ (boxed_at R p x) ∷ Γ) G
   made t p x = step (λ s.
       nothing t $ feq_i t (List Val) (ptr_val p ∷ []) (ptr_val p ∷ []) refl $ fjoin t $ feq_i t (List Val) (one p ∷ []) (one p ∷ []) refl $ fjoin t $
-      fpack t (Valss (RawPtr ∷ [])) (within (shape (loose.the_type (param 0 R))) (p, tt) (one p ∷ [])) (ptr_val p ∷ [], tt) $ fjoin t $ s)
+      fpack t (Valss (RawPtr ∷ [])) (within (shape (loose.the_type R)) (p, tt) (one p ∷ [])) (ptr_val p ∷ [], tt) $ fjoin t $ s)

@@ -42,7 +42,8 @@ use Rattle.std_alloc.proofs.boxed.Box.TheLaws as box_laws
 use Rattle.std_alloc.specs.contracts.boxed.Box.from_raw as g
 use Rattle.std_alloc.proofs.boxed.Box.from_raw.Met.{met}
 use Rattle.loose_boxes.proofs.Loose.TheLaws.{lowers}
-use Rattle.loose_boxes.proofs.Values.{L, Z, Z_laws, alone, one, one_fits, pointer_fits}
+use Rattle.loose_boxes.proofs.Values.{Z, Z_laws, alone, one, one_fits, pointer_fits}
+use Rattle.loose_boxes.specs.contracts.Loose as loose
 use Rattle.loose_boxes.specs.contracts.Loose.into_box as f
 use Rattle.loose_boxes.proofs.Loose.into_box.Statement.{statement}
 use Rattle.loose_boxes.proofs.Loose.into_box.Code as code
@@ -52,20 +53,20 @@ unfolding Rattle.loose_boxes.proofs.Destruct++none.drop.Code.code
 into_box_spec {M} 𝓤 𝓛 𝓜 𝓡 wired T laws d drops =
     let En = f.ended T d in let c = f.clauses T d 𝓛 𝓜.mem 𝓡.returns in let hs : Stays En.signature.params En.kept = (stay_dropped _ En.kept.0, (stay_dropped _ En.kept.1.0, tt)) in
     let W = walk_of 𝓛 En hs c in let 𝓣 = tables 𝓤 𝓛.H 𝓜 𝓡 𝓡.env in let ts = bounded (a_type ∷ []) (T, tt) (dcons d dnil) in let fn = inst_fn ts code.function in
-    let B = box.the_row (param 0 T) heap.the_row ghosts in let B_laws = box_laws.the_row_laws (param 0 T) heap.the_row ghosts (param_laws 0 T laws) heap_laws.the_row_laws in
-    proved_at 𝓛 En hs c 𝓜 𝓡 (Goes-blank 𝓛 1 (plain (λ _. L T)) En.kept.0 (λ κs x f. tt), (Goes-blank 𝓛 1 (plain (λ _. heap.the_row)) En.kept.1.0 (λ κs x f. tt), tt))
+    let Lo = loose.the_row (param 0 T) in let B = box.the_row (param 0 T) heap.the_row ghosts in let B_laws = box_laws.the_row_laws (param 0 T) heap.the_row ghosts (param_laws 0 T laws) heap_laws.the_row_laws in
+    proved_at 𝓛 En hs c 𝓜 𝓡 (Goes-blank 𝓛 1 (plain (λ _. Lo)) En.kept.0 (λ κs x f. tt), (Goes-blank 𝓛 1 (plain (λ _. heap.the_row)) En.kept.1.0 (λ κs x f. tt), tt))
     (f.Key.name ts) fn (code.unfolded 𝓤 𝓛.H 𝓜 𝓡 wired (T, tt) d) (λ y are.
     let κ = y.0.0.0 in let q = y.0.1.0 in let b = y.0.3.0 in let a = y.0.3.1.0 in let vs = y.0.4.0 in let us = y.0.4.1.0 in
     let it = (lowers (param 0 T) (param_laws 0 T laws)).val_is b vs are.0 in
     let al = alone (layout heap.the_row) us ((heap_laws.the_row_laws.lawful 𝓛).typed a us are.1.0) in let h = al.0 in
     let Run : List Val → List Val → SProp 𝓤 = λ (xs : List Val) (ys : List Val). WpFn 𝓤 𝓛.H 𝓣.C 𝓣.Λ fn (xs ++ (ys ++ [])) (W.post y) in
-    qed 𝓛 (((‵ (flft κ q) ⊛ ‵ ftrue) ⊛ ‵ ((L T).own_val b vs) ⊛ ‵ (heap.the_row.own_val a us) ⊛ ‵ ftrue) ∷ raw (fact 𝓤 (κ ⊑ T.lives)) ∷ ‵ ftrue ∷ []) ∵
+    qed 𝓛 (((‵ (flft κ q) ⊛ ‵ ftrue) ⊛ ‵ (Lo.own_val b vs) ⊛ ‵ (heap.the_row.own_val a us) ⊛ ‵ ftrue) ∷ raw (fact 𝓤 (κ ⊑ T.lives)) ∷ ‵ ftrue ∷ []) ∵
     split ! $ split ! $ move ! (2 ∷ []) $ split ! $ move ! (1 ∷ []) $ split ! $
     keep ! (5 ∷ 2 ∷ 0 ∷ 3 ∷ []) $ heard ! _ (λ within. fsplit ! $ drop ! $ fpick ! (λ e. rewrite ! 1 (λ (ys : List Val). ‵ (heap.the_row.own_val a ys)) al.1 refl $
     let w = one b.at in
     suffices ! (Run (w ∷ []) (h ∷ [])) (subst (λ (xs : List Val). ent 𝓤 (Run (w ∷ []) (h ∷ [])) (Run xs us)) (sym it)
     (subst (λ (ys : List Val). ent 𝓤 (Run (w ∷ []) (h ∷ [])) (Run (w ∷ []) ys)) (sym al.1) (id⊢ 𝓤 (Run (w ∷ []) (h ∷ []))))) $
-    enter ! 𝓣.C 𝓣.Λ fn (w ∷ h ∷ []) (W.post y) $ alloc_all ! (λ l. pass_all ! refl (one_fits T b.at, (al.2, tt)) $
+    enter ! 𝓣.C 𝓣.Λ fn (w ∷ h ∷ []) (W.post y) $ alloc_all ! (λ l. pass_all ! refl (one_fits (param 0 T) b.at, (al.2, tt)) $
     sets ! (of_opd ! (get_in ! (fld ! refl (stop !)) (sub ! 0 refl (whole !)))) refl (pointer_fits b.at) $
     -- [what is at the pointer; the allocator; the token]
     let gd = impl ("loose_boxes::Destruct++none::drop" ∷ []) (tcons (layout Z) tnil) dnil in

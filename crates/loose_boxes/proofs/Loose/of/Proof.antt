@@ -79,8 +79,8 @@ of_spec {M} 𝓤 𝓛 𝓜 𝓡 wired T laws d drops =
     await ! tt $ pick ! (λ p. split ! $ split ! $ split ! $ move ! (1 ∷ []) $ split ! $ move ! (2 ∷ 0 ∷ []) $ use2 𝓛 (‵ (flft κ q)) (𝓛.lfts.lft_join κ q) $
     move ! (2 ∷ []) $ feq_l ! (λ is. move ! (2 ∷ []) $ pick ! (λ ws. split ! $ drop ! $
     -- [the box's pointer; the token]
-    lands_as ! (ap only is) refl (pointer_fits p) $ sets ! (agg ! (and_then ! (get ! refl) (no_more !))) refl (one_fits T p) $
+    lands_as ! (ap only is) refl (pointer_fits p) $ sets ! (agg ! (and_then ! (get ! refl) (no_more !))) refl (one_fits (param 0 T) p) $
     returns ! (look_at ! 0 refl) $ free_all ! refl $
-    fpack ! Global (λ (alloc : Global). box_owns (ghosts.dealloc_token alloc) (param 0 T) p b.value) (box_allocator b) $ made T ! p b.value $
+    fpack ! Global (λ (alloc : Global). box_owns (ghosts.dealloc_token alloc) (param 0 T) p b.value) (box_allocator b) $ made (param 0 T) ! p b.value $
     suffices ! _ (ends_at 𝓛 En hs c y (one p) (record { at = p; value = b.value }) (tt, tt) (tt, tt)) $ says ! refl $
     move ! (1 ∷ 2 ∷ []) $ join ! $ nothing ! $ nothing ! $ join ! $ move ! (1 ∷ []) $ done !)))))))
