@@ -60,7 +60,7 @@ fn hold_first(alloc: Global, handle: &mut HouseHandle, session: Session) -> u32
 
 // Whether a handle holds a session, which stays in it.
 fn holds(alloc: Global, handle: &mut HouseHandle) -> bool
-    ensures { handle.new.held ≡ handle.old.held }
+    ensures same { handle.new.held ≡ handle.old.held }
     ensures none { result ≡ false → handle.old.held ≡ None }
     ensures some { result ≡ true → Holds handle.old.held (λ _. Unit {0}) }
 {
