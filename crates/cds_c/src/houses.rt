@@ -1,5 +1,5 @@
 // The calls of a house.
-ghost use Rattle.std.specs.Prelude.{◌≡◌, ◌≢◌, ◌⊎◌, IfSome, None, Some, length};
+ghost use Rattle.std.specs.Prelude.{◌≡◌, ◌≢◌, ◌⊎◌, IfSome, None, Some, false, length, true};
 ghost use Rattle.form_calls.specs.Calls.{put_into};
 ghost use Rattle.house_turns.specs.Openings.{Differs, IsSegmentRecord, MayEnd, Redoes, Resumes, new_house};
 ghost use Rattle.house_turns.specs.declared.house.House.{House};
