@@ -24,9 +24,9 @@ from collections.abc import Callable
 ROOT = os.path.dirname(os.path.dirname(os.path.realpath(__file__)))
 sys.dont_write_bytecode = True
 sys.path.insert(0, f"{ROOT}/tools")
+from cds.programs import plain_house
 from doors import executables
 from doors.trials.clients import INTERFACE, Client
-from housing import building
 
 CLIENTS = (1, 8)
 WANTED = f"{INTERFACE}:1.0 - ncacn_ip_tcp"
@@ -136,7 +136,7 @@ def main() -> None:
     parser.add_argument("--clerk")
     parser.add_argument("--houses", type=int, default=3)
     args = parser.parse_args()
-    house = os.path.abspath(args.house or building.compiled("bench/house.rs", "out/plain-house"))
+    house = plain_house(args.house)
     clerk = os.path.abspath(args.clerk or executables.clerk())
     with tempfile.TemporaryDirectory(dir="/dev/shm" if os.access("/dev/shm", os.W_OK) else None) as folder:
         door = set_up(folder, house, clerk, args.houses)

@@ -10,9 +10,11 @@ and a house that its caller steps:
         ...                                 # make reply.record durable, if there is one
         send(reply.kept())
 
-docs/EMBEDDING.md says how to begin. The library is the one that CDS_LIBRARY names, or libcds.so beside this file, or in lib/ of the
-package that this file came with, or in out/library/lib/ of this repository.
+docs/EMBEDDING.md says how to begin. The library is the one that CDS_LIBRARY names, or libcds.so beside this file, or in
+lib/ of the package that this file came with, or in out/library/lib/ of this repository.
 """
+
+from __future__ import annotations
 
 from cds.calls import ABI, BadInput, Failed, JournalFull, Library, NoMemory, Usage, library, run
 from cds.houses import (

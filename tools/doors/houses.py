@@ -13,7 +13,7 @@ from collections.abc import Callable
 from doors.lines import LONGEST_OF_DOORS, LONGEST_OF_HOUSES, TURNS
 from doors.loops import Loop
 from doors.streams import Lines
-from housing.processes import ENDS, take_lines
+from cds.processes import ENDS, take_lines
 
 Answer = list[str] | None
 Hear = Callable[[Answer], None]

@@ -16,9 +16,9 @@ import unittest
 from doors import executables
 from doors.test_lines import MESSAGE
 from doors.trials.clients import Client
-from housing import building
+from building.sources import ROOT
+from cds import programs
 
-ROOT = building.ROOT
 INTERFACE = "a0000000-0000-0000-0000-000000000001:1.0"
 BINDING = "ncacn_ip_tcp:10.0.0.1[1025]"
 # A house that hangs with a question.
@@ -39,7 +39,7 @@ class Room(unittest.TestCase):
     def setUp(self) -> None:
         if not shutil.which("rustc"):
             self.skipTest("rustc is not there")
-        self.house = building.compiled("bench/house.rs", "out/plain-house")
+        self.house = programs.compiled("bench/house.rs", "out/plain-house")
         self.clerk = executables.clerk()
         memory = "/dev/shm" if os.access("/dev/shm", os.W_OK) else None
         room = tempfile.TemporaryDirectory(dir=memory)

@@ -1,5 +1,5 @@
-"""Tests of three machines that reach each other by real `ssh` and by real TLS: what the key or the certificate of a machine lets it send.
-A transport whose programs are not there is passed over."""
+"""Tests of three machines that reach each other by real `ssh` and by real TLS: what the key or the certificate of a
+machine lets it send. A transport whose programs are not there is passed over."""
 from __future__ import annotations
 
 import os
@@ -15,8 +15,8 @@ from doors.test_lines import MESSAGE
 from doors.trials.machines import MACHINES, Machines
 from doors.trials.nets import Namespaces
 from doors.trials.transports import Ssh, Tcp, Tls
-from housing import building
-from housing.processes import ENDS
+from cds.processes import ENDS
+from cds.programs import compiled
 
 INTERFACE = "a0000000-0000-0000-0000-000000000001:1.0"
 LONGEST = 30.0
@@ -36,7 +36,9 @@ class Line:
     """The stream by which a machine reaches another one, in other hands than those of its door."""
 
     def __init__(self, words: list[str]) -> None:
-        self.child = subprocess.Popen(words, stdin=subprocess.PIPE, stdout=subprocess.PIPE, stderr=subprocess.DEVNULL, text=True)
+        self.child = subprocess.Popen(
+            words, stdin=subprocess.PIPE, stdout=subprocess.PIPE, stderr=subprocess.DEVNULL, text=True
+        )
 
     def ask(self, line: str) -> list[str]:
         """The answer to a line; nothing if the stream ends."""
@@ -70,7 +72,7 @@ class TransportTest(unittest.TestCase):
             self.skipTest(f"rustc or {self.kind.name} is not there")
         room = tempfile.TemporaryDirectory(dir="/dev/shm" if os.access("/dev/shm", os.W_OK) else None)
         self.addCleanup(room.cleanup)
-        house, clerk = building.compiled("bench/house.rs", "out/plain-house"), executables.clerk()
+        house, clerk = compiled("bench/house.rs", "out/plain-house"), executables.clerk()
         self.machines = Stranger(room.name, house, clerk, 3.0, not Namespaces.are_allowed(), self.kind)
         self.addCleanup(self.machines.close)
         self.machines.begin()
@@ -101,7 +103,9 @@ class TransportTest(unittest.TestCase):
     def day(self) -> None:
         """A server at machine 2 exports, and a client at machine 3 imports."""
         self.found()
-        self.until(lambda: self.ask(2, f"export /.:/lpr {INTERFACE} ncacn_ip_tcp:10.0.0.1[1025] -")[-1].startswith("ok"))
+        self.until(
+            lambda: self.ask(2, f"export /.:/lpr {INTERFACE} ncacn_ip_tcp:10.0.0.1[1025] -")[-1].startswith("ok")
+        )
         wanted = ["binding ncacn_ip_tcp:10.0.0.1[1025]", "end 1"]
         self.until(lambda: self.ask(3, f"import high /.:/lpr {INTERFACE} - ncacn_ip_tcp") == wanted)
 
@@ -140,7 +144,9 @@ class SshTest(TransportTest):
     def test_a_key_leads_to_one_command_and_a_stranger_s_key_to_none(self) -> None:
         place = self.machines.place(1, 2)
         words = self.machines.transport.via(2, 1, place)
-        self.assertEqual(self.line(2, 1, [*words, "echo", "refused", "shell"]).ask("@1 status 1")[-1].split(" ")[0], "refused")
+        self.assertEqual(
+            self.line(2, 1, [*words, "echo", "refused", "shell"]).ask("@1 status 1")[-1].split(" ")[0], "refused"
+        )
         self.assertNotEqual(self.line(2, 1, [*words, "echo", "refused", "shell"]).ask("@1 status 1"), ["refused shell"])
         own = words.index("-i") + 1
         words[own] = words[own].replace("door2", "door3")
@@ -157,7 +163,9 @@ class TlsTest(TransportTest):
         self.forge()
 
     def test_the_certificate_of_another_machine_leads_nowhere(self) -> None:
-        words = [it.replace("host2.pem", "host3.pem") for it in self.machines.transport.via(2, 1, self.machines.place(1, 2))]
+        words = [
+            it.replace("host2.pem", "host3.pem") for it in self.machines.transport.via(2, 1, self.machines.place(1, 2))
+        ]
         self.assertEqual(self.line(2, 1, words).ask("@1 status 1"), [])
 
 

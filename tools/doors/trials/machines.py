@@ -19,9 +19,12 @@ CONSOLE = 1
 
 
 class Machines:
-    """`folder` gets a folder mN of each machine, and a folder hN of its house. `kind` is what carries lines between them."""
+    """`folder` gets a folder mN of each machine, and a folder hN of its house. `kind` is what carries lines between
+    them."""
 
-    def __init__(self, folder: str, house: str, clerk: str, skulk_every: float, is_local: bool, kind: type[Tcp] = Tcp) -> None:
+    def __init__(
+        self, folder: str, house: str, clerk: str, skulk_every: float, is_local: bool, kind: type[Tcp] = Tcp
+    ) -> None:
         self.folder, self.house, self.clerk, self.skulk_every = folder, house, clerk, skulk_every
         self.doors: dict[int, subprocess.Popen[bytes]] = {}
         self.carriers: Carriers = {machine: [] for machine in MACHINES}

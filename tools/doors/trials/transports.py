@@ -1,5 +1,6 @@
-"""What carries the lines of one door to another one: TCP alone, `ssh` with a key and a forced command for each machine, or TLS (`socat`)
-with a certificate for each machine. Nothing of it is ours but the words of the commands (docs/LIVE.md)."""
+"""What carries the lines of one door to another one: TCP alone, `ssh` with a key and a forced command for each machine,
+or TLS (`socat`) with a certificate for each machine. Nothing of it is ours but the words of the commands
+(docs/LIVE.md)."""
 from __future__ import annotations
 
 import getpass
@@ -82,8 +83,9 @@ class Ssh(Tcp):
             file.write(f'restrict,command="{sys.executable} {PEER} {socket}" {self.public(f"door{other}")}\n')
         settings = {
             "Port": place.port, "ListenAddress": place.host, "HostKey": self.key(f"host{machine}"), "PidFile": "none",
-            "AuthorizedKeysFile": f"{own}.authorized", "PasswordAuthentication": "no", "KbdInteractiveAuthentication": "no",
-            "PermitRootLogin": "forced-commands-only", "StrictModes": "no", "UsePAM": "no", "LogLevel": "ERROR",
+            "AuthorizedKeysFile": f"{own}.authorized", "PasswordAuthentication": "no",
+            "KbdInteractiveAuthentication": "no", "PermitRootLogin": "forced-commands-only", "StrictModes": "no",
+            "UsePAM": "no", "LogLevel": "ERROR",
         }  # fmt: skip
         with open(f"{own}.config", "w", encoding="ascii") as file:
             file.writelines(f"{word} {value}\n" for word, value in settings.items())
@@ -94,14 +96,21 @@ class Ssh(Tcp):
         known = self.key(f"known{machine}to{other}")
         with open(known, "w", encoding="ascii") as file:
             file.write(f"[{place.host}]:{place.port} {self.public(f'host{other}')}\n")
-        options = ["BatchMode=yes", "ConnectTimeout=2", "ServerAliveInterval=1", "ServerAliveCountMax=2", "IdentitiesOnly=yes"]
+        options = [
+            "BatchMode=yes",
+            "ConnectTimeout=2",
+            "ServerAliveInterval=1",
+            "ServerAliveCountMax=2",
+            "IdentitiesOnly=yes",
+        ]
         options += [f"UserKnownHostsFile={known}", "StrictHostKeyChecking=yes", "LogLevel=ERROR"]
         words = ["ssh", "-F", "none", "-i", self.key(f"door{machine}"), "-p", place.port]
         return [*words, *(word for it in options for word in ("-o", it)), f"{getpass.getuser()}@{place.host}"]
 
 
 class Tls(Tcp):
-    """TLS by `socat`: a certificate for each machine, which one authority signed. Each listener takes the one of its machine alone."""
+    """TLS by `socat`: a certificate for each machine, which one authority signed. Each listener takes the one of its
+    machine alone."""
 
     name = "tls"
 
@@ -120,9 +129,28 @@ class Tls(Tcp):
         authority = ["-keyout", self.file("authority.key"), "-out", self.file("authority.pem")]
         made(*new, "-x509", "-subj", "/CN=authority", *authority)
         for name in (f"host{machine}" for machine in self.machines):
-            made(*new, "-subj", f"/CN={name}", "-keyout", self.file(f"{name}.key"), "-out", self.file(f"{name}.request"))
-            signed = ["-CA", self.file("authority.pem"), "-CAkey", self.file("authority.key"), "-CAcreateserial", "-days", "365"]
-            made("openssl", "x509", "-req", "-in", self.file(f"{name}.request"), *signed, "-out", self.file(f"{name}.crt"))
+            made(
+                *new, "-subj", f"/CN={name}", "-keyout", self.file(f"{name}.key"), "-out", self.file(f"{name}.request")
+            )
+            signed = [
+                "-CA",
+                self.file("authority.pem"),
+                "-CAkey",
+                self.file("authority.key"),
+                "-CAcreateserial",
+                "-days",
+                "365",
+            ]
+            made(
+                "openssl",
+                "x509",
+                "-req",
+                "-in",
+                self.file(f"{name}.request"),
+                *signed,
+                "-out",
+                self.file(f"{name}.crt"),
+            )
             with open(self.file(f"{name}.pem"), "w", encoding="ascii") as both:
                 for part in ("key", "crt"):
                     with open(self.file(f"{name}.{part}"), encoding="ascii") as one:

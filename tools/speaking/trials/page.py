@@ -1,23 +1,27 @@
 """Trials of docs/TOOLS.md: its sessions are what the tools say.
 
-A fenced block whose first line begins with `$ ` is a session of a shell: after each command stands what it prints, and after `cat FILE`
-what is in the file. One whose first line begins with `1> ` is a session of the console.
+A fenced block whose first line begins with `$ ` is a session of a shell: after each command stands what it prints, and
+after `cat FILE` what is in the file. One whose first line begins with `1> ` is a session of the console.
 """
+
+from __future__ import annotations
+
 import re
 import subprocess
 import sys
 import tempfile
+from collections.abc import Iterator
 
 from speaking import console, pages, program
 
 
-def blocks():
+def blocks() -> list[str]:
     """The fenced blocks of the page."""
     with open(f"{pages.ROOT}/docs/TOOLS.md", encoding="ascii") as it:
         return re.findall(r"(?ms)^```\n(.*?)^```$", it.read())
 
 
-def ran(path, folder, command):
+def ran(path: str, folder: str, command: str) -> str:
     """What a command of the page prints."""
     command = re.sub(r"tools/(why|write)", rf"{sys.executable} {pages.ROOT}/tools/\1 --program {path}", command)
     command = command.replace("./cdsreplay", path)
@@ -25,7 +29,7 @@ def ran(path, folder, command):
     return (done.stdout + done.stderr).decode()
 
 
-def shell(path, block):
+def shell(path: str, block: str) -> Iterator[tuple[str, str | None]]:
     """The commands of a session of a shell."""
     with tempfile.TemporaryDirectory() as folder:
         for command, shown in re.findall(r"(?m)^\$ (.*)\n((?:(?!\$ ).*\n)*)", block):
@@ -37,9 +41,9 @@ def shell(path, block):
                 yield command, None if said == shown else f"it says\n{said}"
 
 
-def typed(path, block):
+def typed(path: str, block: str) -> str:
     """What the console says to the lines of a session, with the lines."""
-    said = []
+    said: list[str] = []
     at = console.Console(program.Program(path), said.append)
     for line in re.findall(r"(?m)^\d+> (.*)$", block):
         said.append(at.prompt() + line)
@@ -47,7 +51,7 @@ def typed(path, block):
     return "".join(f"{line}\n" for line in said)
 
 
-def trials(path):
+def trials(path: str) -> Iterator[tuple[str, str | None]]:
     """All trials of the page."""
     count = 0
     for block in blocks():
