@@ -55,7 +55,7 @@ module _ {M : Type 1} {𝓤 : Ura M} {𝓛 : Logic 𝓤} {K : Type 0} {Γ : List
       nothing t $ feq_i t (List Val) (ptr_val p ∷ []) (ptr_val p ∷ []) refl $ fjoin t $ feq_i t (List Val) (one p ∷ []) (one p ∷ []) refl $ fjoin t $
       fpack t (Valss (RawPtr ∷ [])) (within (shape handle.the_type) (p, tt) (one p ∷ [])) (ptr_val p ∷ [], tt) $ fjoin t $ s)
 
-  -- it holds nothing, and its pointer is null; or a box is at its pointer, which can be compared with null
+  -- its pointer is null; or a box is there, and the pointer can be compared with null
   pub either : K → (p : Ptr) (held : Option Session) → (p ≡ null_ptr → held ≡ None → Seq K 𝓛 Γ G)
       → ((b o : ℕ) (s : Session) → p ≡ block_ptr b o → held ≡ Some s → Testable (block_ptr b o) → Seq K 𝓛 (‵ (boxed_at session.the_row (block_ptr b o) s) ∷ Γ) G)
       → Seq K 𝓛 (‵ (held_at p held) ∷ Γ) G

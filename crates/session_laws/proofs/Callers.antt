@@ -1,4 +1,4 @@
--- What is so at each moment of the life of a caller: his records are a folder, and his session is where that ends.
+-- What is so at each moment of a caller: his records are a folder, where his session is.
 use Rattle.std.proofs.Common.{◌≡◌, ℕ, ◌+◌, List, [], ◌∷◌, ◌++◌, length, map, length-append, refl, sym, ap, subst, ◌∙◌, append-nil, append_assoc, arith}
 use Rattle.std.specs.Prelude.{Bool, true, false, Option, Some, None}
 use Rattle.std.proofs.lemmas.List.{map-append}
@@ -64,7 +64,7 @@ more_on body (b ∷ c ∷ before) bodies = ap (λ (l : List Bodies). b ∷ l) (m
 
 -- ---- what is so at a moment
 
--- a session reads the records of the last segment: from the house of the first one it did again those that are read
+-- a session reads the records of the last segment: from the first one on it did some again
 data IsRead (last : Option Bodies) (s : Session) (left : Bodies) : Type 0 where
   NoneKept : last ≡ None → s.house ≡ new_house → left ≡ [] → IsRead last s left
   SomeKept : (first : List ℕ) (done : Bodies) (begun : House) → last ≡ Some (first ∷ (done ++ left)) → Resumes first begun

@@ -24,7 +24,7 @@ one_more body (bodies ∷ []) = (bodies ++ body ∷ []) ∷ []
 one_more body (bodies ∷ next ∷ later) = bodies ∷ one_more body (next ∷ later)
 
 -- how a caller goes on: at any moment he may stop; each call of a session does what its contract
--- says; and a record is kept before the session is told so
+-- says; and a record is kept before the call that says so
 pub data GoesOn (c : Caller) : Caller → Type 0 where
   Stops : GoesOn c (record c { doing = Nothing })
   New : c.doing ≡ Nothing → c.kept ≡ []
