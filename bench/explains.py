@@ -16,7 +16,6 @@ ratios of the first program to the last. The folders are in memory (/dev/shm), i
 
 from __future__ import annotations
 
-import argparse
 import os
 import random
 import re
@@ -30,6 +29,7 @@ import time
 ROOT = os.path.dirname(os.path.dirname(os.path.realpath(__file__)))
 sys.dont_write_bytecode = True
 sys.path.insert(0, f"{ROOT}/tools")
+from cds import tool
 from cds.console import Console
 from cds.processes import Process, take_lines
 from cds.programs import plain_house
@@ -159,7 +159,7 @@ def instructions(program: str, folders: list[str]) -> int:
 
 
 def main() -> None:
-    parser = argparse.ArgumentParser(description=__doc__, formatter_class=argparse.RawDescriptionHelpFormatter)
+    parser = tool.Words(__doc__)
     parser.add_argument("--runs", type=int, default=3)
     parser.add_argument("--entries", type=int, default=100_000)
     parser.add_argument("--instructions", type=int, default=0)

@@ -53,7 +53,7 @@ from typing import IO
 
 sys.dont_write_bytecode = True
 sys.path.insert(0, f"{os.path.dirname(os.path.dirname(os.path.realpath(__file__)))}/tools")
-from cds import records
+from cds import records, tool
 
 
 def comments(count: int) -> Iterator[str]:
@@ -602,11 +602,15 @@ def items_in(kind: str, piece: list[bytes]) -> int:
     )
 
 
-def main() -> None:
-    if len(sys.argv) != 3 or sys.argv[1] not in KINDS or not sys.argv[2].isdigit():
-        sys.exit(__doc__)
-    write(sys.argv[1], int(sys.argv[2]), sys.stdout.buffer)
+def main(words: list[str]) -> int:
+    """Writes an input, and returns the exit status."""
+    parser = tool.Words(__doc__)
+    parser.add_argument("kind", choices=KINDS)
+    parser.add_argument("count", type=int)
+    given = parser.parse_args(words)
+    write(given.kind, given.count, sys.stdout.buffer)
+    return 0
 
 
 if __name__ == "__main__":
-    main()
+    tool.run(main)

@@ -11,7 +11,6 @@ in memory (/dev/shm), where a sync costs nothing.
 """
 from __future__ import annotations
 
-import argparse
 import multiprocessing
 import os
 import signal
@@ -24,6 +23,7 @@ from collections.abc import Callable
 ROOT = os.path.dirname(os.path.dirname(os.path.realpath(__file__)))
 sys.dont_write_bytecode = True
 sys.path.insert(0, f"{ROOT}/tools")
+from cds import tool
 from cds.programs import plain_house
 from doors import executables
 from doors.trials.clients import INTERFACE, Client
@@ -130,7 +130,7 @@ def set_up(folder: str, house: str, clerk: str, houses: int) -> subprocess.Popen
 
 
 def main() -> None:
-    parser = argparse.ArgumentParser(description=__doc__, formatter_class=argparse.RawDescriptionHelpFormatter)
+    parser = tool.Words(__doc__)
     parser.add_argument("--seconds", type=float, default=2.0)
     parser.add_argument("--house")
     parser.add_argument("--clerk")

@@ -21,7 +21,6 @@ as the third: 2 where time grows as the input does, and 4 where it grows as its 
 
 from __future__ import annotations
 
-import argparse
 import filecmp
 import os
 import re
@@ -34,6 +33,7 @@ import time
 
 sys.dont_write_bytecode = True
 import generate
+from cds import tool
 
 SIZES = {
     "comments": 10_000_000,
@@ -189,7 +189,7 @@ def grow_all(kinds: list[str], divide: int, programs: list[tuple[str, str]], run
 
 
 def main() -> None:
-    parser = argparse.ArgumentParser(description=__doc__, formatter_class=argparse.RawDescriptionHelpFormatter)
+    parser = tool.Words(__doc__)
     parser.add_argument("--runs", type=int, default=3)
     parser.add_argument("--divide", type=int, default=1)
     parser.add_argument("--instructions", type=int, default=0)

@@ -41,7 +41,7 @@ from typing import TypeVar
 ROOT = os.path.dirname(os.path.dirname(os.path.realpath(__file__)))
 sys.dont_write_bytecode = True
 sys.path.insert(0, f"{ROOT}/tools")
-from cds import journals
+from cds import journals, tool
 from cds.processes import Process
 
 TIME = shutil.which("time")
@@ -225,7 +225,7 @@ def best(
 
 
 def arguments() -> argparse.Namespace:
-    parser = argparse.ArgumentParser(description=__doc__, formatter_class=argparse.RawDescriptionHelpFormatter)
+    parser = tool.Words(__doc__)
     parser.add_argument("--ratios", action="store_true")
     parser.add_argument("--runs", type=int, default=3)
     parser.add_argument("--turns", type=int)

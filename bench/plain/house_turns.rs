@@ -1,5 +1,6 @@
 //! One house: what it does at a line, and what of that has to be durable before it answers.
 
+use std::collections::BTreeMap;
 use std::io::Write;
 
 use crate::answers::{push_hex, stamp_or, write_dump, write_listed};
@@ -7,7 +8,7 @@ use crate::house::Refusal::{self, At, Because};
 use crate::house::{Clearinghouse, Held, Letters, Said, Skulk, Slot, Term, Update};
 use crate::house_lines::{Line, Others, line_of};
 use crate::house_segments::Record;
-use crate::records::{Member, Role, read_image, read_message};
+use crate::records::{Body, Member, Role, read_image, read_message};
 use crate::script::{directory, node, number};
 use crate::tables::{Entry, Kind, Pointer, Stamp};
 
@@ -46,6 +47,27 @@ fn listable(houses: &[u8]) -> Result<(), Refusal> {
 
 fn is_ascending(houses: &[u8]) -> bool {
     houses.is_sorted_by(|a, b| a < b)
+}
+
+/// All stamps of an entry.
+fn stamps_in(entry: &Entry) -> Vec<Stamp> {
+    let marks = entry.attributes.values().flat_map(|attribute| attribute.marks.values());
+    let clears = entry.attributes.values().filter_map(|attribute| attribute.cleared);
+    [entry.birth].into_iter().chain(entry.death).chain(clears).chain(marks.map(|mark| mark.stamp)).collect()
+}
+
+/// All stamps that a message carries.
+fn stamps_of(body: &Body) -> Vec<Stamp> {
+    let table = |entries: &BTreeMap<Vec<u8>, Entry>| -> Vec<Stamp> { entries.values().flat_map(stamps_in).collect() };
+    match body {
+        Body::Update(_, entry) => stamps_in(entry),
+        Body::Gather(stamp) | Body::SpreadAck(stamp) | Body::Advance(stamp) => vec![*stamp],
+        Body::Gathered(stamp, delta) | Body::Spread(stamp, delta) => {
+            [*stamp].into_iter().chain(delta.above).chain(table(&delta.entries)).collect()
+        }
+        Body::Join(_, replica) => replica.all_up_to.into_iter().chain(table(replica.entries())).collect(),
+        Body::Leave => vec![],
+    }
 }
 
 /// Whether a console gives this list: this house is the one master, and who leaves is not listed.
@@ -351,6 +373,10 @@ impl Home {
         let (message, size) = read_message(&octets).map_err(|fault| At(fault.rule, fault.place as u64))?;
         if size < octets.len() {
             return Err(At("Trailing", size as u64 + 1));
+        }
+        let restored = stamps_of(&message.body).into_iter().filter(|stamp| stamp.node == home.node && stamp.time > home.floor).max();
+        if let Some(stamp) = restored {
+            return Ok(Lines(format!("refused Restored {stamp}\n").into_bytes()));
         }
         let (said, letters) = home.take(message);
         Ok(match said {

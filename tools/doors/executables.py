@@ -44,3 +44,8 @@ def house() -> str:
 def clerk() -> str:
     """The clerk of bench/."""
     return compiled("bench/clerk.rs", "out/plain-clerk")
+
+
+def replayer() -> str:
+    """The proved `cdsreplay`, if it is built; else the plain one of bench/."""
+    return built("cdsreplay") or compiled("bench/plain.rs", "out/plain")

@@ -2,12 +2,15 @@
 from __future__ import annotations
 
 import collections
+import itertools
 import os
 import random
+import subprocess
 import time
 from collections.abc import Callable
 from typing import Any
 
+from doors import executables
 from doors.cellfile import LONGEST_PATH, CellFile
 from doors.door import Door
 from doors.houses import Answer, Here
@@ -21,6 +24,7 @@ directory:
   house H NODE, clock H TIME, root M R.., mkdir H D S H R.., repoint H D S M R.., epoch D M R.., skulk H D
   create H D S, link H D S NAME, delete H D S, add|remove|put H D S ATTR VALUE, clear H D S ATTR
   dump H D, look H D S ATTR (the values that show), image H
+  audit D             whether the replicas of each two houses can agree, by their images (docs/FORMATS.md)
   read H C NAME ATTR, import H C NAME IF OBJ PS, export NAME IF BS OS and the others of the name service
   crash H [COMMAND]   kills the process (SIGKILL), just after it was given the command, which is one of H
   start H             starts it again: it says its last turn, with its messages
@@ -194,6 +198,23 @@ class Cell:
 
     # ---- commands
 
+    def image(self, number: int) -> bytes:
+        lines = self.ask(number, "image")
+        return bytes.fromhex("".join(line.removeprefix("octets ") for line in lines[:-1]))
+
+    def audit(self, directory: str) -> None:
+        """What `cdsreplay audit` says of the images of each two houses that are up."""
+        images = {number: self.image(number) for number, house in sorted(self.door.houses.items()) if house.is_up}
+        try:
+            command = [executables.replayer(), "audit", directory]
+        except executables.NoProgram as reason:
+            raise Refused(f"there is no cdsreplay: {reason}") from None
+        for one, other in itertools.combinations(images, 2):
+            done = subprocess.run(command, input=images[one] + images[other], stdout=subprocess.PIPE, check=False)
+            if not done.stdout:
+                raise Refused("fault BadWord 2", "audit D")
+            self.say(f"{one} {other}: {done.stdout.decode().rstrip()}")
+
     def order(self, words: list[str]) -> tuple[int, str]:
         """The house that does a command, and its line there."""
         if words[0] in OF_HOUSE and len(words) > 1:
@@ -276,6 +297,8 @@ class Cell:
                     self.tell(self.door.status())
                 case "house":
                     self.make(words)
+                case "audit" if len(words) == 2:
+                    self.audit(words[1])
                 case "crash" if len(words) > 1:
                     self.crash(words)
                 case "start" if len(words) > 1 and house_of(words[1]) in self.door.houses:

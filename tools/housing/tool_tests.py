@@ -137,6 +137,50 @@ class OfCells(HouseTest):
         assert (Ledger(ledger.path).pending, Ledger(ledger.path).console.next_directory) == (None, 3)
 
 
+class OfOldCopies(HouseTest):
+    """A house whose folder was put back from an old copy, or that has the node of another."""
+
+    def put_back(self, house: int, lines: list[str], *options: str) -> list[str]:
+        """What a cell says of lines after the folder of a house was put back. The house made two entries since, which a
+        skulk brought to both."""
+        cell = f"{self.room}/{house}{''.join(options)}"
+        made = ["house 1 00000000000a", "house 2 00000000000b", "root 1 s2", "create 1 1 a"]
+        self.session(cell, made, *options)
+        shutil.copytree(f"{cell}/h{house}", f"{cell}/copy")
+        more = [f"create {house} 1 b", f"create {house} 1 c", "skulk 1 1", "audit 1"]
+        said = self.session(cell, more, *options)
+        assert said[-1].startswith("1 2: agree 1 ") and "ok complete" in said[-3], said
+        shutil.rmtree(f"{cell}/h{house}")
+        os.rename(f"{cell}/copy", f"{cell}/h{house}")
+        return self.session(cell, lines, *options)
+
+    def test_a_house_that_was_put_back_from_an_old_copy(self) -> None:
+        said = self.put_back(1, ["create 1 1 d", "skulk 1 1"])
+        # (the other house tells of the skulk that this one forgot)
+        assert said[-1] == "  4 to 1: refused Restored 4@00000000000a", said
+        assert not any("complete" in line for line in said), said
+
+    def test_a_house_that_was_put_back_and_does_not_notice(self) -> None:
+        rows: list[tuple[int, list[str], str]] = [
+            (1, ["--clock"], "1 2: differ 1 2 birth b "),
+            (2, [], "1 2: differ 1 1 birth b 2@00000000000b"),
+        ]
+        for house, options, fault in rows:
+            said = self.put_back(house, ["skulk 1 1", "audit 1", "audit x", "audit 2"], *options)
+            assert "ok complete" in said[-5] and not any("Restored" in line for line in said), said
+            assert said[-3].startswith(fault) and said[-2:] == ["audit D", "1 2: refused NoReplica 1"], said
+
+    def test_a_house_with_the_node_of_another(self) -> None:
+        join = "0207" + "00000001" + "01" + f"{1:016x}" + f"{9:016x}"
+        join += "02" + f"01{1:016x}01" + f"02{1:016x}03" + "00" * 9
+        update = "0201" + "00000001" + "01" + f"{1:016x}" + f"{9:016x}" + "0161" + "01" + f"{9:016x}" + "00000000000a"
+        update += "00" * 9
+        lines = ["house 2 00000000000a", *take_lines(update), *take_lines(join), *take_lines(update), "look 1 a A"]
+        said = [answer[-1] for answer in self.given(self.folder("h"), lines)]
+        # (a floor that another house raised hides it)
+        assert said == ["ok", "refused Restored 9@00000000000a", "ok taken", "ok taken", "end 0"], said
+
+
 class OfExplanations(HouseTest):
     """The reader of folders, and the explanation of journals."""
 

@@ -4,6 +4,7 @@ from __future__ import annotations
 
 import functools
 import importlib.machinery
+import importlib.util
 import io
 import os
 import re
@@ -22,7 +23,9 @@ PICTURE_CASES = f"{ROOT}/tools/pictures/cases"
 def picture_tool() -> ModuleType:
     """Returns tools/picture as a module, which is faster than a process for each run."""
     loader = importlib.machinery.SourceFileLoader("picture", PICTURE)
-    module = ModuleType("picture")
+    spec = importlib.util.spec_from_loader("picture", loader)
+    assert spec
+    module = importlib.util.module_from_spec(spec)
     loader.exec_module(module)
     return module
 

@@ -67,6 +67,14 @@ OVER_PROGRAMS = (
         0.7,
     ),
     Part(
+        "commands",
+        "the commands of the pages, each page in a fresh copy",
+        ("tools/testing/page-commands", *(f"{{{it}}}" for it in PROGRAMS)),
+        PROGRAMS,
+        0.5,
+        "rustc",
+    ),
+    Part(
         "tools",
         "tools/why, tools/write and tools/console, as a user runs them",
         ("tools/try-tools", "--program", "{cdsreplay}"),
@@ -168,7 +176,11 @@ OF_SOURCES = (
     Part("map", "whether the pages that are made of the sources are theirs", ("tools/map", "--check")),
     Part("style", "wide lines, words to avoid, copies", ("tools/check-style",)),
     Part("python", "the unit tests of the tools", ("tools/testing/units",)),
-    Part("linters", "shellcheck, ruff and mypy, those that are there", ("tools/testing/linters",)),
+    Part(
+        "linters",
+        "shellcheck, ruff (or pyflakes and pycodestyle) and mypy, those that are there",
+        ("tools/testing/linters",),
+    ),
 )
 
 

@@ -6,7 +6,6 @@ import dataclasses
 import os
 import re
 import shutil
-import sys
 import tempfile
 import threading
 import time
@@ -128,9 +127,3 @@ def table(parts: Iterable[Part]) -> str:
         for it in parts
     ]
     return "\n".join(["The parts, and the minutes that each takes a processor of 2.5 GHz:", "", *rows])
-
-
-def fail(command: str, text: str) -> int:
-    """Says why nothing is tested, and returns the exit status."""
-    print(f"{command}: {text}", file=sys.stderr)
-    return 2

@@ -58,9 +58,10 @@ use Rattle.cds_cell.specs.Scripted.{update_refusal_of}
 use Rattle.cell_runs.specs.LineAnswers.{refused}
 use Rattle.house_turns.specs.declared.said.Said.{Said}
 use Rattle.house_turns.specs.LineOutcomes.{ComesTo, HasNoEnd, IsOutcome, Outcome, Posts, StaysAt, Tells}
-use Rattle.house_turns.specs.HouseAnswers.{ascend_from, early_refusal, epoch_refusal, founding_refusal, is_given, maybe_refused, octets_refusal, take_refusal}
+use Rattle.house_turns.specs.HouseAnswers.{ascend_from, early_refusal, epoch_refusal, founding_refusal, is_given, maybe_refused, octets_refusal, restored_refusal, take_refusal}
 use Rattle.house_turns.specs.LineSteps.{CarriesAt, first_members, listed_houses, step_at}
-use Rattle.house_turns.specs.PrivateTurns.{ArePostsOf, Comes, ComesUnless, Does, MakesChild, Says, TakesMessage, epoch_of, posts_of_letters, taken_line, taken_outcome}
+use Rattle.own_stamps.specs.OwnStamps.{later_own}
+use Rattle.house_turns.specs.PrivateTurns.{ArePostsOf, Comes, ComesUnless, Does, MakesChild, Says, TakesMessage, TakesUnless, epoch_of, posts_of_letters, taken_line, taken_outcome}
 use Rattle.house_turns.proofs.Letters.{letters_posts, maybe_letters, posts_both, posts_stand}
 use Rattle.house_turns.proofs.PlainTexts.{done_ends_nowhere, made_ends_nowhere, taken_is_one_line}
 use Rattle.house_turns.proofs.Outcomes.{Fits, Reads, accept_fits, child_posts, child_tells, posts_outcome, refused_reads, taken_reads, tells_outcome, untaken_reads}
@@ -416,16 +417,27 @@ take_comes (Ok s) number c c' clock octets message used decodes takes = record {
 -- why octets are refused
 pub take_fault : (c : Clearinghouse) (octets : List ℕ) (f : RecordFault) → decode_by records.message octets ≡ Err f
     → early_refusal c (line.Take octets) ≡ Some (refused (octets_refusal f))
-take_fault c octets f is = ap (take_refusal (length octets)) is
+take_fault c octets f is = ap (take_refusal c (length octets)) is
 
 pub take_trailing : (c : Clearinghouse) (octets : List ℕ) (message : Message) (used : ℕ) → decode_by records.message octets ≡ Ok (message, used)
     → used < length octets → early_refusal c (line.Take octets) ≡ Some (codes "refused Trailing " ++ decimal (used + 1))
 take_trailing c octets message used is less =
     let test : nat_lt used (length octets) ≡ true = grind (arith, nat_tests, less) in
-    ap (take_refusal (length octets)) is ∙ rw test refl
+    ap (take_refusal c (length octets)) is ∙ rw test refl
 
-pub take_fine : (c : Clearinghouse) (octets : List ℕ) (message : Message) (used : ℕ) → decode_by records.message octets ≡ Ok (message, used)
-    → length octets ≤ used → early_refusal c (line.Take octets) ≡ None
-take_fine c octets message used is whole =
+-- one whole message is refused only for a stamp that the house forgot
+pub take_whole : (c : Clearinghouse) (octets : List ℕ) (message : Message) (used : ℕ) → decode_by records.message octets ≡ Ok (message, used)
+    → length octets ≤ used → early_refusal c (line.Take octets) ≡ restored_refusal (later_own c.node c.floor.time message)
+take_whole c octets message used is whole =
     let test : nat_lt used (length octets) ≡ false = grind (arith, nat_tests, whole) in
-    ap (take_refusal (length octets)) is ∙ rw test refl
+    ap (take_refusal c (length octets)) is ∙ rw test refl
+
+-- so a message that is refused, or comes to something, does so as a line
+pub take_unless : (r : Result Said AllocError) (number : ℕ) (c c' : Clearinghouse) (clock : ℕ) (octets : List ℕ) (message : Message) (used : ℕ)
+    (refusal : Option (List ℕ)) → Decodes records.message octets (Ok (message, used)) → early_refusal c (line.Take octets) ≡ refusal
+    → IfOk r (TakesUnless refusal number c c' message) → IfOk r (λ s. Does number c c' clock (line.Take octets) s)
+take_unless (Err e) number c c' clock octets message used refusal decodes is takes = tt
+take_unless (Ok s) number c c' clock octets message used None decodes is takes =
+    asked_model (Ok s) number c c' clock (line.Take octets) is (take_comes (Ok s) number c c' clock octets message used decodes takes)
+take_unless (Ok s) number c c' clock octets message used (Some said) decodes is takes =
+    refused_early (Ok s) number c c' clock (line.Take octets) said is takes.1 takes.0

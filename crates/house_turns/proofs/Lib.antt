@@ -11,7 +11,8 @@ pub mod Resumptions
 mod Redoing
 mod Letters
 mod Outcomes
-mod Comes
+pub mod Comes
+pub mod PostedMessages
 mod Replies
 mod Recorded
 mod Joining

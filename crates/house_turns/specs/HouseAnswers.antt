@@ -6,6 +6,7 @@ use Rattle.std.specs.List.{list_all}
 use Rattle.cds_stamps.specs.Members.{members_fault, members_of, master_of, is_listed}
 use Rattle.cds_stamps.specs.Numbers.{root_dir}
 use Rattle.cds_stamps.specs.declared.numbers.DirId.{DirId}
+use Rattle.cds_stamps.specs.declared.stamp.Stamp.{Stamp}
 use Rattle.directory.specs.Shown.{Shown, shown_in}
 use Rattle.record_fields.specs.Decoding.{decode_by}
 use Rattle.record_fields.specs.declared.fault.RecordFault.{RecordFault}
@@ -15,7 +16,7 @@ use Rattle.cds_records.specs.Records as records
 use Rattle.cds_messages.specs.declared.message.Message.{Message}
 use Rattle.cell_model.specs.Steps.{is_bad_list}
 use Rattle.cell_script.specs.declared.lists.Listed.{Listed}
-use Rattle.script_answers.specs.Texts.{dump_lines}
+use Rattle.script_answers.specs.Texts.{dump_lines, stamp_text}
 use Rattle.script_answers.specs.declared.answer.ScriptRefusal.{ScriptRefusal}
 use Rattle.script_answers.specs.declared.answer.ScriptRefusal.TheVariants as why
 use Rattle.house_directory.specs.HouseMessages.{numbers_of}
@@ -23,6 +24,7 @@ use Rattle.house_directory.specs.declared.states.DirState.{DirState}
 use Rattle.house_directory.specs.declared.states.DirState.TheVariants as state
 use Rattle.clearinghouse.specs.HouseImages.{image_of}
 use Rattle.clearinghouse.specs.declared.house.Clearinghouse.{Clearinghouse}
+use Rattle.own_stamps.specs.OwnStamps.{later_own}
 use Rattle.house_lines.specs.declared.line.EpochList.{EpochList}
 use Rattle.house_lines.specs.declared.line.HouseLine.{HouseLine}
 use Rattle.house_lines.specs.declared.line.HouseLine.TheVariants as line
@@ -78,11 +80,19 @@ octets_refusal (fault.NotAbove place) = why.NotAbove place
 octets_refusal (fault.BadHeld place) = why.BadLength place
 octets_refusal (fault.Trailing place) = why.BadLength place
 
--- why so many octets are not one message: they do not begin with one, or more follow
-abbrev pub take_refusal : (count : ℕ) → Result (Message × ℕ) RecordFault → Option (List ℕ)
-take_refusal count (Err f) = Some (refused (octets_refusal f))
-take_refusal count (Ok r) =
-    if nat_lt r.1 count then Some (codes "refused Trailing " ++ decimal (r.1 + 1)) else None
+-- a stamp that the house forgot, as it is said; nothing, if there is none
+abbrev pub restored_refusal : Option Stamp → Option (List ℕ)
+restored_refusal None = None
+restored_refusal (Some s) = Some (codes "refused Restored " ++ stamp_text s)
+
+-- why a house does not take so many octets: they do not begin with a message, or more follow; or
+-- the message has a stamp of the house's own node that is later than its floor
+abbrev pub take_refusal : Clearinghouse → (count : ℕ) → Result (Message × ℕ) RecordFault
+    → Option (List ℕ)
+take_refusal c count (Err f) = Some (refused (octets_refusal f))
+take_refusal c count (Ok r) =
+    if nat_lt r.1 count then Some (codes "refused Trailing " ++ decimal (r.1 + 1))
+    else restored_refusal (later_own c.node c.floor.time r.0)
 
 -- a refusal, if there is one, as it is said
 abbrev pub maybe_refused : Option ScriptRefusal → Option (List ℕ)
@@ -97,7 +107,8 @@ early_refusal c (line.Repoint d n h rs) =
     maybe_refused (if is_bad_list (h.0 ∷ numbers_of rs) then Some why.BadMembers else None)
 early_refusal c (line.Epoch d k list) =
     maybe_refused (epoch_refusal c.house.0 k.0 list (get c.dirs d))
-early_refusal c (line.Take octets) = take_refusal (length octets) (decode_by records.message octets)
+early_refusal c (line.Take octets) =
+    take_refusal c (length octets) (decode_by records.message octets)
 early_refusal c other = None
 
 -- ---- questions

@@ -159,6 +159,13 @@ pub record TakesMessage (number : ℕ) (old new : Clearinghouse) (message : Mess
   pub node : new.node ≡ old.node
   pub lawful : IsLawful old → IsLawful new
 
+-- a message is refused, or else comes to this
+abbrev pub TakesUnless : Option (List ℕ) → (number : ℕ) → (old new : Clearinghouse) → Message
+    → said.Said → Type 0
+TakesUnless (Some refusal) number old new message s =
+    Says number s (Tells (refusal ∷ [])) × (new ≡ old)
+TakesUnless None number old new message s = TakesMessage number old new message s
+
 -- what an update comes to that makes a child, and its directory
 pub record MakesChild (number : ℕ) (old new : Clearinghouse) (clock : ℕ) (dir : DirId)
     (change : Change) (child : DirId) (members : List Member)

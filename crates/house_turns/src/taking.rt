@@ -1,16 +1,20 @@
 // Messages that a house takes.
 ghost use Rattle.std.specs.Prelude.{◌≡◌, ℕ, ◌+◌, ◌++◌, ◌∷◌, [], codes, decimal, IfOk};
+ghost use Rattle.script_answers.specs.Texts.{stamp_text};
 ghost use Rattle.cds_messages.specs.Validity.{IsValidMessage};
+ghost use Rattle.own_stamps.specs.OwnStamps.{later_own};
 ghost use Rattle.house_lines.specs.declared.line.HouseLine.TheVariants as line;
+ghost use Rattle.house_turns.specs.HouseAnswers.{restored_refusal};
 ghost use Rattle.house_turns.specs.LineOutcomes as outcomes;
-ghost use Rattle.house_turns.specs.PrivateTurns.{Does, Says, TakesMessage, posts_in, taken_outcome};
+ghost use Rattle.house_turns.specs.PrivateTurns.{Does, Says, TakesMessage, TakesUnless, posts_in, taken_outcome};
 
 use crate::said::{Posts, Said, octets_refused, refused, told, told_words, turned};
 use crate::turns::letters;
 use cds_messages::Message;
-use cds_stamps::AllocOr;
+use cds_stamps::{AllocOr, Stamp};
 use clearinghouse::{Clearinghouse, Taken, Turn};
-use script_answers::{Answer, Serials, push_number};
+use own_stamps::later_own;
+use script_answers::{Answer, Serials, push_number, push_stamp};
 use std::alloc::{AllocError, Global};
 
 // Octets after a message: the place of the first of them.
@@ -20,6 +24,16 @@ fn trailing(alloc: Global, number: u32, place: usize) -> Result<Said, AllocError
 {
     let mut words = Vec::from_slice(alloc, b"refused Trailing ")?;
     push_number(&mut words, place as u64)?;
+    told_words(alloc, number, &words)
+}
+
+// A message with this stamp of the house's node, which is later than its floor.
+fn restored(alloc: Global, number: u32, stamp: &Stamp) -> Result<Said, AllocError>
+    ensures { IfOk result (λ s. Says number s
+        (outcomes.Tells ((codes "refused Restored " ++ stamp_text stamp.now) ∷ []))) }
+{
+    let mut words = Vec::from_slice(alloc, b"refused Restored ")?;
+    push_stamp(&mut words, stamp)?;
     told_words(alloc, number, &words)
 }
 
@@ -38,10 +52,27 @@ pub(crate) fn take(
             if used < octets.len() {
                 return trailing(alloc, number, used + 1);
             }
-            take_message(alloc, home, number, &message)
+            take_unless_restored(alloc, home, number, &message)
         }
         Err(AllocOr::Fault(fault)) => refused(alloc, number, octets_refused(fault)),
         Err(AllocOr::OutOfMemory) => Err(AllocError),
+    }
+}
+
+// Takes a message, unless the house forgot a stamp that it has.
+fn take_unless_restored(
+    alloc: Global,
+    home: &mut Clearinghouse,
+    number: u32,
+    message: &Message,
+) -> Result<Said, AllocError>
+    ensures { IsValidMessage message.now → IfOk result (TakesUnless
+        (restored_refusal (later_own home.old.node home.old.floor.time message.now)) number home.old
+        home.new message.now) }
+{
+    match later_own(home.node(), home.floor(), message) {
+        Some(stamp) => restored(alloc, number, &stamp),
+        None => take_message(alloc, home, number, message),
     }
 }
 

@@ -8,7 +8,7 @@ from collections.abc import Iterable
 HOUSES = 60
 
 # Words that are HTML, or the parts of a page, wherever a script takes them.
-HOSTILE = """# </script><script>document.title = "caught"</script> <!-- %%DATA%% ]]> &amp; 
+HOSTILE = """# </script><script>document.title = "caught"</script> <!-- %%DATA%% ]]> &amp;\x20
 house 1 00000000000a
 house 2 00000000000b
 root 1 2

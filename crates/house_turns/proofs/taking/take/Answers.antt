@@ -6,8 +6,9 @@ use Rattle.record_fields.specs.Decoding.{Decodes, decode_by}
 use Rattle.record_fields.proofs.OneDecoding.{answers_decoding}
 use Rattle.house_lines.specs.declared.line.HouseLine.TheVariants as line
 use Rattle.cell_runs.specs.LineAnswers.{refused}
-use Rattle.house_turns.specs.HouseAnswers.{octets_refusal}
-use Rattle.house_turns.proofs.Comes.{asked_model, refused_early, take_comes, take_fault, take_fine, take_trailing}
+use Rattle.house_turns.specs.HouseAnswers.{octets_refusal, restored_refusal}
+use Rattle.own_stamps.specs.OwnStamps.{later_own}
+use Rattle.house_turns.proofs.Comes.{refused_early, take_fault, take_trailing, take_unless, take_whole}
 use Rattle.house_turns.proofs.taking.take.Goals as goal
 
 pub returns-in-Err-Fault : goal.returns-in-Err-Fault
@@ -30,7 +31,7 @@ pub returns-else-used-octets : goal.returns-else-used-octets
 returns-else-used-octets c clock =
     let said : decode_by message c.args.octets.now ≡ Ok (c.in-Ok.message, c.in-Ok.used) = answers_decoding message c.args.octets.now
     (Ok (c.in-Ok.message, c.in-Ok.used)) c.in-Ok.ensures.decodes in
-    asked_model c.take_message.result c.args.number c.args.home.now c.take_message.new.home clock (line.Take c.args.octets.now)
-    (take_fine c.args.home.now c.args.octets.now c.in-Ok.message c.in-Ok.used said c.if-used-octets.false)
-    (take_comes c.take_message.result c.args.number c.args.home.now c.take_message.new.home clock c.args.octets.now c.in-Ok.message c.in-Ok.used
-    c.in-Ok.ensures.decodes (c.take_message.ensures c.in-Ok.ensures.valid))
+    take_unless c.take_unless_restored.result c.args.number c.args.home.now c.take_unless_restored.new.home clock c.args.octets.now c.in-Ok.message c.in-Ok.used
+    (restored_refusal (later_own c.args.home.now.node c.args.home.now.floor.time c.in-Ok.message)) c.in-Ok.ensures.decodes
+    (take_whole c.args.home.now c.args.octets.now c.in-Ok.message c.in-Ok.used said c.if-used-octets.false)
+    (c.take_unless_restored.ensures c.in-Ok.ensures.valid)

@@ -1,0 +1,2 @@
+pub mod OwnStamps
+pub mod NoneLater
