@@ -5,6 +5,7 @@ ghost use Rattle.house_turns.specs.Openings.{Differs, IsSegmentRecord, MayEnd, R
 ghost use Rattle.house_turns.specs.declared.house.House.{House};
 ghost use Rattle.house_sessions.specs.Refusals.{why_no_line, why_not, why_not_first};
 ghost use Rattle.house_sessions.specs.Steps.{IsSaid, IsSpent, IsStarted, at_first};
+ghost use Rattle.house_sessions.specs.declared.fault.SessionFault.TheVariants as why;
 ghost use Rattle.house_sessions.specs.declared.session.Session.{Session as Session'};
 ghost use Rattle.cds_c.specs.Codes.{Holds};
 ghost use Rattle.cds_c.specs.Codes as codes;
@@ -30,6 +31,7 @@ const NONE_WAITS: u32 = 24;
 fn code_of(fault: SessionFault) -> u32
     ensures code { result ≡ codes.code_of fault }
     ensures fails { result ≢ 0 }
+    ensures no_record { result ≡ 18 → fault ≡ why.NoRecord }
 {
     match fault {
         SessionFault::OutOfMemory => NO_MEMORY,
