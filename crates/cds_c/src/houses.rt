@@ -148,10 +148,10 @@ pub extern "C" fn cds_house_start(alloc: Global, handle: &mut HouseHandle) -> u3
         → Holds handle.new.held (λ t. (why_not_first s.stage ≡ None) × IsStarted s.house t) }
     ensures lawful { (s : Session') → handle.old.held ≡ Some s → MayEnd s.house.home
         → result ≢ 18 }
-    ensures refused { (s : Session') → handle.old.held ≡ Some s → IfSome (why_not_first s.stage)
-        (λ f. (result ≡ codes.code_of f) × (handle.new.held ≡ Some s)) }
     ensures spent { (s : Session') → handle.old.held ≡ Some s → why_not_first s.stage ≡ None
         → result ≢ 0 → ((result ≡ 6) ⊎ (result ≡ 18)) × Holds handle.new.held IsSpent }
+    ensures refused { (s : Session') → handle.old.held ≡ Some s → IfSome (why_not_first s.stage)
+        (λ f. (result ≡ codes.code_of f) × (handle.new.held ≡ Some s)) }
 {
     let Some(mut session) = handle.take(alloc) else {
         return EMPTY;
@@ -298,8 +298,8 @@ pub extern "C" fn cds_house_text(
     out: &mut [u8],
     len: &mut usize,
 ) -> u32
-    ensures same { handle.new.held ≡ handle.old.held }
     ensures empty { handle.old.held ≡ None → result ≡ 16 }
+    ensures same { handle.new.held ≡ handle.old.held }
     ensures refused { (s : Session') → handle.old.held ≡ Some s → IfSome (why_not s.stage s.body)
         (λ f. (result ≡ codes.code_of f) × (out.new ≡ out.old)) }
     ensures said { (s : Session') → handle.old.held ≡ Some s → why_not s.stage s.body ≡ None
