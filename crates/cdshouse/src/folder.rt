@@ -202,7 +202,12 @@ impl<'a> Folder for HostFolder<'a> {
         }
     }
 
-    fn close(&mut self, _number: u64, _file: FileDisk<MemDisk>) {
+    fn take_back(&mut self, _file: FileDisk<MemDisk>, failed: bool) {
+        self.faults.count_file(failed);
+    }
+
+    fn close(&mut self, _number: u64, _file: FileDisk<MemDisk>, failed: bool) {
+        self.faults.count_file(failed);
         self.named = None;
     }
 }

@@ -1,22 +1,27 @@
 -- Why a process ends with its status.
-use Rattle.std.proofs.Common.{◌≡◌, ◌≢◌, ◌⊎◌, inl, inr, ⊎_elim, ℕ, List, [], ◌∷◌, ◌++◌, map, refl, sym, ◌∙◌, ap, subst}
+use Rattle.std.proofs.Common.{◌≡◌, ◌≢◌, ◌⊎◌, ◌↔◌, inl, inr, ⊎_elim, ℕ, ◌+◌, ◌^◌, ◌≤◌, arith, List, [], ◌∷◌, ◌++◌, map, refl, sym, ◌∙◌, ap, subst}
 use Rattle.std.specs.Prelude.{Bool, true, false, if◌then◌else◌, Option, Some, None, Result, Ok, Err, IsErrAnd, IfErr, IfOk, OnOk, is_some}
 use Rattle.cds_base.specs.Counts.{Rose}
 use Rattle.clearinghouse.specs.declared.house.Clearinghouse.{Clearinghouse}
+use Rattle.cds_stamps.specs.declared.alloc_or.AllocOr.{AllocOr}
+use Rattle.cds_stamps.specs.declared.alloc_or.AllocOr.TheVariants as alloc
+use Rattle.cds_stamps.specs.declared.alloc_or.AllocOr.TheVariants.{Fault}
 use Rattle.house_entries.specs.Bodies.{head_of}
+use Rattle.house_journal.specs.declared.journal.JournalFault.{JournalFault}
+use Rattle.house_journal.specs.declared.journal.JournalFault.TheVariants as journal
 use Rattle.house_journal.specs.JournalRecords.{images}
 use Rattle.house_segments.specs.Chains.{chained}
 use Rattle.house_segments.specs.Reading.{IsLast, IsSegment}
+use Rattle.house_segments.specs.Segments.{HasFaultCause}
 use Rattle.house_serving.specs.Ending.{HasEndingCause}
 use Rattle.house_serving.specs.declared.ending.Ending.{Ending}
 use Rattle.house_serving.specs.declared.ending.Ending.TheVariants as endings
 use Rattle.house_turns.specs.Openings.{Differs, MayEnd, RedoneBy, Resumes}
 use Rattle.house_turns.specs.declared.house.House.{House}
 use Rattle.house_program.specs.Beginnings.{FindsSo, IsLastSegment, begins_otherwise, body_in, status_not_read}
-use Rattle.house_program.specs.Causes.{CannotGoOn, Counts, DoesAnother, DoesOther, HasCause, HasEnding, HasFolderEnd, HasSegmentCause, HeadAlone, IsRefused, NoHouse, NoHouseOf, NoSegment, NoneResumes, Unlawful}
-use Rattle.house_program.specs.Files.{Files, RoseAt, last_file}
-use Rattle.house_program.specs.PrivateLives.{IsNotBegun}
-use Rattle.house_program.specs.Statuses.{status_after, status_not_begun, status_of, status_of_folder}
+use Rattle.house_program.specs.Causes.{CannotGoOn, Counts, DoesAnother, DoesOther, HasCause, HasFolderEnd, HasSegmentCause, HeadAlone, IsRefused, NoHouse, NoHouseOf, NoSegment, NoneResumes, Unlawful}
+use Rattle.house_program.specs.Files.{CountsFile, Files, RoseAt, last_file}
+use Rattle.house_program.specs.Statuses.{ends_by_disk, is_disk_fault, status_after, status_not_begun, status_of, status_of_folder}
 use Rattle.house_program.specs.declared.folder.FolderCounts.{FolderCounts}
 use Rattle.house_program.specs.declared.folder.FolderFault.{FolderFault}
 use Rattle.house_program.specs.declared.folder.FolderFault.TheVariants as folders
@@ -24,6 +29,7 @@ use Rattle.house_program.specs.declared.reading.FolderHouse.{FolderHouse}
 use Rattle.house_program.specs.declared.segments.Left.{Left}
 use Rattle.house_program.specs.declared.status.Status.{Status}
 use Rattle.house_program.specs.declared.status.Status.TheVariants as statuses
+use Rattle.house_program.proofs.LifeLemmas.{IsPlain, bad_plain, deeds_plain, folder_plain, memory_plain, other_plain}
 use Rattle.house_program.proofs.ReadLemmas.{IsRedoing}
 
 -- ---- errors
@@ -66,10 +72,10 @@ calm_memory R b n s is calm = subst (λ (x : Status). HasCause R b n x) (sym is)
 pub calm_full : (R : Status → Type 0) (b n : Counts) (s : Status) → s ≡ statuses.Full → n ≡ b → HasCause R b n s
 calm_full R b n s is calm = subst (λ (x : Status). HasCause R b n x) (sym is) calm
 
-pub calm_either : (R : Status → Type 0) (b n : Counts) (e s : Status) → (e ≡ statuses.OutOfMemory) ⊎ (e ≡ statuses.Full) → s ≡ e → n ≡ b
+pub calm_either : (R : Status → Type 0) (b n : Counts) (number : ℕ) (e s : Status) → (e ≡ statuses.OutOfMemory) ⊎ ((e ≡ statuses.Full) × (2 ^ 64 ≤ number + 1)) → s ≡ e → n ≡ b
     → HasCause R b n s
-calm_either R b n e s (inl memory) same calm = calm_memory R b n s (same ∙ memory) calm
-calm_either R b n e s (inr full) same calm = calm_full R b n s (same ∙ full) calm
+calm_either R b n number e s (inl memory) same calm = calm_memory R b n s (same ∙ memory) calm
+calm_either R b n number e s (inr full) same calm = calm_full R b n s (same ∙ full.0) calm
 
 -- nothing failed before
 pub after_calm : (R : Status → Type 0) (b m n : Counts) (s : Status) → m ≡ b → HasCause R m n s → HasCause R b n s
@@ -135,75 +141,86 @@ folder_end kept r r' w w' f f' s reads writes (inr (same, inr refused)) =
 
 -- ---- a run of lines
 
-pub run_cause : (reads reads' writes writes' disks disks' : ℕ) (ending : Ending) → HasEndingCause reads reads' writes writes' disks disks' ending
-    → HasEnding reads reads' writes writes' ending
-run_cause reads reads' writes writes' disks disks' endings.InputEnds c = (c.0, c.1)
-run_cause reads reads' writes writes' disks disks' endings.BadInput c = (c.0, c.1)
-run_cause reads reads' writes writes' disks disks' endings.ReadFault c = (c.0, c.1)
-run_cause reads reads' writes writes' disks disks' endings.WriteFault c = (c.0, c.1)
-run_cause reads reads' writes writes' disks disks' endings.OutOfMemory c = (c.0, c.1)
-run_cause reads reads' writes writes' disks disks' endings.Full c = (c.0, c.1)
-run_cause reads reads' writes writes' disks disks' endings.DiskFault c = (c.0, c.1)
-run_cause reads reads' writes writes' disks disks' endings.Grown c = (c.0, c.1)
-
 -- a run of lines after something was written
-pub run_later : (reads reads' writes0 writes writes' : ℕ) (ending : Ending) → writes ≡ writes0 → HasEnding reads reads' writes writes' ending
-    → HasEnding reads reads' writes0 writes' ending
-run_later reads reads' writes0 writes writes' ending same c = subst (λ (w : ℕ). HasEnding reads reads' w writes' ending) same c
+pub run_later : (reads reads' writes0 writes writes' disks disks' : ℕ) (ending : Ending) → writes ≡ writes0
+    → HasEndingCause reads reads' writes writes' disks disks' ending → HasEndingCause reads reads' writes0 writes' disks disks' ending
+run_later reads reads' writes0 writes writes' disks disks' ending same c = subst (λ (w : ℕ). HasEndingCause reads reads' w writes' disks disks' ending) same c
 
 the_one : (a s : Status) → (let some : Option Status = Some a in some ≡ Some s) → a ≡ s
 the_one a s is = cc (is)
 
-by_ending : (r r' w w' : ℕ) (f f' : FolderCounts) (ending : Ending) (s : Status) → HasEnding r r' w w' ending → f' ≡ f → status_after ending ≡ Some s
-    → HasCause (λ x. ⊥) (counts r w f) (counts r' w' f') s
-by_ending r r' w w' f f' endings.InputEnds s c same is =
+by_ending : (r r' w w' k k' : ℕ) (f f' : FolderCounts) (ending : Ending) (s : Status) → HasEndingCause r r' w w' k k' ending
+    → CountsFile (ends_by_disk ending) f f' → status_after ending ≡ Some s → HasCause (λ x. ⊥) (counts r w f) (counts r' w' f') s
+by_ending r r' w w' k k' f f' endings.InputEnds s c same is =
     subst (λ (x : Status). HasCause (λ y. ⊥) (counts r w f) (counts r' w' f') x) (the_one statuses.Ok s is) (same_counts r r' w w' f f' c.0 c.1 same)
-by_ending r r' w w' f f' endings.BadInput s c same is =
+by_ending r r' w w' k k' f f' endings.BadInput s c same is =
     subst (λ (x : Status). HasCause (λ y. ⊥) (counts r w f) (counts r' w' f') x) (the_one statuses.BadInput s is) (same_counts r r' w w' f f' c.0 c.1 same)
-by_ending r r' w w' f f' endings.ReadFault s c same is =
+by_ending r r' w w' k k' f f' endings.ReadFault s c same is =
     subst (λ (x : Status). HasCause (λ y. ⊥) (counts r w f) (counts r' w' f') x) (the_one statuses.ReadFault s is) (c.0, c.1, same)
-by_ending r r' w w' f f' endings.WriteFault s c same is =
+by_ending r r' w w' k k' f f' endings.WriteFault s c same is =
     subst (λ (x : Status). HasCause (λ y. ⊥) (counts r w f) (counts r' w' f') x) (the_one statuses.WriteFault s is) (c.0, c.1, same)
-by_ending r r' w w' f f' endings.OutOfMemory s c same is =
+by_ending r r' w w' k k' f f' endings.OutOfMemory s c same is =
     subst (λ (x : Status). HasCause (λ y. ⊥) (counts r w f) (counts r' w' f') x) (the_one statuses.OutOfMemory s is) (same_counts r r' w w' f f' c.0 c.1 same)
-by_ending r r' w w' f f' endings.Full s c same is =
+by_ending r r' w w' k k' f f' endings.Full s c same is =
     subst (λ (x : Status). HasCause (λ y. ⊥) (counts r w f) (counts r' w' f') x) (the_one statuses.Full s is) (same_counts r r' w w' f f' c.0 c.1 same)
-by_ending r r' w w' f f' endings.DiskFault s c same is =
-    subst (λ (x : Status). HasCause (λ y. ⊥) (counts r w f) (counts r' w' f') x) (the_one statuses.DiskFault s is) (inl (same_counts r r' w w' f f' c.0 c.1 same))
-by_ending r r' w w' f f' endings.Grown s c same is = absurd (cc (is))
+by_ending r r' w w' k k' f f' endings.DiskFault s c same is =
+    subst (λ (x : Status). HasCause (λ y. ⊥) (counts r w f) (counts r' w' f') x) (the_one statuses.DiskFault s is) (inl (c.0, c.1, same))
+by_ending r r' w w' k k' f f' endings.Grown s c same is = absurd (cc (is))
 
-grown_calm : (r r' w w' : ℕ) (f f' : FolderCounts) (ending : Ending) → HasEnding r r' w w' ending → f' ≡ f → ending ≡ endings.Grown
-    → counts r' w' f' ≡ counts r w f
-grown_calm r r' w w' f f' ending c same is =
-    let so = subst (HasEnding r r' w w') is c in
-    same_counts r r' w w' f f' so.0 so.1 same
+grown_calm : (r r' w w' k k' : ℕ) (f f' : FolderCounts) (ending : Ending) → HasEndingCause r r' w w' k k' ending → CountsFile (ends_by_disk ending) f f'
+    → ending ≡ endings.Grown → counts r' w' f' ≡ counts r w f
+grown_calm r r' w w' k k' f f' ending c same is =
+    let so = subst (HasEndingCause r r' w w' k k') is c in
+    same_counts r r' w w' f f' so.0 so.1 (subst (λ (e : Ending). CountsFile (ends_by_disk e) f f') is same)
 
-pub segment_cause : (r r' w w' : ℕ) (f f' : FolderCounts) (left : Left) (ending : Ending) → left.ending ≡ ending → HasEnding r r' w w' ending → f' ≡ f
+pub segment_cause : (r r' w w' k k' : ℕ) (f f' : FolderCounts) (failed : Bool) (left : Left) (ending : Ending) → left.ending ≡ ending
+    → HasEndingCause r r' w w' k k' ending → failed ≡ ends_by_disk ending → CountsFile failed f f'
     → HasSegmentCause (counts r w f) (counts r' w' f') (Ok left)
-segment_cause r r' w w' f f' left ending so c same =
-    let here = subst (HasEnding r r' w w') (sym so) c in (
-      λ status is. by_ending r r' w w' f f' left.ending status here same is,
-      λ grown. grown_calm r r' w w' f f' left.ending here same grown,
+segment_cause r r' w w' k k' f f' failed left ending so c is same =
+    let here = subst (HasEndingCause r r' w w' k k') (sym so) c in
+    let counted = subst (λ (e : Ending). CountsFile (ends_by_disk e) f f') (sym so) (subst (λ (b : Bool). CountsFile b f f') is same) in (
+      λ status after. by_ending r r' w w' k k' f f' left.ending status here counted after,
+      λ grown. grown_calm r r' w w' k k' f f' left.ending here counted grown,
     )
+
+-- a file is counted if a call of it failed
+pub counts_later : (failed : Bool) (f0 f f' : FolderCounts) → f ≡ f0 → CountsFile failed f f' → CountsFile failed f0 f'
+counts_later failed f0 f f' same c = subst (λ (x : FolderCounts). CountsFile failed x f') same c
+
+some_failed : (n : ℕ) → Rose 0 n → 1 ≤ n
+some_failed n rose = omega (arith, rose)
+
+none_failed : {P : Type 0} (n : ℕ) → n ≡ 0 → 1 ≤ n → P
+none_failed n none some = absurd (omega (arith, none, some))
+
+pub ends_failed : (r r' w w' k k' : ℕ) (ending : Ending) (failed : Bool) → k ≡ 0 → HasEndingCause r r' w w' k k' ending → failed ≡ ends_by_disk ending
+    → (failed ≡ true) ↔ (1 ≤ k')
+ends_failed r r' w w' k k' endings.InputEnds failed none c is = (λ so. absurd (cc (is, so)), λ some. none_failed k' (c.2 ∙ none) some)
+ends_failed r r' w w' k k' endings.BadInput failed none c is = (λ so. absurd (cc (is, so)), λ some. none_failed k' (c.2 ∙ none) some)
+ends_failed r r' w w' k k' endings.ReadFault failed none c is = (λ so. absurd (cc (is, so)), λ some. none_failed k' (c.2 ∙ none) some)
+ends_failed r r' w w' k k' endings.WriteFault failed none c is = (λ so. absurd (cc (is, so)), λ some. none_failed k' (c.2 ∙ none) some)
+ends_failed r r' w w' k k' endings.OutOfMemory failed none c is = (λ so. absurd (cc (is, so)), λ some. none_failed k' (c.2 ∙ none) some)
+ends_failed r r' w w' k k' endings.Full failed none c is = (λ so. absurd (cc (is, so)), λ some. none_failed k' (c.2 ∙ none) some)
+ends_failed r r' w w' k k' endings.DiskFault failed none c is = (λ so. some_failed k' (subst (λ (x : ℕ). Rose x k') none c.2), λ some. is)
+ends_failed r r' w w' k k' endings.Grown failed none c is = (λ so. absurd (cc (is, so)), λ some. none_failed k' (c.2 ∙ none) some)
 
 -- ---- a segment that is not begun
 
-pub not_begun_cause : (R : Status → Type 0) (b n : Counts) (s : Status) → IsNotBegun s → n ≡ b → HasCause R b n s
-not_begun_cause R b n statuses.Ok is calm = absurd is
-not_begun_cause R b n statuses.Usage is calm = absurd is
-not_begun_cause R b n statuses.BadInput is calm = absurd is
-not_begun_cause R b n statuses.ReadFault is calm = absurd is
-not_begun_cause R b n statuses.WriteFault is calm = absurd is
-not_begun_cause R b n statuses.OutOfMemory is calm = calm
-not_begun_cause R b n statuses.Full is calm = calm
-not_begun_cause R b n statuses.DiskFault is calm = inl calm
-not_begun_cause R b n statuses.BadFolder is calm = absurd is
-not_begun_cause R b n statuses.Taken is calm = absurd is
-not_begun_cause R b n statuses.OtherVersion is calm = absurd is
-not_begun_cause R b n statuses.OtherDeeds is calm = absurd is
+pub begun_failed : (n : ℕ) (fault : AllocOr JournalFault) (failed : Bool) → HasFaultCause 0 n fault → failed ≡ is_disk_fault fault → (failed ≡ true) ↔ (1 ≤ n)
+begun_failed n (Fault journal.DiskFault) failed c is = (λ so. some_failed n c, λ some. is)
+begun_failed n (Fault journal.Full) failed c is = (λ so. absurd (cc (is, so)), λ some. none_failed n c some)
+begun_failed n (Fault journal.Reopen) failed c is = absurd c
+begun_failed n alloc.OutOfMemory failed c is = (λ so. absurd (cc (is, so)), λ some. none_failed n c some)
 
-pub same_begun : (R : Status → Type 0) (b n : Counts) (e s : Status) → IsNotBegun e → s ≡ e → n ≡ b → HasCause R b n s
-same_begun R b n e s is same calm = not_begun_cause R b n s (subst IsNotBegun (sym same) is) calm
+pub not_begun_cause : (R : Status → Type 0) (r w n : ℕ) (f f' : FolderCounts) (fault : AllocOr JournalFault) (s : Status) → s ≡ status_not_begun fault
+    → HasFaultCause 0 n fault → CountsFile (is_disk_fault fault) f f' → HasCause R (counts r w f) (counts r w f') s
+not_begun_cause R r w n f f' (Fault journal.DiskFault) s is c counted =
+    subst (λ (x : Status). HasCause R (counts r w f) (counts r w f') x) (sym is) (inl (refl, refl, counted))
+not_begun_cause R r w n f f' (Fault journal.Full) s is c counted =
+    subst (λ (x : Status). HasCause R (counts r w f) (counts r w f') x) (sym is) (same_counts r r w w f f' refl refl counted)
+not_begun_cause R r w n f f' (Fault journal.Reopen) s is c counted = absurd c
+not_begun_cause R r w n f f' alloc.OutOfMemory s is c counted =
+    subst (λ (x : Status). HasCause R (counts r w f) (counts r w f') x) (sym is) (same_counts r r w w f f' refl refl counted)
 
 -- ---- records
 
@@ -329,3 +346,24 @@ folder_end_later kept r w f0 f f' e s same end is =
 -- a fault of the folder after a call that was done
 pub rose_later : (fault : FolderFault) (f0 f f' : FolderCounts) → f ≡ f0 → RoseAt fault f f' → RoseAt fault f0 f'
 rose_later fault f0 f f' same rose = subst (λ (x : FolderCounts). RoseAt fault x f') same rose
+
+-- ---- a folder that is not read
+
+by_version_plain : (other : Bool) (s : Status) → s ≡ (if other then statuses.OtherVersion else statuses.BadFolder) → IsPlain s
+by_version_plain true s is = other_plain s is
+by_version_plain false s is = bad_plain s is
+
+house_plain : (records : List (List ℕ)) (s : Status) → NoHouseOf records s → IsPlain s
+house_plain records _ (HeadAlone none) = bad_plain statuses.BadFolder refl
+house_plain records _ (NoneResumes first others split none) = bad_plain statuses.BadFolder refl
+house_plain records _ (DoesAnother first others begun split resumes other) = deeds_plain statuses.OtherDeeds refl
+house_plain records _ (Unlawful first others begun at split resumes redone bad) = bad_plain statuses.BadFolder refl
+
+why_plain : (number : ℕ) (octets : List ℕ) (s : Status) → CannotGoOn number octets s → IsPlain s
+why_plain number octets s (NoSegment bad is) = by_version_plain (begins_otherwise (images octets)) s is
+why_plain number octets s (NoHouse head records split bad) = house_plain records s bad
+
+pub unread_plain : (kept : Files → Type 0) (f f' : FolderCounts) (e s : Status) → HasFolderEnd (IsRefused kept) f f' e → s ≡ e → IsPlain s
+unread_plain kept f f' e s (inl x) is = folder_plain x.0 s (is ∙ x.1)
+unread_plain kept f f' e s (inr (same, inl memory)) is = memory_plain s (is ∙ memory)
+unread_plain kept f f' e s (inr (same, inr refused)) is = subst IsPlain (sym is) (why_plain refused.file.number refused.file.octets e refused.why)

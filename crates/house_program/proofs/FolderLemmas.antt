@@ -106,6 +106,19 @@ pub file_on : (number : ℕ) (before : List ℕ) (ss : List FolderSegment) (s : 
 file_on number before ss s fs octets are has =
     files_on number before ss (s ∷ []) fs (record { number = number + length ss; octets = octets } ∷ []) are (octets, [], refl, has, refl)
 
+-- a digest has 32 octets
+pub last_size : (before : List ℕ) (bodies : List (List ℕ)) → length before ≡ 32 → length (last_digest before bodies) ≡ 32
+last_size before [] size = size
+last_size before (b ∷ bodies) size = last_size (digest_after before b) bodies (length-sha256 (before ++ b))
+
+pub digests_size : (number : ℕ) (before : List ℕ) (ss : List FolderSegment) → length before ≡ 32 → length (digest_after_all number before ss) ≡ 32
+digests_size number before [] size = size
+digests_size number before (s ∷ ss) size =
+    digests_size (number + 1) (last_digest before (bodies_in_file number before s)) ss (last_size before (bodies_in_file number before s) size)
+
+pub zeros_size : length (replicate 32 0) ≡ 32
+zeros_size = refl
+
 -- the last of files that are segments, if there is one
 pub record LastOf (number : ℕ) (before : List ℕ) (ss : List FolderSegment) (last : Option (List (List ℕ))) (fs : Files) : Type 0 where
   pub one : FolderSegment
@@ -117,6 +130,7 @@ pub record LastOf (number : ℕ) (before : List ℕ) (ss : List FolderSegment) (
   pub has : HasBodies after (bodies_in_file at after one) octets
   pub digest : digest_after_all number before ss ≡ last_digest after (bodies_in_file at after one)
   pub bodies : last_bodies last ss ≡ Some (segment_bodies one)
+  pub sized : length before ≡ 32 → length after ≡ 32
 
 last_of_on : (number : ℕ) (before : List ℕ) (s t : FolderSegment) (ss : List FolderSegment) (last : Option (List (List ℕ))) (f g : NumberedFile) (gs : Files)
     → LastOf (number + 1) (last_digest before (bodies_in_file number before s)) (t ∷ ss) (Some (segment_bodies s)) (g ∷ gs)
@@ -133,6 +147,7 @@ last_of_on number before s t ss last f g gs l =
       has = l.has;
       digest = l.digest;
       bodies = l.bodies;
+      sized = λ size. l.sized (last_size before (bodies_in_file number before s) size);
     }
 
 pub last_of : (number : ℕ) (before : List ℕ) (s : FolderSegment) (ss : List FolderSegment) (last : Option (List (List ℕ))) (fs : Files)
@@ -147,6 +162,7 @@ last_of number before s [] last fs are = record {
   has = are.3;
   digest = refl;
   bodies = refl;
+  sized = λ size. size;
 }
 last_of number before s (t ∷ ss) last fs are =
     let next = are.4 in
@@ -167,18 +183,18 @@ body_of_sealed before body =
     let front : length (sealed before body) - 32 ≡ length body = omega (arith, size, digest) in
     ap (λ (n : ℕ). take n (sealed before body)) front ∙ take-append_seam body (digest_after before body)
 
-bodies_of_chain : (before : List ℕ) (bodies : List (List ℕ)) → map body_in (chained before bodies) ≡ bodies
+pub bodies_of_chain : (before : List ℕ) (bodies : List (List ℕ)) → map body_in (chained before bodies) ≡ bodies
 bodies_of_chain before [] = refl
 bodies_of_chain before (b ∷ bodies) =
     ap (λ (r : List ℕ). r ∷ map body_in (chained (digest_after before b) bodies)) (body_of_sealed before b)
     ∙ ap (λ (l : List (List ℕ)). b ∷ l) (bodies_of_chain (digest_after before b) bodies)
 
-abbrev tail_list : List (List ℕ) → List (List ℕ)
+abbrev pub tail_list : List (List ℕ) → List (List ℕ)
 tail_list [] = []
 tail_list (r ∷ rs) = rs
 
 -- the head of a segment is its title and the digest before it
-title_and_digest : (number : ℕ) (before : List ℕ) → head_of number [] ++ before ≡ head_of number before
+pub title_and_digest : (number : ℕ) (before : List ℕ) → head_of number [] ++ before ≡ head_of number before
 title_and_digest number before =
     append_assoc (codes "cdshouse journal 2 ") (decimal number ++ 10 ∷ []) before
     ∙ ap (λ (l : List ℕ). codes "cdshouse journal 2 " ++ l) (append_assoc (decimal number) (10 ∷ []) before)
@@ -215,7 +231,7 @@ found_last number after s octets f has is =
           (ap (map body_in) others ∙ bodies_of_chain (digest_after after (head_of number after)) (segment_bodies s)) is.house,
     )
 
-last_bodies-append : (last : Option (List (List ℕ))) (ss ts : List FolderSegment) → last_bodies last (ss ++ ts) ≡ last_bodies (last_bodies last ss) ts
+pub last_bodies-append : (last : Option (List (List ℕ))) (ss ts : List FolderSegment) → last_bodies last (ss ++ ts) ≡ last_bodies (last_bodies last ss) ts
 last_bodies-append last [] ts = refl
 last_bodies-append last (s ∷ ss) ts = last_bodies-append (Some (segment_bodies s)) ss ts
 

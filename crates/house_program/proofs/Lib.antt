@@ -4,3 +4,4 @@ mod LifeLemmas
 mod ProcessLemmas
 mod CauseLemmas
 mod LeftHouses
+mod RestartLemmas

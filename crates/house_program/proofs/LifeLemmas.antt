@@ -1,17 +1,22 @@
 -- What a process did, segment by segment.
-use Rattle.std.proofs.Common.{◌≡◌, ◌≢◌, ◌⊎◌, inl, inr, ⊎_elim, ℕ, ◌+◌, ◌<◌, List, [], ◌∷◌, ◌++◌, length, take, drop, refl, sym, ◌∙◌, ap, subst, append_assoc, append-nil, take-append-drop, arith}
+use Rattle.std.proofs.Common.{◌≡◌, ◌≢◌, ◌⊎◌, inl, inr, ⊎_elim, ℕ, ◌+◌, ◌^◌, ◌<◌, List, [], ◌∷◌, ◌++◌, length, take, drop, refl, sym, ◌∙◌, ap, subst, append_assoc, append-nil, take-append-drop, arith}
 use Rattle.std.specs.Prelude.{Option, Some, None, Result, Ok, Err, IsErrAnd}
 use Rattle.std.specs.Io.KnownBytes.{Appends, IsAtEnd}
 use Rattle.cds_base.specs.Lines.{fault_of_lines, lines_so_far, octets_ahead}
 use Rattle.cds_base.specs.SourceReading.{GrowsByReading}
 use Rattle.cds_base.specs.declared.lines.Lines.{Lines}
 use Rattle.cds_base.proofs.KnownOctets.{appends_more, appends_none}
+use Rattle.cds_stamps.specs.declared.alloc_or.AllocOr.{AllocOr}
+use Rattle.cds_stamps.specs.declared.alloc_or.AllocOr.TheVariants as alloc
+use Rattle.cds_stamps.specs.declared.alloc_or.AllocOr.TheVariants.{Fault}
 use Rattle.house_journal.specs.declared.disk.Disk.{Ghosts}
+use Rattle.house_journal.specs.declared.journal.JournalFault.{JournalFault}
+use Rattle.house_journal.specs.declared.journal.JournalFault.TheVariants as journal
 use Rattle.house_journal.specs.Journals.{LeavesOnly}
-use Rattle.house_segments.specs.Segments.{HasBodies, IsAt, disk_of}
+use Rattle.house_segments.specs.Segments.{HasBodies, IsAt, disk_of, size_with}
 use Rattle.house_segments.specs.declared.segment.Segment.{Segment}
 use Rattle.house_serving.specs.Faults.{line_fault_text, shown, too_long}
-use Rattle.house_serving.specs.Serving.{EndsSo, HasFront, IsFaulty, IsOver, Run, Served}
+use Rattle.house_serving.specs.Serving.{EndsSo, HasFront, IsFaulty, IsOver, LacksRoom, Run, Served}
 use Rattle.house_serving.specs.Turns.{Dialogue, Turn, bodies_of, lines_text, texts_of}
 use Rattle.house_serving.specs.declared.ending.Ending.{Ending}
 use Rattle.house_serving.specs.declared.ending.Ending.TheVariants.{BadInput, DiskFault, Full, Grown, InputEnds, OutOfMemory, ReadFault, WriteFault}
@@ -22,10 +27,10 @@ use Rattle.house_segments.specs.Chains.{last_digest}
 use Rattle.house_program.specs.Beginnings.{first_bodies}
 use Rattle.house_program.specs.Files.{Files, NumberedFile, WithFile}
 use Rattle.house_program.specs.Lives.{IsFaultLine, IsSaid}
-use Rattle.house_program.specs.PrivateLives.{EndsDue, IsDue, IsPassed, IsWhole, SegmentDone, Spoken}
+use Rattle.house_program.specs.PrivateLives.{EndsDue, IsDue, IsPassed, IsUnmade, IsWhole, SegmentDone, Spoken}
 use Rattle.house_program.specs.declared.segments.Left.{Left}
 use Rattle.house_program.specs.declared.segments.Next.{Next}
-use Rattle.house_program.specs.Statuses.{status_after, status_of_folder}
+use Rattle.house_program.specs.Statuses.{status_after, status_not_begun, status_of_folder}
 use Rattle.house_program.specs.declared.folder.FolderFault.{FolderFault}
 use Rattle.house_program.specs.declared.folder.FolderFault.TheVariants as folders
 use Rattle.house_program.specs.declared.status.Status.{Status}
@@ -148,6 +153,22 @@ module _ {D : Type 0} (g : Ghosts D) (before : List ℕ) (bodies : List (List �
                   d.no_one s.read;
             };
         due = record {
+          counted = s.counted;
+          stopped = λ is.
+              let so = subst (EndsSo g before bodies segment' s.turns s.over s.last s.text s.at house' s.one lines' (lines_so_far lines + length s.turns + 1)
+              run.left') is s.ends in
+              record {
+                last = s.last;
+                one = s.one;
+                all = ap (λ (l : List ℕ). said ++ l) so.0.all_written;
+                read = s.read;
+                faulty = subst (λ (n : ℕ). IsFaulty n s.one (octets_ahead lines') run.left' s.last) same so.1;
+              };
+          crowded = λ is. record {
+            one = s.one;
+            read = s.read;
+            lacks = subst (λ (n : ℕ). LacksRoom Responds n s.at s.over s.one (bodies ++ bodies_of s.turns)) same (s.room is);
+          };
           unbroken = λ is.
               unbroken_at g before bodies segment' s.turns s.over s.last s.text s.at house' s.one lines' (lines_so_far lines + length s.turns + 1) run.left'
               ending is s.ends;
@@ -175,7 +196,13 @@ unspoken g only before bodies said house segment lines run k at wrote = record {
       (front_none before bodies [] c (left_at g before bodies segment at c left));
   says = record { last = []; unsaid = drop k said; fault = inl refl; front = append-nil said ∙ sym (take-append-drop k said) };
   whole = λ is. not_due is;
-  due = record { unbroken = λ is. absurd (cc (is)); input = λ is. absurd (cc (is)) };
+  due = record {
+    unbroken = λ is. absurd (cc (is));
+    counted = λ is. absurd (cc (is));
+    input = λ is. absurd (cc (is));
+    stopped = λ is. absurd (cc (is));
+    crowded = λ is. absurd (cc (is));
+  };
 }
   where
     not_due : {P : Type 0} → IsDue WriteFault → P
@@ -217,7 +244,7 @@ module _ (kept ever : Files → Type 0) (next : Next) (house : House) (lines : L
   AtFirst more = HasFront next.before (first_bodies next) more
 
   -- nothing was said, and no line was done
-  pub unsaid : (kept' ever' : Files → Type 0) (status : Status) → status ≢ statuses.Ok → Appends run.written run.written' []
+  pub unsaid : (kept' ever' : Files → Type 0) (status : Status) → IsUnmade next [] status → Appends run.written run.written' []
       → ((files : Files) → kept' files → kept files ⊎ WithFile kept next.number (HasBodies next.before (first_bodies next)) files)
       → ((files : Files) → ever' files → ever files ⊎ WithFile kept next.number (HasBodies next.before (first_bodies next)) files)
       → SegmentDone kept ever kept' ever' next house house lines lines run (Err status)
@@ -239,14 +266,14 @@ module _ (kept ever : Files → Type 0) (next : Next) (house : House) (lines : L
     says = record { last = []; unsaid = next.said.items; fault = inl refl; front = append-nil next.said.items };
     passed = λ left is due. absurd (cc (is));
     due = λ left is. absurd (cc (is));
-    not_ok = λ s is. subst (λ (x : Status). x ≢ statuses.Ok) (err_is status s is) bad;
+    unmade = λ s is. subst (IsUnmade next []) (err_is status s is) bad;
   }
     where
       err_is : (a b : Status) → (let e : Result Left Status = Err a in e ≡ Err b) → a ≡ b
       err_is a b same = cc (same)
 
   -- a segment that is not made, by any error that is no success
-  pub refused : (kept' ever' : Files → Type 0) (Q : Status → Type 0) (r : Result Left Status) → IsErrAnd r Q → ((s : Status) → Q s → s ≢ statuses.Ok)
+  pub refused : (kept' ever' : Files → Type 0) (Q : Status → Type 0) (r : Result Left Status) → IsErrAnd r Q → ((s : Status) → Q s → IsUnmade next [] s)
       → Appends run.written run.written' []
       → ((files : Files) → kept' files → kept files ⊎ WithFile kept next.number (HasBodies next.before (first_bodies next)) files)
       → ((files : Files) → ever' files → ever files ⊎ WithFile kept next.number (HasBodies next.before (first_bodies next)) files)
@@ -304,20 +331,57 @@ module _ (kept ever : Files → Type 0) (next : Next) (house : House) (lines : L
           };
       due = λ l is.
           let same : left ≡ l = cc (is) in
-          subst (λ (x : Left). EndsDue lines' run x.ending) same (subst (EndsDue lines' run) (sym so) s.due);
-      not_ok = λ status is. absurd (cc (is));
+          subst (λ (x : Left). EndsDue (first_bodies next) next.said.items s.turns s.over s.text s.at lines lines' run x.ending) same
+          (subst (EndsDue (first_bodies next) next.said.items s.turns s.over s.text s.at lines lines' run) (sym so) s.due);
+      unmade = λ status is. absurd (cc (is));
     }
 
 -- ---- statuses
 
-pub folder_not_ok : (f : FolderFault) (s : Status) → s ≡ status_of_folder f → s ≢ statuses.Ok
-folder_not_ok folders.Unreadable s is ok = absurd (cc (is, ok))
-folder_not_ok folders.Taken s is ok = absurd (cc (is, ok))
-folder_not_ok folders.Failed s is ok = absurd (cc (is, ok))
-folder_not_ok folders.OutOfMemory s is ok = absurd (cc (is, ok))
+-- a status that says nothing of lines and of room
+pub record IsPlain (status : Status) : Type 0 where
+  pub not_ok : status ≢ statuses.Ok
+  pub not_faulty : status ≢ statuses.BadInput
+  pub not_full : status ≢ statuses.Full
 
-pub same_not_ok : (e s : Status) → e ≢ statuses.Ok → s ≡ e → s ≢ statuses.Ok
-same_not_ok e s bad same ok = bad (sym same ∙ ok)
+pub memory_plain : (s : Status) → s ≡ statuses.OutOfMemory → IsPlain s
+memory_plain s is = record { not_ok = λ so. absurd (cc (is, so)); not_faulty = λ so. absurd (cc (is, so)); not_full = λ so. absurd (cc (is, so)) }
+
+disk_plain : (s : Status) → s ≡ statuses.DiskFault → IsPlain s
+disk_plain s is = record { not_ok = λ so. absurd (cc (is, so)); not_faulty = λ so. absurd (cc (is, so)); not_full = λ so. absurd (cc (is, so)) }
+
+pub bad_plain : (s : Status) → s ≡ statuses.BadFolder → IsPlain s
+bad_plain s is = record { not_ok = λ so. absurd (cc (is, so)); not_faulty = λ so. absurd (cc (is, so)); not_full = λ so. absurd (cc (is, so)) }
+
+pub other_plain : (s : Status) → s ≡ statuses.OtherVersion → IsPlain s
+other_plain s is = record { not_ok = λ so. absurd (cc (is, so)); not_faulty = λ so. absurd (cc (is, so)); not_full = λ so. absurd (cc (is, so)) }
+
+pub deeds_plain : (s : Status) → s ≡ statuses.OtherDeeds → IsPlain s
+deeds_plain s is = record { not_ok = λ so. absurd (cc (is, so)); not_faulty = λ so. absurd (cc (is, so)); not_full = λ so. absurd (cc (is, so)) }
+
+taken_plain : (s : Status) → s ≡ statuses.Taken → IsPlain s
+taken_plain s is = record { not_ok = λ so. absurd (cc (is, so)); not_faulty = λ so. absurd (cc (is, so)); not_full = λ so. absurd (cc (is, so)) }
+
+pub folder_plain : (f : FolderFault) (s : Status) → s ≡ status_of_folder f → IsPlain s
+folder_plain folders.Unreadable s is = bad_plain s is
+folder_plain folders.Taken s is = taken_plain s is
+folder_plain folders.Failed s is = disk_plain s is
+folder_plain folders.OutOfMemory s is = memory_plain s is
+
+-- a segment is not made, and nothing was done
+pub plain_unmade : (next : Next) (s : Status) → IsPlain s → IsUnmade next [] s
+plain_unmade next s plain = record { not_ok = plain.not_ok; not_faulty = plain.not_faulty; full = λ is. absurd (plain.not_full is) }
+
+pub begun_unmade : (next : Next) (fault : AllocOr JournalFault) (s : Status) → s ≡ status_not_begun fault
+    → (fault ≡ Fault journal.Full → 2 ^ 40 < size_with (first_bodies next)) → IsUnmade next [] s
+begun_unmade next (Fault journal.Full) s is large = record {
+  not_ok = λ so. absurd (cc (is, so));
+  not_faulty = λ so. absurd (cc (is, so));
+  full = λ so. (refl, large refl);
+}
+begun_unmade next (Fault journal.DiskFault) s is large = plain_unmade next s (disk_plain s is)
+begun_unmade next (Fault journal.Reopen) s is large = plain_unmade next s (disk_plain s is)
+begun_unmade next alloc.OutOfMemory s is large = plain_unmade next s (memory_plain s is)
 
 -- the status after an ending is a success where the input ended
 pub ok_ends : (e : Ending) (s : Status) → Some s ≡ status_after e → s ≡ statuses.Ok → e ≡ InputEnds
@@ -340,3 +404,24 @@ goes_on OutOfMemory is = absurd (cc)
 goes_on Full is = absurd (cc)
 goes_on DiskFault is = absurd (cc)
 goes_on Grown is = refl
+
+-- that of a fault of octets where the input had one, and a full one where a record had no room
+pub faulty_ends : (e : Ending) (s : Status) → Some s ≡ status_after e → s ≡ statuses.BadInput → e ≡ BadInput
+faulty_ends InputEnds s is so = absurd (cc (is, so))
+faulty_ends BadInput s is so = refl
+faulty_ends ReadFault s is so = absurd (cc (is, so))
+faulty_ends WriteFault s is so = absurd (cc (is, so))
+faulty_ends OutOfMemory s is so = absurd (cc (is, so))
+faulty_ends Full s is so = absurd (cc (is, so))
+faulty_ends DiskFault s is so = absurd (cc (is, so))
+faulty_ends Grown s is so = absurd (cc (is, so))
+
+pub full_ends : (e : Ending) (s : Status) → Some s ≡ status_after e → s ≡ statuses.Full → e ≡ Full
+full_ends InputEnds s is so = absurd (cc (is, so))
+full_ends BadInput s is so = absurd (cc (is, so))
+full_ends ReadFault s is so = absurd (cc (is, so))
+full_ends WriteFault s is so = absurd (cc (is, so))
+full_ends OutOfMemory s is so = absurd (cc (is, so))
+full_ends Full s is so = refl
+full_ends DiskFault s is so = absurd (cc (is, so))
+full_ends Grown s is so = absurd (cc (is, so))

@@ -1,18 +1,18 @@
 -- A process as it goes on from segment to segment, and what it did when it ends.
-use Rattle.std.proofs.Common.{◌≡◌, ◌≢◌, ◌⊎◌, inl, inr, ⊎_elim, ℕ, ◌+◌, ◌<◌, List, [], ◌∷◌, ◌++◌, length, refl, sym, ◌∙◌, ap, subst, append_assoc, append-nil, length-append, arith}
+use Rattle.std.proofs.Common.{◌≡◌, ◌≢◌, ◌⊎◌, inl, inr, ⊎_elim, ℕ, ◌+◌, ◌^◌, ◌<◌, ◌≤◌, List, [], ◌∷◌, ◌++◌, length, refl, sym, ◌∙◌, ap, subst, append_assoc, append-nil, length-append, arith}
 use Rattle.std.specs.Prelude.{Option, Some, None, Result, Ok, Err, IsErrAnd}
 use Rattle.std.specs.Io.KnownBytes.{Appends, IsAtEnd}
-use Rattle.cds_base.specs.Lines.{fault_of_lines, lines_so_far, octets_ahead}
+use Rattle.cds_base.specs.Lines.{IsFresh, fault_of_lines, lines_so_far, octets_ahead}
 use Rattle.cds_base.specs.SourceReading.{GrowsByReading}
 use Rattle.cds_base.specs.declared.lines.Lines.{Lines}
 use Rattle.cds_base.proofs.KnownOctets.{appends_more, appends_none, consumes_self}
 use Rattle.house_entries.specs.Bodies.{head_of}
 use Rattle.house_segments.specs.Chains.{last_digest}
-use Rattle.house_segments.specs.Segments.{HasBodies}
-use Rattle.house_serving.specs.Serving.{HasFront, IsOver, Run}
-use Rattle.house_serving.specs.Turns.{Dialogue, Turn, bodies_of, lines_text, texts_of}
+use Rattle.house_segments.specs.Segments.{HasBodies, size_with}
+use Rattle.house_serving.specs.Serving.{HasFront, IsFaulty, IsOver, Run}
+use Rattle.house_serving.specs.Turns.{Dialogue, Turn, bodies_in, bodies_of, lines_text, texts_of}
 use Rattle.house_serving.specs.declared.ending.Ending.{Ending}
-use Rattle.house_serving.specs.declared.ending.Ending.TheVariants.{Grown, InputEnds}
+use Rattle.house_serving.specs.declared.ending.Ending.TheVariants.{BadInput, Grown, InputEnds}
 use Rattle.house_serving.proofs.Runs.{reads_after, run_between}
 use Rattle.house_serving.proofs.Works.{bodies-append, lines-append, talks_on, texts-append}
 use Rattle.house_turns.specs.HouseReplies.{Responds}
@@ -24,14 +24,15 @@ use Rattle.house_runs.proofs.Crashes.{Done, front_done, of_over}
 use Rattle.house_program.specs.Beginnings.{FindsSo, first_bodies}
 use Rattle.house_program.specs.Files.{Files, NumberedFile, WithFile, last_file, number_in}
 use Rattle.house_program.specs.HouseFolders.{AreFiles, BeginsAnew, EndsIn, Found, IsFront, IsHouseFolder, LeavesHouse, digest_after_all}
-use Rattle.house_program.specs.Lives.{IsAnswered, IsFirstText, IsIdle, IsKept, IsSaid, Life, Lived, turns_in}
-use Rattle.house_program.specs.PrivateLives.{EndsDue, IsDue, IsPassed, SegmentDone}
-use Rattle.house_program.specs.Statuses.{status_of}
+use Rattle.house_program.specs.Lives.{EndsWith, HasBadLine, HasNoRoom, IsAnswered, IsFirstText, IsIdle, IsKept, IsReadNext, IsSaid, Life, Lived, NoFirst, NoNext, NoNumber, size_after, turns_in}
+use Rattle.house_program.specs.PrivateLives.{EndsDue, IsCrowded, IsDue, IsPassed, IsStopped, SegmentDone}
+use Rattle.house_program.specs.Statuses.{status_after, status_of}
 use Rattle.house_program.specs.declared.reading.FolderHouse.{FolderHouse}
 use Rattle.house_program.specs.declared.segments.Left.{Left}
 use Rattle.house_program.specs.declared.segments.Next.{Next}
 use Rattle.house_program.specs.declared.status.Status.{Status}
 use Rattle.house_program.specs.declared.status.Status.TheVariants as statuses
+use Rattle.house_program.proofs.LifeLemmas.{IsPlain, faulty_ends, full_ends, memory_plain, ok_ends}
 use Rattle.house_program.proofs.FolderLemmas.{SegmentsTo, anew_on, are_segments, bodies_on, digests_on, file_on, found_digest, found_number, found_of, found_opens, goes_from, house_on, none_to, number_of_found, segments_on}
 
 pub turns_on : (ss : List FolderSegment) (s : FolderSegment) → turns_in (ss ++ s ∷ []) ≡ turns_in ss ++ s.turns
@@ -60,6 +61,7 @@ pub record Made (kept0 ever0 kept ever : Files → Type 0) (found : Found) (open
   pub leaves : (files : Files) → kept files → HasAll kept0 found segments files
   pub moments : (files : Files) → ever files → ever0 files ⊎ IsFront kept0 found (folder_bodies segments) files
   pub read : GrowsByReading left left' [] (lines_text (turns_in segments) ++ octets_ahead lines)
+  pub counted : lines_so_far lines ≡ length (turns_in segments)
 
 -- and the segment that it is to make
 pub record Ready (kept : Files → Type 0) (found : Found) (lines : Lines) (segments : List FolderSegment) (prior house : House) (unsaid : List ℕ) (next : Next) : Type 0 where
@@ -89,13 +91,20 @@ front_grows kept found records more files f = record {
   records = ap (λ (l : List (List ℕ)). l ++ more) f.records ∙ append_assoc (folder_bodies f.segments) f.more more;
 }
 
+-- a process may end so before the segment after this one
+pub record MayStop (number : ℕ) (status : Status) : Type 0 where
+  pub not_ok : status ≢ statuses.Ok
+  pub not_faulty : status ≢ statuses.BadInput
+  pub full : status ≡ statuses.Full → 2 ^ 64 ≤ number + 1
+
 -- a process that does nothing more
 module _ (kept0 ever0 kept ever : Files → Type 0) (found : Found) (opened : House) (said : List ℕ) (run : Run) (lines : Lines)
     (segments : List FolderSegment) (prior : House) (text unsaid : List ℕ)
     (m : Made kept0 ever0 kept ever found opened said run.left run.left' run.written run.written' lines segments prior text unsaid) where
-  pub rests : (kept' ever' : Files → Type 0) (status : Status) → status ≢ statuses.Ok → ((f : Files) → kept' f → kept f) → ((f : Files) → ever' f → ever f)
+  pub rests : (kept' ever' : Files → Type 0) (status : Status) → status ≢ statuses.Ok → status ≢ statuses.BadInput
+      → (status ≡ statuses.Full → 2 ^ 64 ≤ found.number + length segments + 1) → ((f : Files) → kept' f → kept f) → ((f : Files) → ever' f → ever f)
       → Life kept0 ever0 kept' ever' run status
-  rests kept' ever' status bad fewer calm = record {
+  rests kept' ever' status bad clean full fewer calm = record {
     found = found;
     opened = opened;
     segments = segments;
@@ -134,6 +143,8 @@ module _ (kept0 ever0 kept ever : Files → Type 0) (found : Found) (opened : Ho
           };
         };
     answers = λ is. absurd (bad is);
+    faulty = λ is. absurd (clean is);
+    full = λ is. NoNumber (full is);
   }
 
 -- ---- a segment more
@@ -316,12 +327,105 @@ module _ (kept0 ever0 kept ever : Files → Type 0) (found : Found) (opened : Ho
           };
         }
 
+    -- all that was read
+    read_on : (rest : List ℕ) → GrowsByReading left' left'' (octets_ahead lines) (lines_text d.turns ++ rest)
+        → GrowsByReading left left'' [] (lines_text (turns_in after_it) ++ rest)
+    read_on rest read =
+        subst (GrowsByReading left left'' [])
+        (sym (append_assoc (lines_text (turns_in segments)) (lines_text d.turns) rest)
+        ∙ ap (λ (l : List ℕ). l ++ rest) (sym (lines-append (turns_in segments) d.turns) ∙ ap lines_text (sym (turns_on segments (segment_with d.turns)))))
+        (reads_after left left' left'' [] (lines_text (turns_in segments)) (octets_ahead lines) (lines_text d.turns ++ rest) m.read read)
+
+    -- the segment with these lines is as a house makes it, and has so many octets
+    ends_with : (turns : List Turn) (at : House) → Dialogue Responds (lines_so_far lines + 1) house turns at
+        → EndsWith found (segments ++ segment_with turns ∷ []) segments (segment_with turns)
+    ends_with turns at talk = record {
+      split = refl;
+      are =
+          are_segments found.last new_house at (segments ++ segment_with turns ∷ [])
+          (segments_on found.last new_house prior house at segments (segment_with turns) m.follow r.starts talk);
+    }
+
+    sized : (turns : List Turn) → 2 ^ 40 < size_with (first_bodies next ++ bodies_of turns) → 2 ^ 40 < size_after found segments (segment_with turns)
+    sized turns large =
+        subst (λ (b : List ℕ). 2 ^ 40 < size_with (head_of (found.number + 1 + length segments) b ∷ (next.first.items ∷ bodies_of turns))) r.digest
+        (subst (λ (n : ℕ). 2 ^ 40 < size_with (head_of n next.before ∷ (next.first.items ∷ bodies_of turns))) r.number large)
+
+    -- the first record has no room
+    no_first : d.turns ≡ [] → 2 ^ 40 < size_with (first_bodies next) → (run : Run) → HasNoRoom run found after_it
+    no_first none large run =
+        NoFirst segments (segment_with d.turns) none (ends_with d.turns d.at d.talk)
+        (sized d.turns (subst (λ (l : List (List ℕ)). 2 ^ 40 < size_with (first_bodies next ++ l)) (sym (ap bodies_of none)) large))
+
+    -- the record of the next line has none
+    no_next : (c : IsCrowded (first_bodies next) d.turns d.over d.at lines lines'
+        (record { left = left'; left' = left''; written = written'; written' = written''; reads = reads; reads' = reads'; writes = writes; writes' = writes' }))
+        → (run : Run) → run.left ≡ left → run.left' ≡ left'' → HasNoRoom run found after_it
+    no_next c run from to =
+        let n = c.lacks.next in
+        let turn : Turn = record { line = n.line; said = n.said } in
+        let turns = d.turns ++ turn ∷ [] in
+        let talk = talks_on Responds (lines_so_far lines + 1) house d.at n.next d.turns (turn ∷ []) d.talk (n.next, n.does, refl) in
+        let bodies : (first_bodies next ++ bodies_of d.turns) ++ d.over ≡ first_bodies next ++ bodies_of turns =
+        append_assoc (first_bodies next) (bodies_of d.turns) d.over
+        ∙ ap (λ (l : List (List ℕ)). first_bodies next ++ l)
+        (ap (λ (l : List (List ℕ)). bodies_of d.turns ++ l) (n.bodies ∙ sym (append-nil (bodies_in n.said.body))) ∙ sym (bodies-append d.turns (turn ∷ []))) in
+        NoNext segments (segment_with d.turns) (segment_with turns) turn refl refl (ends_with turns n.next talk)
+        (octets_ahead lines', subst (λ (x : Option (List ℕ)). GrowsByReading x run.left' [] (lines_text (turns_in after_it) ++ ((n.line ++ 10 ∷ []) ++ octets_ahead lines'))) (sym from)
+        (subst (λ (x : Option (List ℕ)). GrowsByReading left x [] (lines_text (turns_in after_it) ++ ((n.line ++ 10 ∷ []) ++ octets_ahead lines'))) (sym to)
+        (subst (λ (l : List ℕ). GrowsByReading left left'' [] (lines_text (turns_in after_it) ++ (l ++ octets_ahead lines'))) c.lacks.line (read_on (c.one ++ octets_ahead lines') c.read))))
+        (sized turns (subst (λ (l : List (List ℕ)). 2 ^ 40 < size_with l) bodies c.lacks.large))
+
+    -- the next line is none
+    bad_line : IsStopped next.said.items d.turns d.text lines lines'
+        (record { left = left'; left' = left''; written = written'; written' = written''; reads = reads; reads' = reads'; writes = writes; writes' = writes' })
+        → (run : Run) → run.left ≡ left → run.left' ≡ left'' → HasBadLine run said (turns_in after_it) (text ++ d.text)
+    bad_line s run from to =
+        let same = turns_on segments (segment_with d.turns) in
+        let counted = m.counted in
+        let numbered : lines_so_far lines + 1 + length d.turns ≡ length (turns_in after_it) + 1 =
+        omega (arith, counted, ap length same, length-append (turns_in segments) d.turns) in
+        record {
+          last = s.last;
+          one = s.one;
+          ahead = octets_ahead lines';
+          all =
+              sym (append-nil (text ++ d.text))
+              ∙ sym (words_on d.turns s.last [] d.text (sym s.all ∙ sym (append-nil d.text)))
+              ∙ ap (λ (l : List Turn). said ++ (texts_of l ++ s.last)) (sym same);
+          read =
+              subst (λ (x : Option (List ℕ)). GrowsByReading x run.left' [] (lines_text (turns_in after_it) ++ (s.one ++ octets_ahead lines'))) (sym from)
+              (subst (λ (x : Option (List ℕ)). GrowsByReading left x [] (lines_text (turns_in after_it) ++ (s.one ++ octets_ahead lines'))) (sym to)
+              (read_on (s.one ++ octets_ahead lines') s.read));
+          faulty =
+              subst (λ (x : Option (List ℕ)). IsFaulty (length (turns_in after_it) + 1) s.one (octets_ahead lines') x s.last) (sym to)
+              (subst (λ (n : ℕ). IsFaulty n s.one (octets_ahead lines') left'' s.last) numbered s.faulty);
+        }
+
+    -- the process ends with the status of an ending, or with that of a segment that was not made
+    abbrev pub EndsBy : Status → Type 0
+    EndsBy status = ((l : Left) × (result ≡ Ok l) × (Some status ≡ status_after l.ending)) ⊎ (result ≡ Err status)
+
+    abbrev ByEnding : Ending → Type 0
+    ByEnding ending = (l : Left) × (result ≡ Ok l) × (l.ending ≡ ending)
+
+    ok_by : (status : Status) → EndsBy status → status ≡ statuses.Ok → ByEnding InputEnds
+    ok_by status (inl l) is = (l.0, l.1, ok_ends l.0.ending status l.2 is)
+    ok_by status (inr e) is = absurd ((d.unmade status e).not_ok is)
+
+    faulty_by : (status : Status) → EndsBy status → status ≡ statuses.BadInput → ByEnding BadInput
+    faulty_by status (inl l) is = (l.0, l.1, faulty_ends l.0.ending status l.2 is)
+    faulty_by status (inr e) is = absurd ((d.unmade status e).not_faulty is)
+
+    full_by : (status : Status) → EndsBy status → status ≡ statuses.Full → (run : Run) → run.left ≡ left → run.left' ≡ left'' → HasNoRoom run found after_it
+    full_by status (inl l) is run from to = no_next ((d.due l.0 l.1).crowded (full_ends l.0.ending status l.2 is)) run from to
+    full_by status (inr e) is run from to = let u = (d.unmade status e).full is in no_first u.0 u.1 run
+
     -- how the process ends after this segment
-    pub ends : (reads0 reads1 writes0 writes1 : ℕ) (status : Status)
-        → (status ≡ statuses.Ok → (l : Left) × (result ≡ Ok l) × (l.ending ≡ InputEnds))
+    pub ends : (reads0 reads1 writes0 writes1 : ℕ) (status : Status) → EndsBy status
         → Life kept0 ever0 kept' ever'
         (record { left = left; left' = left''; written = written; written' = written''; reads = reads0; reads' = reads1; writes = writes0; writes' = writes1 }) status
-    ends reads0 reads1 writes0 writes1 status ok = record {
+    ends reads0 reads1 writes0 writes1 status why = record {
       found = found;
       opened = opened;
       segments = after_it;
@@ -334,7 +438,7 @@ module _ (kept0 ever0 kept ever : Files → Type 0) (found : Found) (opened : Ho
       any_moment = moments;
       at_the_end = λ files is. ⊎_elim (λ was. kept_without files was.0 was.1) (λ w. kept_with files w) (d.at_the_end files is);
       answers = λ is.
-          let so = ok is in
+          let so = ok_by status why is in
           let p = d.passed so.0 so.1 (inr so.2) in
           let e = (d.due so.0 so.1).input so.2 in
           record {
@@ -353,6 +457,13 @@ module _ (kept0 ever0 kept ever : Files → Type 0) (found : Found) (opened : Ho
                 (reads_after left left' left'' [] (lines_text (turns_in segments)) (octets_ahead lines) (lines_text d.turns ++ octets_ahead lines') m.read p.read);
             ends = e.1;
           };
+      faulty = λ is.
+          let so = faulty_by status why is in
+          bad_line ((d.due so.0 so.1).stopped so.2)
+          (record { left = left; left' = left''; written = written; written' = written''; reads = reads0; reads' = reads1; writes = writes0; writes' = writes1 }) refl refl;
+      full = λ is.
+          full_by status why is
+          (record { left = left; left' = left''; written = written; written' = written''; reads = reads0; reads' = reads1; writes = writes0; writes' = writes1 }) refl refl;
     }
 
     -- the process goes on in the next segment
@@ -384,6 +495,11 @@ module _ (kept0 ever0 kept ever : Files → Type 0) (found : Found) (opened : Ho
               (sym (append_assoc (lines_text (turns_in segments)) (lines_text d.turns) (octets_ahead lines'))
               ∙ ap (λ (l : List ℕ). l ++ octets_ahead lines') (sym (lines-append (turns_in segments) d.turns) ∙ ap lines_text (sym (turns_on segments (segment_with d.turns)))))
               (reads_after left left' left'' [] (lines_text (turns_in segments)) (octets_ahead lines) (lines_text d.turns ++ octets_ahead lines') m.read p.read);
+          counted =
+              let so_far = m.counted in
+              let more = (d.due l is).counted grown in
+              let same = ap length (turns_on segments (segment_with d.turns)) in
+              omega (arith, so_far, more, same, length-append (turns_in segments) d.turns);
         }
 
     pub gets_ready : (l : Left) → result ≡ Ok l → l.ending ≡ Grown → (next' : Next) → next'.number ≡ next.number + 1 → next'.before ≡ l.digest
@@ -423,8 +539,8 @@ module _ (kept0 ever0 kept ever : Files → Type 0) (found : Found) (opened : Ho
 
 pub starts_made : (kept ever : Files → Type 0) (found : Found) (opened : House) (said : List ℕ) (left written : Option (List ℕ)) (lines : Lines)
     → OpensFrom found.last opened → IsFirstText (after_start opened opened.home) said → ((files : Files) → kept files → (h : IsHouseFolder files) → EndsIn (h.gone ++ h.segments) found)
-    → octets_ahead lines ≡ [] → Made kept ever kept ever found opened said left left written written lines [] new_house [] said
-starts_made kept ever found opened said left written lines opens speaks after none = record {
+    → octets_ahead lines ≡ [] → lines_so_far lines ≡ 0 → Made kept ever kept ever found opened said left left written written lines [] new_house [] said
+starts_made kept ever found opened said left written lines opens speaks after none zero = record {
   opens = opens;
   speaks = speaks;
   follow = none_to found.last new_house;
@@ -435,6 +551,7 @@ starts_made kept ever found opened said left written lines opens speaks after no
   leaves = λ files k. record { was = files; made = []; kept = k; after = after files k; split = sym (append-nil files); are = refl };
   moments = λ files e. inl e;
   read = record { read = []; taken = consumes_self left; grown = none };
+  counted = zero;
 }
 
 -- ---- what a crash leaves is the folder of a house
@@ -468,11 +585,11 @@ pub record IsLiving (kept0 ever0 kept ever : Files → Type 0) (run : Run) (line
 
 -- it began
 pub living_first : (kept ever : Files → Type 0) (f : FolderHouse) (so : FindsSo kept f) (left written : Option (List ℕ)) (reads writes : ℕ) (lines : Lines) (house : House) (next : Next)
-    → IsFirstText (after_start f.house f.house.home) next.said.items → octets_ahead lines ≡ [] → fault_of_lines lines ≡ None
+    → IsFirstText (after_start f.house f.house.home) next.said.items → IsFresh lines
     → next.number ≡ f.number + 1 → next.before ≡ f.digest → house ≡ after_start f.house f.house.home
     → IsRecord house (start_text f.house.home f.house.last) next.first.items
     → IsLiving kept ever kept ever (run_between left left written written reads reads writes writes) lines house next
-living_first kept ever f so left written reads writes lines house next speaks none unbroken number digest is record_is =
+living_first kept ever f so left written reads writes lines house next speaks fresh number digest is record_is =
     let found = found_of f so.file so.is in
     let at = found_number f so.file so.is in
     let in_file = number_of_found f so.file so.is in
@@ -486,7 +603,7 @@ living_first kept ever f so left written reads writes lines house next speaks no
       unsaid = next.said.items;
       made =
           starts_made kept ever found f.house next.said.items left written lines (found_opens f so.file so.is) speaks
-          (λ files k h. goes_from f so.file so.is files (so.always files k) h) none;
+          (λ files k h. goes_from f so.file so.is files (so.always files k) h) fresh.empty fresh.number;
       ready = record {
         begins = ProcessBegins;
         starts = (f.house, found_opens f so.file so.is, is, record_is);
@@ -495,7 +612,7 @@ living_first kept ever f so left written reads writes lines house next speaks no
         digest = digest ∙ sym (found_digest f so.file so.is);
         says = refl;
         above = λ files k. above_all files k;
-        unbroken = unbroken;
+        unbroken = fresh.fault;
       };
     }
   where
@@ -512,11 +629,11 @@ module _ (kept0 ever0 kept ever kept' ever' : Files → Type 0) (left left' left
   whole_run = run_between left left'' written written'' reads0 reads' writes0 writes'
 
   -- it ends in this segment
-  pub living_ends : (status : Status) → (status ≡ statuses.Ok → (x : Left) × (result ≡ Ok x) × (x.ending ≡ InputEnds))
+  pub living_ends : (status : Status) → ((x : Left) × (result ≡ Ok x) × (Some status ≡ status_after x.ending)) ⊎ (result ≡ Err status)
       → Lived kept0 ever0 kept' ever' whole_run status
-  living_ends status ok =
+  living_ends status why =
       inr (ends kept0 ever0 kept ever l.found l.opened l.said left left' written written' lines l.segments l.prior house l.text l.unsaid next l.made l.ready
-      kept' ever' house' lines' left'' written'' reads reads' writes writes' result d reads0 reads' writes0 writes' status ok)
+      kept' ever' house' lines' left'' written'' reads reads' writes writes' result d reads0 reads' writes0 writes' status why)
 
   -- it goes on
   pub living_on : (x : Left) → result ≡ Ok x → x.ending ≡ Grown → (next' : Next) → next'.number ≡ next.number + 1 → next'.before ≡ x.digest
@@ -538,18 +655,16 @@ module _ (kept0 ever0 kept ever kept' ever' : Files → Type 0) (left left' left
         kept' ever' house' lines' left'' written'' reads reads' writes writes' result d x is grown next' number digest first none;
   }
 
-  -- it ends after this segment, since memory ran out
-  pub living_stops : (x : Left) → result ≡ Ok x → x.ending ≡ Grown → (status : Status) → status ≢ statuses.Ok → Lived kept0 ever0 kept' ever' whole_run status
-  living_stops x is grown status bad =
+  -- it ends after this segment, since memory ran out, or the numbers did
+  pub living_stops : (x : Left) → result ≡ Ok x → x.ending ≡ Grown → (status : Status) → MayStop next.number status
+      → Lived kept0 ever0 kept' ever' whole_run status
+  living_stops x is grown status may =
       inr (rests kept0 ever0 kept' ever' l.found l.opened l.said whole_run lines' _ _ _ _
       (passes kept0 ever0 kept ever l.found l.opened l.said left left' written written' lines l.segments l.prior house l.text l.unsaid next l.made l.ready
-      kept' ever' house' lines' left'' written'' reads reads' writes writes' result d x is grown) kept' ever' status bad (λ f k. k) (λ f e. e))
-
--- it ends between two segments
-pub living_rests : (kept0 ever0 kept ever : Files → Type 0) (run : Run) (lines : Lines) (house : House) (next : Next) (status : Status)
-    → IsLiving kept0 ever0 kept ever run lines house next → status ≢ statuses.Ok → Lived kept0 ever0 kept ever run status
-living_rests kept0 ever0 kept ever run lines house next status l bad =
-    inr (rests kept0 ever0 kept ever l.found l.opened l.said run lines l.segments l.prior l.text l.unsaid l.made kept ever status bad (λ f k. k) (λ f e. e))
+      kept' ever' house' lines' left'' written'' reads reads' writes writes' result d x is grown) kept' ever' status may.not_ok may.not_faulty
+      (λ full. let large = may.full full in let at = l.ready.number in omega (arith, large, at, length-append l.segments
+      (segment_with kept0 ever0 kept ever l.found l.opened l.said left left' written written' lines l.segments l.prior house l.text l.unsaid next l.made l.ready d.turns ∷ [])))
+      (λ f k. k) (λ f e. e))
 
 -- ---- errors
 
@@ -560,21 +675,44 @@ err_lived kept0 ever0 kept ever run Q (Ok s) is all = absurd is
 err_lived kept0 ever0 kept ever run Q (Err s) is all = all s is
 
 -- nothing was done before it
-pub idle : (kept ever kept' ever' : Files → Type 0) (run : Run) (status : Status) → status ≢ statuses.Ok → Appends run.written run.written' []
+pub idle : (kept ever kept' ever' : Files → Type 0) (run : Run) (status : Status) → IsPlain status → Appends run.written run.written' []
     → ((f : Files) → kept' f → kept f) → ((f : Files) → ever' f → ever f) → Lived kept ever kept' ever' run status
-idle kept ever kept' ever' run status bad wrote fewer calm = inl record { wrote = wrote; calm = calm; fewer = fewer; not_ok = bad }
+idle kept ever kept' ever' run status plain wrote fewer calm = inl record {
+  wrote = wrote;
+  calm = calm;
+  fewer = fewer;
+  not_ok = plain.not_ok;
+  not_faulty = plain.not_faulty;
+  full = λ is. absurd (plain.not_full is);
+}
 
-pub memory_not_ok : (s : Status) → s ≡ statuses.OutOfMemory → s ≢ statuses.Ok
-memory_not_ok s is ok = absurd (cc (is, ok))
-
-pub full_not_ok : (s : Status) → s ≡ statuses.Full → s ≢ statuses.Ok
-full_not_ok s is ok = absurd (cc (is, ok))
+-- nothing was done, and there may be no number for a segment
+pub idle_at : (kept ever : Files → Type 0) (run : Run) (f : FolderHouse) (so : FindsSo kept f) (status : Status) → MayStop f.number status
+    → Appends run.written run.written' [] → Lived kept ever kept ever run status
+idle_at kept ever run f so status may wrote = inl record {
+  wrote = wrote;
+  calm = λ files e. e;
+  fewer = λ files k. k;
+  not_ok = may.not_ok;
+  not_faulty = may.not_faulty;
+  full = λ is files k.
+      let large = may.full is in
+      let same : number_in (last_file files) ≡ f.number = ap number_in (so.always files k) ∙ number_of_found f so.file so.is in
+      omega (arith, large, same);
+}
 
 -- a process that went on from less
 pub lived_later : (kept0 ever0 kept1 ever1 kept ever : Files → Type 0) (run : Run) (status : Status) → ((f : Files) → kept1 f → kept0 f) → ((f : Files) → ever1 f → ever0 f)
     → Lived kept1 ever1 kept ever run status → Lived kept0 ever0 kept ever run status
 lived_later kept0 ever0 kept1 ever1 kept ever run status fewer calm (inl idle) =
-    inl record { wrote = idle.wrote; calm = λ f e. calm f (idle.calm f e); fewer = λ f k. fewer f (idle.fewer f k); not_ok = idle.not_ok }
+    inl record {
+      wrote = idle.wrote;
+      calm = λ f e. calm f (idle.calm f e);
+      fewer = λ f k. fewer f (idle.fewer f k);
+      not_ok = idle.not_ok;
+      not_faulty = idle.not_faulty;
+      full = idle.full;
+    }
 lived_later kept0 ever0 kept1 ever1 kept ever run status fewer calm (inr life) = inr record {
   found = life.found;
   opened = life.opened;
@@ -609,6 +747,8 @@ lived_later kept0 ever0 kept1 ever1 kept ever run status fewer calm (inr life) =
         says = x.says;
       };
   answers = life.answers;
+  faulty = life.faulty;
+  full = life.full;
 }
   where
     front_later : (f : Files) → IsFront kept1 life.found (folder_bodies life.segments ++ life.over) f → IsFront kept0 life.found (folder_bodies life.segments ++ life.over) f
@@ -633,6 +773,12 @@ pub speaks_so : (h h' : House) (said next : List ℕ) → h' ≡ h → next ≡ 
 speaks_so h h' said next same also speaks = subst (λ (x : House). IsFirstText x next) same (subst (IsFirstText h') (sym also) speaks)
 
 -- memory ran out, or the numbers did
-pub either_not_ok : (e s : Status) → (e ≡ statuses.OutOfMemory) ⊎ (e ≡ statuses.Full) → s ≡ e → s ≢ statuses.Ok
-either_not_ok e s (inl memory) same = memory_not_ok s (same ∙ memory)
-either_not_ok e s (inr full) same = full_not_ok s (same ∙ full)
+pub may_stop : (number : ℕ) (e s : Status) → (e ≡ statuses.OutOfMemory) ⊎ ((e ≡ statuses.Full) × (2 ^ 64 ≤ number + 1)) → s ≡ e → MayStop number s
+may_stop number e s (inl memory) same =
+    let plain = memory_plain s (same ∙ memory) in
+    record { not_ok = plain.not_ok; not_faulty = plain.not_faulty; full = λ is. absurd (plain.not_full is) }
+may_stop number e s (inr full) same = record {
+  not_ok = λ is. absurd (cc (is, same ∙ full.0));
+  not_faulty = λ is. absurd (cc (is, same ∙ full.0));
+  full = λ is. full.1;
+}

@@ -4,12 +4,11 @@ use Rattle.cds_base.specs.Counts.{Rose}
 use Rattle.house_entries.specs.Bodies.{head_of}
 use Rattle.house_journal.specs.JournalRecords.{images}
 use Rattle.house_segments.specs.Reading.{IsSegment}
-use Rattle.house_serving.specs.declared.ending.Ending.{Ending}
 use Rattle.house_serving.specs.declared.ending.Ending.TheVariants as endings
 use Rattle.house_turns.specs.Openings.{Differs, MayEnd, RedoneBy, Resumes}
 use Rattle.house_turns.specs.declared.house.House.{House}
 use Rattle.house_program.specs.Beginnings.{body_in, status_not_read}
-use Rattle.house_program.specs.Files.{Files, NumberedFile, RoseAt, last_file}
+use Rattle.house_program.specs.Files.{FileRose, Files, NumberedFile, RoseAt, last_file}
 use Rattle.house_program.specs.Statuses.{status_after, status_of_folder}
 use Rattle.house_program.specs.declared.folder.FolderCounts.{FolderCounts}
 use Rattle.house_program.specs.declared.folder.FolderFault.{FolderFault}
@@ -60,8 +59,8 @@ pub record IsRefused (kept : Files → Type 0) (status : Status) : Type 0 where
 
 -- ---- counts of what failed
 
--- how often reads of the input and writes of the output failed, and how many calls of the folder
--- were not done (own)
+-- how often reads of the input and writes of the output failed; and how many calls of the folder
+-- were not done, and of how many of its files a call failed (own)
 pub record Counts : Type 0 where
   pub reads : ℕ
   pub writes : ℕ
@@ -79,13 +78,20 @@ FolderFailed fault before now =
     (now.reads ≡ before.reads) × (now.writes ≡ before.writes)
     × RoseAt fault before.folder now.folder
 
--- what failed where a process ends with this status; a disk that failed may be that of a file (own)
+-- a call of a file failed, and no other call (own)
+abbrev pub FileFailed : (before now : Counts) → Type 0
+FileFailed before now =
+    (now.reads ≡ before.reads) × (now.writes ≡ before.writes) × FileRose before.folder now.folder
+
+-- what failed where a process ends with this status: a disk fails in a call of the folder or of one
+-- of its files (own)
 abbrev pub HasCause : (refused : Status → Type 0) → (before now : Counts) → Status → Type 0
 HasCause refused before now statuses.ReadFault =
     Rose before.reads now.reads × (now.writes ≡ before.writes) × (now.folder ≡ before.folder)
 HasCause refused before now statuses.WriteFault =
     (now.reads ≡ before.reads) × Rose before.writes now.writes × (now.folder ≡ before.folder)
-HasCause refused before now statuses.DiskFault = (now ≡ before) ⊎ FolderFailed faults.Failed before now
+HasCause refused before now statuses.DiskFault =
+    FileFailed before now ⊎ FolderFailed faults.Failed before now
 HasCause refused before now statuses.BadFolder =
     FolderFailed faults.Unreadable before now ⊎ ((now ≡ before) × refused statuses.BadFolder)
 HasCause refused before now statuses.Taken = FolderFailed faults.Taken before now
@@ -104,12 +110,6 @@ abbrev pub HasFolderEnd : (refused : Status → Type 0) → (before now : Folder
 HasFolderEnd refused before now status =
     ((fault : FolderFault) × (status ≡ status_of_folder fault) × RoseAt fault before now)
     ⊎ ((now ≡ before) × ((status ≡ statuses.OutOfMemory) ⊎ refused status))
-
--- what failed where a run of lines ends, of which the folder knows nothing (own)
-abbrev pub HasEnding : (reads reads' writes writes' : ℕ) → Ending → Type 0
-HasEnding reads reads' writes writes' endings.ReadFault = Rose reads reads' × (writes' ≡ writes)
-HasEnding reads reads' writes writes' endings.WriteFault = (reads' ≡ reads) × Rose writes writes'
-HasEnding reads reads' writes writes' ending = (reads' ≡ reads) × (writes' ≡ writes)
 
 -- what failed where a process is done with a segment (own)
 abbrev pub HasSegmentCause : (before now : Counts) → Result Left Status → Type 0

@@ -1,5 +1,5 @@
 -- The numbered files of a folder, and what a crash may leave of them.
-use Rattle.std.specs.Prelude.{◌≡◌, ◌⊎◌, ℕ, List, [], ◌∷◌, ◌++◌, Option, None, Some, Result, Ok, Err}
+use Rattle.std.specs.Prelude.{◌≡◌, ◌⊎◌, ℕ, Bool, true, false, List, [], ◌∷◌, ◌++◌, Option, None, Some, Result, Ok, Err}
 use Rattle.std.specs.List.{last_or}
 use Rattle.cds_base.specs.Counts.{Rose}
 use Rattle.house_program.specs.declared.folder.FolderFault.{FolderFault}
@@ -49,15 +49,26 @@ pub record Quiet {F : Type 0} (kept left_ever : F → Files → Type 0) (named_a
 -- the count of this fault rose, and no other did; of memory there is none (own)
 abbrev pub RoseAt : FolderFault → (before now : FolderCounts) → Type 0
 RoseAt Unreadable before now =
-    Rose before.unreadable now.unreadable
-    × (now.taken ≡ before.taken) × (now.failed ≡ before.failed)
+    Rose before.unreadable now.unreadable × (now.taken ≡ before.taken)
+    × (now.failed ≡ before.failed) × (now.files ≡ before.files)
 RoseAt Taken before now =
-    (now.unreadable ≡ before.unreadable)
-    × Rose before.taken now.taken × (now.failed ≡ before.failed)
+    (now.unreadable ≡ before.unreadable) × Rose before.taken now.taken
+    × (now.failed ≡ before.failed) × (now.files ≡ before.files)
 RoseAt Failed before now =
-    (now.unreadable ≡ before.unreadable)
-    × (now.taken ≡ before.taken) × Rose before.failed now.failed
+    (now.unreadable ≡ before.unreadable) × (now.taken ≡ before.taken)
+    × Rose before.failed now.failed × (now.files ≡ before.files)
 RoseAt OutOfMemory before now = now ≡ before
+
+-- the count of files of which a call failed rose, and no other did (own)
+abbrev pub FileRose : (before now : FolderCounts) → Type 0
+FileRose before now =
+    (now.unreadable ≡ before.unreadable) × (now.taken ≡ before.taken)
+    × (now.failed ≡ before.failed) × Rose before.files now.files
+
+-- a file was taken back: it is counted if a call of it failed (own)
+abbrev pub CountsFile : (failed : Bool) → (before now : FolderCounts) → Type 0
+CountsFile true before now = FileRose before now
+CountsFile false before now = now ≡ before
 
 -- a call answers a fault only where its count rose, and no other one did (own)
 abbrev pub HasFolderCause : {T : Type 0} → (before now : FolderCounts) → Result T FolderFault

@@ -6,3 +6,4 @@ pub mod Lives
 pub mod PrivateLives
 pub mod HouseCells
 pub mod Causes
+pub mod Restarts

@@ -1,5 +1,5 @@
 -- The status that the process ends with (own).
-use Rattle.std.specs.Prelude.{ℕ, Option, Some, None, Result, Ok, Err}
+use Rattle.std.specs.Prelude.{ℕ, Bool, true, false, Option, Some, None, Result, Ok, Err}
 use Rattle.cds_base.specs.declared.words.WordsFault.{WordsFault}
 use Rattle.cds_base.specs.declared.words.WordsFault.TheVariants as words
 use Rattle.cds_stamps.specs.declared.alloc_or.AllocOr.{AllocOr}
@@ -39,6 +39,18 @@ status_not_begun (alloc.Fault journal.Full) = status.Full
 status_not_begun (alloc.Fault journal.DiskFault) = status.DiskFault
 status_not_begun (alloc.Fault journal.Reopen) = status.DiskFault
 status_not_begun alloc.OutOfMemory = status.OutOfMemory
+
+-- a segment is not begun since a call of its disk failed
+abbrev pub is_disk_fault : AllocOr JournalFault → Bool
+is_disk_fault (alloc.Fault journal.DiskFault) = true
+is_disk_fault (alloc.Fault journal.Full) = false
+is_disk_fault (alloc.Fault journal.Reopen) = false
+is_disk_fault alloc.OutOfMemory = false
+
+-- a run ended since a call of its disk failed
+abbrev pub ends_by_disk : Ending → Bool
+ends_by_disk ending.DiskFault = true
+ends_by_disk _ = false
 
 -- where a call of the folder was not done
 abbrev pub status_of_folder : FolderFault → Status

@@ -1,9 +1,9 @@
 // The folder of a house: what a crash may leave of its numbered files.
-ghost use Rattle.std.specs.Prelude.{◌≡◌, ◌⊎◌, ◌<◌, ℕ, List, [], Bool, true, IfOk, OnErr, OnOk};
+ghost use Rattle.std.specs.Prelude.{◌≡◌, ◌⊎◌, ◌↔◌, ◌<◌, ◌≤◌, ℕ, List, [], Bool, true, IfOk, IsTrue, OnErr, OnOk};
 ghost use Rattle.std.specs.Option.{option_map};
 ghost use Rattle.house_journal.specs.Disks.{Only};
 ghost use Rattle.house_program.specs.declared.folder.FolderFault.TheVariants as why;
-ghost use Rattle.house_program.specs.Files.{HasFolderCause, NumberedFile, Quiet, RoseAt, WithFile, file_of, last_file, number_in};
+ghost use Rattle.house_program.specs.Files.{CountsFile, HasFolderCause, NumberedFile, Quiet, RoseAt, WithFile, file_of, last_file, number_in};
 ghost use Rattle.house_program.specs.declared.folder.FolderCounts.{FolderCounts};
 
 use house_journal::Disk;
@@ -31,23 +31,26 @@ impl From<AllocError> for FolderFault {
     }
 }
 
-/// How many calls of a folder were not done, by their faults.
+/// How many calls of a folder were not done, by their faults; and of how many of its files a call
+/// failed.
 #[derive(Clone, Copy, Debug, PartialEq, Eq)]
 pub struct FolderCounts {
     pub unreadable: u64,
     pub taken: u64,
     pub failed: u64,
+    pub files: u64,
 }
 
 impl FolderCounts {
-    /// Each call was done.
+    /// Each call was done, and each of each file.
     pub fn none() -> FolderCounts
-        ensures { result ≡ record { unreadable = 0; taken = 0; failed = 0 } }
+        ensures { result ≡ record { unreadable = 0; taken = 0; failed = 0; files = 0 } }
     {
         FolderCounts {
             unreadable: 0,
             taken: 0,
             failed: 0,
+            files: 0,
         }
     }
 
@@ -60,6 +63,15 @@ impl FolderCounts {
             FolderFault::Taken => self.taken = self.taken.saturating_add(1),
             FolderFault::Failed => self.failed = self.failed.saturating_add(1),
             FolderFault::OutOfMemory => {}
+        }
+    }
+
+    /// Counts a file that is taken back, if a call of it failed.
+    pub fn count_file(&mut self, failed: bool)
+        ensures { CountsFile failed self.old self.new }
+    {
+        if failed {
+            self.files = self.files.saturating_add(1);
         }
     }
 }
@@ -91,7 +103,7 @@ pub trait Folder {
     /// No other process gets the folder.
     ghost locked: { Self → Bool };
 
-    /// How many of its calls were not done.
+    /// How many of its calls were not done, and of how many of its files a call failed.
     ghost faults: { Self → FolderCounts };
 
     /// Takes the lock, which is held until the process ends.
@@ -115,6 +127,7 @@ pub trait Folder {
         requires { locked self.old ≡ true }
         ensures empty { IfOk result (λ f. Self.File.reads f ≡ []) }
         ensures only { IfOk result (λ f. Only (Self.File.reads f) (Self.File.may_leave f)) }
+        ensures fresh { IfOk result (λ f. Self.File.faults f ≡ 0) }
         ensures locked { locked self.new ≡ true }
         ensures quiet { Quiet kept left_ever named_at self.old self.new }
         ensures cause { HasFolderCause (faults self.old) (faults self.new) result };
@@ -137,9 +150,19 @@ pub trait Folder {
         ensures locked { locked self.new ≡ true }
         ensures cause { HasFolderCause (faults self.old) (faults self.new) result };
 
-    /// Takes back a file that was given its number, to which nothing more is written.
-    fn close(&mut self, number: u64, file: Self::File)
-        requires { locked self.old ≡ true }
+    /// Takes back a file that got no number. `failed` says whether a call of it failed.
+    fn take_back(&mut self, file: Self::File, failed: bool)
+        requires locked { locked self.old ≡ true }
+        requires failed { IsTrue failed ↔ (1 ≤ Self.File.faults file) }
+        ensures locked { locked self.new ≡ true }
+        ensures quiet { Quiet kept left_ever named_at self.old self.new }
+        ensures cause { CountsFile failed (faults self.old) (faults self.new) };
+
+    /// Takes back a file that was given its number, to which nothing more is written. `failed` says
+    /// whether a call of it failed.
+    fn close(&mut self, number: u64, file: Self::File, failed: bool)
+        requires locked { locked self.old ≡ true }
+        requires failed { IsTrue failed ↔ (1 ≤ Self.File.faults file) }
         ensures kept { (moment : ℕ) → named_at self.old number moment
             → (files : List NumberedFile) → kept self.new files
             → WithFile (kept self.old) number (Self.File.may_leave file) files }
@@ -147,5 +170,5 @@ pub trait Folder {
             → (files : List NumberedFile) → left_ever self.new files → left_ever self.old files
             ⊎ WithFile (kept self.old) number (Self.File.left_since file moment) files }
         ensures locked { locked self.new ≡ true }
-        ensures cause { faults self.new ≡ faults self.old };
+        ensures cause { CountsFile failed (faults self.old) (faults self.new) };
 }

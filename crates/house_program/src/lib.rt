@@ -11,7 +11,7 @@ mod segments;
 mod status;
 
 pub use folder::{Folder, FolderCounts, FolderFault, LastFile};
-pub use laws::houses_that_run_are_cells;
+pub use laws::{a_house_starts_again, houses_that_run_are_cells, limits_of_houses};
 pub use memory::{Death, MemFolder};
 pub use running::run;
 pub use status::Status;

@@ -111,7 +111,12 @@ impl Folder for MemFolder {
         Ok(())
     }
 
-    fn close(&mut self, number: u64, mut file: MemDisk) {
+    fn take_back(&mut self, _file: MemDisk, failed: bool) {
+        self.faults.count_file(failed);
+    }
+
+    fn close(&mut self, number: u64, mut file: MemDisk, failed: bool) {
+        self.faults.count_file(failed);
         self.named = None;
         if file.restart().is_err() {
             return;

@@ -1,5 +1,5 @@
 // The process of a house, from its folder's lock to its last line.
-ghost use Rattle.std.specs.Prelude.{◌≡◌, ◌⊎◌, ◌+◌, [], true, IfErr, IfOk};
+ghost use Rattle.std.specs.Prelude.{◌≡◌, ◌⊎◌, ◌+◌, ◌^◌, ◌≤◌, [], true, IfErr, IfOk};
 ghost use Rattle.house_serving.specs.Serving.{run_of};
 ghost use Rattle.house_program.specs.Beginnings.{FindsSo};
 ghost use Rattle.house_program.specs.Causes.{HasCause, IsRefused, counts_of};
@@ -34,7 +34,8 @@ fn first_segment(alloc: Global, found: FolderHouse) -> Result<Begun, Status>
         (start_text found.house.home found.house.last) b.next.first.items) }
     ensures said { IfOk result (λ b. IsFirstText (after_start found.house found.house.home)
         b.next.said.items) }
-    ensures why { IfErr result (λ s. (s ≡ statuses.OutOfMemory) ⊎ (s ≡ statuses.Full)) }
+    ensures why { IfErr result (λ s. (s ≡ statuses.OutOfMemory)
+        ⊎ ((s ≡ statuses.Full) × (2 ^ 64 ≤ found.number + 1))) }
 {
     let FolderHouse {
         mut house,
@@ -53,7 +54,8 @@ fn next_segment(alloc: Global, house: &House, next: &Next, left: Left) -> Result
     ensures before { IfOk result (λ n. n.before ≡ left.digest) }
     ensures first { IfOk result (λ n. IsSegmentRecord house.now n.first.items) }
     ensures said { IfOk result (λ n. n.said.items ≡ []) }
-    ensures why { IfErr result (λ s. (s ≡ statuses.OutOfMemory) ⊎ (s ≡ statuses.Full)) }
+    ensures why { IfErr result (λ s. (s ≡ statuses.OutOfMemory)
+        ⊎ ((s ≡ statuses.Full) × (2 ^ 64 ≤ next.now.number + 1))) }
 {
     let first = house.next_segment(alloc)?;
     next_after(next.number, left.digest, first, Vec::new(alloc))

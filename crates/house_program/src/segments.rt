@@ -1,28 +1,32 @@
 // The next segment that a process writes.
-ghost use Rattle.std.specs.Prelude.{◌≡◌, ◌+◌, ◌<◌, ◌≢◌, ℕ, List, [], None, true, IfErr, IfOk};
+ghost use Rattle.std.specs.Prelude.{◌≡◌, ◌+◌, ◌^◌, ◌<◌, ◌≤◌, ℕ, List, [], None, true, IfErr, IfOk};
 ghost use Rattle.cds_base.specs.Lines.{fault_of_lines};
 ghost use Rattle.house_journal.specs.Disks.{Only};
-ghost use Rattle.house_segments.specs.Segments.{IsAt};
+ghost use Rattle.cds_stamps.specs.declared.alloc_or.AllocOr.TheVariants.{Fault};
+ghost use Rattle.house_segments.specs.Segments.{HasFaultCause, IsAt, disk_of, size_with};
+ghost use Rattle.house_serving.specs.Ending.{HasEndingCause};
 ghost use Rattle.house_serving.specs.Serving.{run_of};
 ghost use Rattle.house_program.specs.Beginnings.{first_bodies};
-ghost use Rattle.house_program.specs.Causes.{HasEnding, HasSegmentCause, counts_of};
-ghost use Rattle.house_program.specs.Files.{NumberedFile, last_file, number_in};
+ghost use Rattle.house_program.specs.Causes.{HasSegmentCause, counts_of};
+ghost use Rattle.house_program.specs.Files.{CountsFile, NumberedFile, Quiet, last_file, number_in};
+ghost use Rattle.house_program.specs.Statuses.{ends_by_disk, is_disk_fault, status_not_begun};
 ghost use Rattle.house_program.specs.declared.status.Status.TheVariants as statuses;
-ghost use Rattle.house_program.specs.PrivateLives.{IsNotBegun, SegmentDone, Spoken};
+ghost use Rattle.house_program.specs.PrivateLives.{SegmentDone, Spoken};
 
 use crate::folder::Folder;
 use crate::status::Status;
 use cds_base::{Lines, Sink, Source, put_all};
+use cds_stamps::AllocOr;
 use house_entries::head_octets;
-use house_journal::Disk;
-use house_segments::{DIGEST, Segment};
+use house_journal::{Disk, JournalFault};
+use house_segments::{DIGEST, NotBegun, Segment};
 use house_serving::{Ending, serve};
 use house_turns::House;
 use std::alloc::Global;
 
 // A segment is changed for the next one once it has so many octets, and three times as many as it
 // began with.
-const MOST_SEGMENT: u64 = 4_194_304;
+pub(crate) const MOST_SEGMENT: u64 = 4_194_304;
 
 /// A segment that is to be made: its number, the digest before it, its first record, and what the
 /// house says once it has its number.
@@ -45,7 +49,7 @@ pub(crate) fn next_after(
     ensures before { IfOk result (λ n. n.before ≡ before) }
     ensures first { IfOk result (λ n. n.first.items ≡ first.items) }
     ensures said { IfOk result (λ n. n.said.items ≡ said.items) }
-    ensures full { IfErr result (λ s. s ≡ statuses.Full) }
+    ensures full { IfErr result (λ s. (s ≡ statuses.Full) × (2 ^ 64 ≤ number + 1)) }
 {
     Ok(Next {
         number: number.checked_add(1).ok_or(Status::Full)?,
@@ -56,18 +60,57 @@ pub(crate) fn next_after(
 }
 
 // Makes the next segment on a disk that is empty: its head, and its first record.
-fn begin<D: Disk + Drop>(alloc: Global, disk: D, next: &Next) -> Result<Segment<D>, Status>
+fn begin<D: Disk + Drop>(alloc: Global, disk: D, next: &Next) -> Result<Segment<D>, NotBegun<D>>
     requires empty { D.Disk.reads disk ≡ [] }
     requires only { Only (D.Disk.reads disk) (D.Disk.may_leave disk) }
     ensures ok { IfOk result (λ s. IsAt D.Disk s next.now.before
         (first_bodies next.now)) }
-    ensures not_ok { IfErr result (λ s. s ≢ statuses.Ok) }
-    ensures not_begun { IfErr result IsNotBegun }
+    ensures calm { IfOk result (λ s. D.Disk.faults (disk_of s) ≡ D.Disk.faults disk) }
+    ensures cause { IfErr result (λ n. HasFaultCause (D.Disk.faults disk)
+        (D.Disk.faults n.disk) n.fault) }
+    ensures full { IfErr result (λ n. n.fault ≡ Fault JournalFault.Full
+        → 2 ^ 40 < size_with (first_bodies next.now)) }
 {
-    let head = head_octets(alloc, next.number, &next.before)?;
-    match Segment::begin(alloc, disk, next.before, &head, &next.first) {
-        Ok(segment) => Ok(segment),
-        Err(fault) => Err(Status::not_begun(fault)),
+    let Ok(head) = head_octets(alloc, next.number, &next.before) else {
+        return Err(NotBegun {
+            disk,
+            fault: AllocOr::OutOfMemory,
+        });
+    };
+    Segment::begin(alloc, disk, next.before, &head, &next.first)
+}
+
+// Whether a fault is one of the disk.
+fn is_of_disk(fault: AllocOr<JournalFault>) -> bool
+    ensures { result ≡ is_disk_fault fault }
+{
+    match fault {
+        AllocOr::Fault(JournalFault::DiskFault) => true,
+        AllocOr::Fault(_) | AllocOr::OutOfMemory => false,
+    }
+}
+
+// Takes back the file of a segment that is not begun. How the process ends.
+fn not_begun<F: Folder>(folder: &mut F, segment: NotBegun<F::File>) -> Status
+    requires locked { F.locked folder.old ≡ true }
+    requires cause { HasFaultCause 0 (F.File.faults segment.disk) segment.fault }
+    ensures status { result ≡ status_not_begun segment.fault }
+    ensures quiet { Quiet F.kept F.left_ever F.named_at folder.old folder.new }
+    ensures cause { CountsFile (is_disk_fault segment.fault) (F.faults folder.old)
+        (F.faults folder.new) }
+{
+    let NotBegun { disk, fault } = segment;
+    folder.take_back(disk, is_of_disk(fault));
+    Status::not_begun(fault)
+}
+
+// Whether a run ended since a call of the disk failed.
+fn is_failed(ending: Ending) -> bool
+    ensures { result ≡ ends_by_disk ending }
+{
+    match ending {
+        Ending::DiskFault => true,
+        _ => false,
     }
 }
 
@@ -96,8 +139,9 @@ fn speak_and_serve<S: Source, K: Sink, D: Disk>(
         → Spoken D.Disk before bodies said.now house.old house.new segment.old segment.new
         lines.old lines.new (run_of S.left S.faults K.written K.faults source.old source.new
         sink.old sink.new) result }
-    ensures cause { HasEnding (S.faults source.old) (S.faults source.new) (K.faults sink.old)
-        (K.faults sink.new) result }
+    ensures cause { HasEndingCause (S.faults source.old) (S.faults source.new) (K.faults sink.old)
+        (K.faults sink.new) (D.Disk.faults (disk_of segment.old))
+        (D.Disk.faults (disk_of segment.new)) result }
 {
     match put_all(sink, said) {
         Ok(()) => {
@@ -131,10 +175,13 @@ pub(crate) fn serve_on<F: Folder, S: Source, K: Sink>(
         folder.old) (counts_of S.faults K.faults F.faults source.new sink.new folder.new) result }
 {
     let file = folder.make(alloc)?;
-    let mut segment = begin(alloc, file, next)?;
+    let mut segment = match begin(alloc, file, next) {
+        Ok(segment) => segment,
+        Err(segment) => return Err(not_begun(folder, segment)),
+    };
     folder.name(alloc, segment.disk(), next.number)?;
     let ending = speak_and_serve(alloc, &next.said, house, &mut segment, lines, source, sink);
     let digest = segment.digest();
-    folder.close(next.number, segment.into_disk());
+    folder.close(next.number, segment.into_disk(), is_failed(ending));
     Ok(Left { ending, digest })
 }

@@ -7,4 +7,5 @@ mod Segments
 mod LastTurns
 mod Cells
 pub mod Crashes
+pub mod Restarts
 mod Examples

@@ -81,7 +81,7 @@ segment_first x c body bodies is goes = record {
 }
 
 -- a clearinghouse that is not spent is for the same houses of the model
-abbrev unspent : Clearinghouse → Clearinghouse
+abbrev pub unspent : Clearinghouse → Clearinghouse
 unspent c = record c { spent = false }
 
 unspent_goes : (x : ℕ) (c : Clearinghouse) (bodies : List (List ℕ)) → Goes x (unspent c) bodies → Goes x c bodies
@@ -144,16 +144,16 @@ own_image c c' lawful fits starts = one_value (start_of_octets (image_octets (im
 
 -- the first record of a segment, at which a house that was made is so: a process began with it, or
 -- went on
-data BeganAs (first : List ℕ) (begun : House) (c : Clearinghouse) : Type 0 where
+pub data BeganAs (first : List ℕ) (begun : House) (c : Clearinghouse) : Type 0 where
   AtStart : house_after_restart c ≡ c → IsRecord begun (start_text (Some c) begun.last) first → BeganAs first begun c
   AtSegment : IsSegmentRecord begun first → BeganAs first begun c
 
 -- a house that resumes there is the same again
-record IsAgain (x : ℕ) (begun : House) (c : Clearinghouse) (again : House) : Type 0 where
-  runs : Runs x again (unspent c)
-  turn : HasTurn again.home again.last
+pub record IsAgain (x : ℕ) (begun : House) (c : Clearinghouse) (again : House) : Type 0 where
+  pub runs : Runs x again (unspent c)
+  pub turn : HasTurn again.home again.last
 
-made_turn : (h : House) (c : Clearinghouse) → h.home ≡ Some c → HasTurn h.home h.last → IsTurnText h.last
+pub made_turn : (h : House) (c : Clearinghouse) → h.home ≡ Some c → HasTurn h.home h.last → IsTurnText h.last
 made_turn h c home turn = subst (λ (o : Option Clearinghouse). HasTurn o h.last) home turn
 
 module _ (x : ℕ) (first : List ℕ) (begun again : House) (c : Clearinghouse) (runs : Runs x begun c) (turn : HasTurn begun.home begun.last) where
@@ -163,7 +163,7 @@ module _ (x : ℕ) (first : List ℕ) (begun again : House) (c : Clearinghouse) 
     turn = has_turn again.home again.last (subst IsTurnText (sym last) (made_turn begun c runs.home turn));
   }
 
-  resumed : BeganAs first begun c → Resumes first again → IsAgain x begun c again
+  pub resumed : BeganAs first begun c → Resumes first again → IsAgain x begun c again
   resumed (AtStart still is) resumes =
       let r = start_resumes begun again c begun.last first runs.home is resumes in
       let own : r.home ≡ c = own_image c r.home runs.lawful (subst HomeFits runs.home is.fits) r.starts ∙ still in
@@ -182,14 +182,14 @@ module _ (x : ℕ) (first : List ℕ) (begun again : House) (c : Clearinghouse) 
 -- ---- how a process ends
 
 -- a crash of a house that starts leaves it
-restart_twice : (c : Clearinghouse) → IsLawful c → house_after_restart (house_after_restart c) ≡ house_after_restart c
+pub restart_twice : (c : Clearinghouse) → IsLawful c → house_after_restart (house_after_restart c) ≡ house_after_restart c
 restart_twice c lawful = ap started_from (image_again c lawful)
 
-record IsRestarted (at : House) (c : Clearinghouse) (opened : House) : Type 0 where
-  home : opened.home ≡ Some (house_after_restart c)
-  last : opened.last ≡ at.last
+pub record IsRestarted (at : House) (c : Clearinghouse) (opened : House) : Type 0 where
+  pub home : opened.home ≡ Some (house_after_restart c)
+  pub last : opened.last ≡ at.last
 
-restarted : (at opened : House) (c : Clearinghouse) → at.home ≡ Some c → IsLawful c → EndsLife at opened → IsRestarted at c opened
+pub restarted : (at opened : House) (c : Clearinghouse) → at.home ≡ Some c → IsLawful c → EndsLife at opened → IsRestarted at c opened
 restarted at _ c home lawful (NoneMade none) = absurd (cc (home, none))
 restarted at _ c home lawful (Restarts own c' is fits starts) =
     let same : own ≡ c = cc (is, home) in
@@ -256,7 +256,7 @@ module _ (first : List ℕ) (begun : House) (rest : List (List ℕ)) where
 pub first_of_split : (a b : List ℕ) (front others : List (List ℕ)) → a ∷ front ≡ b ∷ others → a ≡ b
 first_of_split a b front others same = cc same
 
-others_of_split : (a b : List ℕ) (front others : List (List ℕ)) → a ∷ front ≡ b ∷ others → front ≡ others
+pub others_of_split : (a b : List ℕ) (front others : List (List ℕ)) → a ∷ front ≡ b ∷ others → front ≡ others
 others_of_split a b front others same = cc same
 
 -- ---- segments of a house that was made
@@ -313,7 +313,7 @@ made_first body bodies mid makes goes =
     })
 
 -- a house that was not made has no turn to say
-no_turn_yet : (h : House) → h.home ≡ None → HasTurn h.home h.last
+pub no_turn_yet : (h : House) → h.home ≡ None → HasTurn h.home h.last
 no_turn_yet h home = subst (λ (o : Option Clearinghouse). HasTurn o h.last) (sym home) tt
 
 -- lines of a segment, and what comes after them
@@ -324,9 +324,9 @@ module _ (rest : List (List ℕ)) (at : House) (waits : at.home ≡ None → Tel
   turns_wait (t ∷ ts) number h home talk =
       by (line_waits h home number t.said talk.0 t.line talk.1) (λ home'. turns_wait ts (number + 1) talk.0 home' talk.2)
     where
-      by : LineWaits t.said talk.0 → (talk.0.home ≡ None → TellHouseOrNone (bodies_of ts ++ rest))
+      by : LineWaits h t.said talk.0 → (talk.0.home ≡ None → TellHouseOrNone (bodies_of ts ++ rest))
           → TellHouseOrNone ((bodies_in t.said.body ++ bodies_of ts) ++ rest)
-      by (NotMade none home') later = subst (λ b. TellHouseOrNone ((bodies_in b ++ bodies_of ts) ++ rest)) (sym none) (later home')
+      by (NotMade none home' entry) later = subst (λ b. TellHouseOrNone ((bodies_in b ++ bodies_of ts) ++ rest)) (sym none) (later home')
       by (MadeNow body some makes) later =
           subst (λ b. TellHouseOrNone ((bodies_in b ++ bodies_of ts) ++ rest)) (sym some)
           (made_first body (bodies_of ts ++ rest) talk.0 makes
@@ -342,9 +342,9 @@ module _ (rest : List (List ℕ)) (at : House) (waits : at.home ≡ None → Tel
       by r.said (line_waits h' home 0 r.said done.0 r.line r.does) r.same (turn_after h' done.0 0 r.line r.said r.does (no_turn_yet h' home))
       (λ home'. redone_wait bodies done.0 home' done.2)
     where
-      by : (said : Said) → LineWaits said done.0 → said.body ≡ Some body → HasTurn done.0.home done.0.last
+      by : (said : Said) → LineWaits (record h { clock = done.1.clock; more = [] }) said done.0 → said.body ≡ Some body → HasTurn done.0.home done.0.last
           → (done.0.home ≡ None → TellHouseOrNone (bodies ++ rest)) → TellHouseOrNone (body ∷ (bodies ++ rest))
-      by said (NotMade none home') some turn later = absurd (cc (none, some))
+      by said (NotMade none home' entry) some turn later = absurd (cc (none, some))
       by said (MadeNow own has makes) some turn later =
           let same : own ≡ body = cc (has, some) in
           subst (λ (b : List ℕ). TellHouseOrNone (b ∷ (bodies ++ rest))) same

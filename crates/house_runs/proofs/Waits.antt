@@ -46,24 +46,24 @@ pub record Makes (body : List ℕ) (mid : House) : Type 0 where
   pub makes : IsMakingBody body (record { house = number.0; node = node })
   pub runs : Runs number.0 mid (new_clearinghouse number node)
 
--- a line gives no record, and there is no house yet; or it makes one
-pub data LineWaits (said : Said) (mid : House) : Type 0 where
-  NotMade : said.body ≡ None → mid.home ≡ None → LineWaits said mid
-  MadeNow : (body : List ℕ) → said.body ≡ Some body → Makes body mid → LineWaits said mid
+-- a line gives no record, and there is no house yet, nor an entry more; or it makes one
+pub data LineWaits (h : House) (said : Said) (mid : House) : Type 0 where
+  NotMade : said.body ≡ None → mid.home ≡ None → mid.entry ≡ h.entry → LineWaits h said mid
+  MadeNow : (body : List ℕ) → said.body ≡ Some body → Makes body mid → LineWaits h said mid
 
 module _ (h : House) (home : h.home ≡ None) (number : ℕ) (said : Said) (mid : House) where
-  not_made : said.body ≡ None → mid.home ≡ h.home → LineWaits said mid
-  not_made none same = NotMade none (same ∙ home)
+  not_made : said.body ≡ None → mid.home ≡ h.home → mid.entry ≡ h.entry → LineWaits h said mid
+  not_made none same entry = NotMade none (same ∙ home) entry
 
-  told_lines : (lines : List (List ℕ)) → TellsLines h number lines said mid → LineWaits said mid
-  told_lines lines told = not_made (ap (λ (s : Said). s.body) told.0) (ap (λ (k : House). k.home) told.1)
+  told_lines : (lines : List (List ℕ)) → TellsLines h number lines said mid → LineWaits h said mid
+  told_lines lines told = not_made (ap (λ (s : Said). s.body) told.0) (ap (λ (k : House). k.home) told.1) (ap (λ (k : House). k.entry) told.1)
 
   module _ (words : List (List ℕ)) where
     anew : (says : HouseLine) → RepliesBy h.home h number (with_spaces words) says said mid → RepliesAnew h number (with_spaces words) says said mid
     anew says reply = subst (λ (o : Option Clearinghouse). RepliesBy o h number (with_spaces words) says said mid) home reply
 
     makes : (x : HouseNo) (node : ℕ) → said_in words ≡ Ok (Some (asks.House x node)) → LineSays (with_spaces words) (asks.House x node) → RepliesAnew h number (with_spaces words) (asks.House x node) said mid
-        → LineWaits said mid
+        → LineWaits h said mid
     makes x node read is reply =
         let c : Clearinghouse = new_clearinghouse x node in
         let made : mid.home ≡ Some c = ap (λ (k : House). k.home) reply.after in
@@ -83,46 +83,46 @@ module _ (h : House) (home : h.home ≡ None) (number : ℕ) (said : Said) (mid 
           runs = record { home = made; number = refl; lawful = new_lawful x node };
         })
 
-    more_kept : (many : Bool) (octets : List ℕ) → RepliesMoreIf many h number octets said mid → LineWaits said mid
-    more_kept true octets reply = not_made (ap (λ (s : Said). s.body) reply.0) (ap (λ (k : House). k.home) reply.1)
-    more_kept false octets reply = not_made (ap (λ (s : Said). s.body) reply.0) (ap (λ (k : House). k.home) reply.1)
+    more_kept : (many : Bool) (octets : List ℕ) → RepliesMoreIf many h number octets said mid → LineWaits h said mid
+    more_kept true octets reply = not_made (ap (λ (s : Said). s.body) reply.0) (ap (λ (k : House). k.home) reply.1) (ap (λ (k : House). k.entry) reply.1)
+    more_kept false octets reply = not_made (ap (λ (s : Said). s.body) reply.0) (ap (λ (k : House). k.home) reply.1) (ap (λ (k : House). k.entry) reply.1)
 
-    by_line : (says : HouseLine) → said_in words ≡ Ok (Some says) → LineSays (with_spaces words) says → RepliesTo h number words says said mid → LineWaits said mid
+    by_line : (says : HouseLine) → said_in words ≡ Ok (Some says) → LineSays (with_spaces words) says → RepliesTo h number words says said mid → LineWaits h said mid
     by_line (asks.More octets) read is reply = more_kept (nat_lt MOST_MESSAGE (length (h.more ++ octets))) (h.more ++ octets) reply
     by_line (asks.Take octets) read is reply =
         let reply' = subst (λ (o : Option Clearinghouse). RepliesTake o h number (h.more ++ octets) said mid) home reply in
-        not_made (ap (λ (s : Said). s.body) reply'.0) (ap (λ (k : House). k.home) reply'.1)
+        not_made (ap (λ (s : Said). s.body) reply'.0) (ap (λ (k : House). k.home) reply'.1) (ap (λ (k : House). k.entry) reply'.1)
     by_line (asks.House x n) read is reply = makes x n read is (anew (asks.House x n) reply)
     by_line (asks.Clock t) read is reply =
         let reply' = anew (asks.Clock t) reply in
-        not_made (ap (λ (s : Said). s.body) reply'.0) (ap (λ (k : House). k.home) reply'.1)
+        not_made (ap (λ (s : Said). s.body) reply'.0) (ap (λ (k : House). k.home) reply'.1) (ap (λ (k : House). k.entry) reply'.1)
     by_line (asks.Root ls) read is reply =
         let reply' = anew (asks.Root ls) reply in
-        not_made (ap (λ (s : Said). s.body) reply'.0) (ap (λ (k : House). k.home) reply'.1)
+        not_made (ap (λ (s : Said). s.body) reply'.0) (ap (λ (k : House). k.home) reply'.1) (ap (λ (k : House). k.entry) reply'.1)
     by_line (asks.Mkdir d n made ls) read is reply =
         let reply' = anew (asks.Mkdir d n made ls) reply in
-        not_made (ap (λ (s : Said). s.body) reply'.0) (ap (λ (k : House). k.home) reply'.1)
+        not_made (ap (λ (s : Said). s.body) reply'.0) (ap (λ (k : House). k.home) reply'.1) (ap (λ (k : House). k.entry) reply'.1)
     by_line (asks.Repoint d n y rs) read is reply =
         let reply' = anew (asks.Repoint d n y rs) reply in
-        not_made (ap (λ (s : Said). s.body) reply'.0) (ap (λ (k : House). k.home) reply'.1)
+        not_made (ap (λ (s : Said). s.body) reply'.0) (ap (λ (k : House). k.home) reply'.1) (ap (λ (k : House). k.entry) reply'.1)
     by_line (asks.Update d u) read is reply =
         let reply' = anew (asks.Update d u) reply in
-        not_made (ap (λ (s : Said). s.body) reply'.0) (ap (λ (k : House). k.home) reply'.1)
+        not_made (ap (λ (s : Said). s.body) reply'.0) (ap (λ (k : House). k.home) reply'.1) (ap (λ (k : House). k.entry) reply'.1)
     by_line (asks.Skulk d) read is reply =
         let reply' = anew (asks.Skulk d) reply in
-        not_made (ap (λ (s : Said). s.body) reply'.0) (ap (λ (k : House). k.home) reply'.1)
+        not_made (ap (λ (s : Said). s.body) reply'.0) (ap (λ (k : House). k.home) reply'.1) (ap (λ (k : House). k.entry) reply'.1)
     by_line (asks.Epoch d k list) read is reply =
         let reply' = anew (asks.Epoch d k list) reply in
-        not_made (ap (λ (s : Said). s.body) reply'.0) (ap (λ (k : House). k.home) reply'.1)
+        not_made (ap (λ (s : Said). s.body) reply'.0) (ap (λ (k : House). k.home) reply'.1) (ap (λ (k : House). k.entry) reply'.1)
     by_line (asks.Ask q) read is reply =
         let reply' = anew (asks.Ask q) reply in
-        not_made (ap (λ (s : Said). s.body) reply'.0) (ap (λ (k : House). k.home) reply'.1)
+        not_made (ap (λ (s : Said). s.body) reply'.0) (ap (λ (k : House). k.home) reply'.1) (ap (λ (k : House). k.entry) reply'.1)
 
   -- a line where no house was made yet
-  pub line_waits : (line : List ℕ) → Responds h number line said mid → LineWaits said mid
+  pub line_waits : (line : List ℕ) → Responds h number line said mid → LineWaits h said mid
   line_waits line reply = by (said_in (words_of line)) refl reply
     where
-      by : (r : Result (Option HouseLine) ParseFault) → said_in (words_of line) ≡ r → RepliesIf h number (words_of line) r said mid → LineWaits said mid
-      by (Ok None) is reply = not_made (ap (λ (s : Said). s.body) reply.0) (ap (λ (k : House). k.home) reply.1)
+      by : (r : Result (Option HouseLine) ParseFault) → said_in (words_of line) ≡ r → RepliesIf h number (words_of line) r said mid → LineWaits h said mid
+      by (Ok None) is reply = not_made (ap (λ (s : Said). s.body) reply.0) (ap (λ (k : House). k.home) reply.1) (ap (λ (k : House). k.entry) reply.1)
       by (Ok (Some says)) is reply = by_line (words_of line) says is (ap said_in (words_again line) ∙ is) reply
-      by (Err fault) is reply = not_made (ap (λ (s : Said). s.body) reply.0) (ap (λ (k : House). k.home) reply.1)
+      by (Err fault) is reply = not_made (ap (λ (s : Said). s.body) reply.0) (ap (λ (k : House). k.home) reply.1) (ap (λ (k : House). k.entry) reply.1)

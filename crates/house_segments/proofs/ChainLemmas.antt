@@ -36,12 +36,16 @@ by_bodies before bodies body digest octets was is last whole c left =
     ∙ sym (chained-append before bodies body)))
     left.0
 
+-- a disk that was empty, after it was opened
+pub none_opened : (now was : List ℕ) → now ≡ take (gate_of was) was ++ 0 ∷ [] → was ≡ [] → images now ≡ []
+none_opened now was rests empty = ap images (rests ∙ ap (λ (f : List ℕ). take (gate_of f) f ++ 0 ∷ []) empty) ∙ none_yet
+
 -- a journal that was opened on an empty disk has no record yet
-pub none_begun : {D : Type 0} (g : Ghosts D) (s : Segment D) (before was : List ℕ) → IsReady g s.disk s.journal.place → s.journal.broken ≡ false
-    → g.reads s.disk ≡ take (gate_of was) was ++ 0 ∷ [] → was ≡ [] → s.digest ≡ before → IsAt g s before []
-none_begun g s before was ready whole rests empty digest = record {
+pub none_begun : {D : Type 0} (g : Ghosts D) (s : Segment D) (before : List ℕ) → IsReady g s.disk s.journal.place → s.journal.broken ≡ false
+    → images (g.reads s.disk) ≡ [] → s.digest ≡ before → IsAt g s before []
+none_begun g s before ready whole none digest = record {
   ready = ready;
   whole = whole;
-  records = ap images (rests ∙ ap (λ (f : List ℕ). take (gate_of f) f ++ 0 ∷ []) empty) ∙ none_yet;
+  records = none;
   digest = digest;
 }

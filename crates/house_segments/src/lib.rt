@@ -8,4 +8,4 @@ mod segment;
 
 pub use chain::DIGEST;
 pub use reading::{LastRecord, first_record, last_record, unsealed};
-pub use segment::Segment;
+pub use segment::{NotBegun, Segment};

@@ -1,5 +1,5 @@
 -- What a crash leaves of a segment: a front of the records that were put.
-use Rattle.std.proofs.Common.{◌≡◌, ◌≢◌, ⊎_elim, ℕ, ◌≤◌, List, [], ◌∷◌, ◌++◌, refl, sym, ◌∙◌, ap, subst, append_assoc, append-nil}
+use Rattle.std.proofs.Common.{◌≡◌, ◌≢◌, ⊎_elim, ℕ, ◌^◌, ◌<◌, ◌≤◌, List, [], ◌∷◌, ◌++◌, refl, sym, ◌∙◌, ap, subst, append_assoc, append-nil}
 use Rattle.std.specs.Prelude.{Some, Result, Err, OnOk}
 use Rattle.house_journal.specs.declared.disk.Disk.{Ghosts}
 use Rattle.house_journal.specs.Journals.{LeavesOnly}
@@ -10,7 +10,7 @@ use Rattle.house_journal.specs.Faults.{HasJournalCause}
 use Rattle.house_journal.specs.declared.journal.JournalFault.{JournalFault}
 use Rattle.house_journal.specs.declared.journal.JournalFault.TheVariants as journal
 use Rattle.house_journal.proofs.Moments.{begins, weaker}
-use Rattle.house_segments.specs.Segments.{HasBodies, IsAt, IsWithOrWithout, disk_of}
+use Rattle.house_segments.specs.Segments.{HasBodies, IsAt, IsWithOrWithout, disk_of, size_with}
 use Rattle.house_segments.specs.declared.segment.Segment.{Segment}
 use Rattle.house_serving.specs.PrivateParts.{ending_of_put, HasKeepCause, Keeps}
 use Rattle.house_serving.specs.Serving.{HasFront}
@@ -69,7 +69,7 @@ module _ {D : Type 0} (g : Ghosts D) (before : List ℕ) (bodies : List (List �
   -- a record was put, or may have been
   pub kept_by_put : ((d : D) (t : ℕ) (c : List ℕ) → t ≤ g.moment d → g.may_leave d c → g.left_since d t c) → (body : List ℕ) (s s' : Segment D)
       (result : Result (Unit {0}) Ending) → LeavesOnly g (disk_of s) (disk_of s') (IsWithOrWithout before bodies body)
-      → OnOk result (IsAt g s' before (bodies ++ body ∷ [])) → (result ≡ Err Full → s' ≡ s) → HasKeepCause (g.faults (disk_of s)) (g.faults (disk_of s')) result
+      → OnOk result (IsAt g s' before (bodies ++ body ∷ [])) → (result ≡ Err Full → (s' ≡ s) × (2 ^ 40 < size_with (bodies ++ body ∷ []))) → HasKeepCause (g.faults (disk_of s)) (g.faults (disk_of s')) result
       → Keeps g before bodies s s' (Some body) result
   kept_by_put counts body s s' result crash ok full cause = record {
     crash = weaker g (IsWithOrWithout before bodies body) (HasFront before bodies (body ∷ [])) (disk_of s) (disk_of s') (front_one before bodies body) crash;

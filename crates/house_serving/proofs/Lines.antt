@@ -1,15 +1,15 @@
 -- How one line ends.
-use Rattle.std.proofs.Common.{◌≡◌, inl, inr, ℕ, ◌+◌, ◌<◌, List, [], ◌∷◌, ◌++◌, length, take, drop, refl, sym, ◌∙◌, subst, append-nil, take-append-drop, arith}
+use Rattle.std.proofs.Common.{◌≡◌, inl, inr, ℕ, ◌+◌, ◌^◌, ◌<◌, List, [], ◌∷◌, ◌++◌, length, take, drop, refl, sym, ◌∙◌, subst, append-nil, take-append-drop, arith}
 use Rattle.std.specs.Prelude.{Option, Ok, Err}
 use Rattle.std.specs.Io.KnownBytes.{Appends}
 use Rattle.cds_base.specs.Counts.{Rose}
 use Rattle.cds_base.proofs.KnownOctets.{appends_none}
 use Rattle.house_journal.specs.declared.disk.Disk.{Ghosts}
-use Rattle.house_segments.specs.Segments.{IsAt, disk_of}
+use Rattle.house_segments.specs.Segments.{IsAt, disk_of, size_with}
 use Rattle.house_segments.specs.declared.segment.Segment.{Segment}
 use Rattle.house_serving.specs.Faults.{line_fault_text, too_long}
 use Rattle.house_serving.specs.PrivateParts.{Keeps, LineServed, Stops}
-use Rattle.house_serving.specs.Serving.{IsOver}
+use Rattle.house_serving.specs.Serving.{IsOver, LacksRoom}
 use Rattle.house_serving.specs.Turns.{Said, Turn, bodies_in}
 use Rattle.house_serving.specs.declared.ending.Ending.{Ending}
 use Rattle.house_serving.specs.declared.ending.Ending.TheVariants.{InputEnds, BadInput, ReadFault, WriteFault, OutOfMemory, Full, DiskFault, Grown}
@@ -39,6 +39,7 @@ module _ {H D : Type 0} (responds : H → ℕ → List ℕ → Said → H → Ty
     takes = refl;
     ends = (record { here = refl; none_over = refl; synced = here; all_written = refl }, refl, long, refl);
     cause = (stops.2, refl);
+    room = λ is. absurd (cc (is));
   }
   cut_off written written' writes writes' WriteFault long stops =
       let whole = line_fault_text (too_long number) in
@@ -54,6 +55,7 @@ module _ {H D : Type 0} (responds : H → ℕ → List ℕ → Said → H → Ty
         takes = refl;
         ends = ((drop stops.1.0 whole, sym (take-append-drop stops.1.0 whole)), refl, inr (refl, long, refl));
         cause = (stops.2, refl);
+        room = λ is. absurd (cc (is));
       }
   cut_off written written' writes writes' OutOfMemory long stops = record {
     turns = [];
@@ -68,6 +70,7 @@ module _ {H D : Type 0} (responds : H → ℕ → List ℕ → Said → H → Ty
     takes = refl;
     ends = refl;
     cause = (stops.2, refl);
+    room = λ is. absurd (cc (is));
   }
   cut_off written written' writes writes' ReadFault long stops = absurd (cc (stops.0))
   cut_off written written' writes writes' InputEnds long stops = absurd stops
@@ -90,6 +93,7 @@ module _ {H D : Type 0} (responds : H → ℕ → List ℕ → Said → H → Ty
     takes = refl;
     ends = refl;
     cause = (refl, refl);
+    room = λ is. absurd (cc (is));
   }
 
   -- the reply to a line was made, whose record is over
@@ -99,6 +103,19 @@ module _ {H D : Type 0} (responds : H → ℕ → List ℕ → Said → H → Ty
       let same : number ≡ number + 0 = omega arith in
       subst (λ (n : ℕ). IsOver responds n house (bodies_in said.body)) same
       (inr (record { line = line; said = said; next = house'; does = does; bodies = refl }))
+
+  -- it has no room
+  kept_room : (house' : H) (s' : Segment D) (said : Said) → responds house number line said house' → Keeps g before bodies s s' said.body (Err Full)
+      → LacksRoom responds (number + 0) house (bodies_in said.body) (line ++ 10 ∷ []) (bodies ++ [])
+  kept_room house' s' said does keeps =
+      let same : number ≡ number + 0 = omega arith in
+      subst (λ (n : ℕ). LacksRoom responds n house (bodies_in said.body) (line ++ 10 ∷ []) (bodies ++ [])) same
+      record {
+        next = record { line = line; said = said; next = house'; does = does; bodies = refl };
+        line = refl;
+        large =
+            subst (λ (l : List (List ℕ)). 2 ^ 40 < size_with (l ++ bodies_in said.body)) (sym (append-nil bodies)) (keeps.full refl).1;
+      }
 
   -- a line whose record was not put, or may have been
   pub line_kept_open : (house' : H) (s' : Segment D) (said : Said) (ending : Ending) (written : Option (List ℕ)) (writes : ℕ)
@@ -116,6 +133,7 @@ module _ {H D : Type 0} (responds : H → ℕ → List ℕ → Said → H → Ty
     takes = refl;
     ends = refl;
     cause = (refl, keeps.cause);
+    room = λ is. absurd (cc (is));
   }
   line_kept_open house' s' said DiskFault written writes does keeps = record {
     turns = [];
@@ -129,6 +147,7 @@ module _ {H D : Type 0} (responds : H → ℕ → List ℕ → Said → H → Ty
     takes = refl;
     ends = refl;
     cause = (refl, keeps.cause);
+    room = λ is. absurd (cc (is));
   }
   line_kept_open house' s' said Full written writes does keeps = record {
     turns = [];
@@ -140,8 +159,9 @@ module _ {H D : Type 0} (responds : H → ℕ → List ℕ → Said → H → Ty
     one = line ++ 10 ∷ [];
     work = open_work responds g before bodies number house (disk_of s) (disk_of s') (bodies_in said.body) keeps.crash keeps.left written;
     takes = refl;
-    ends = (refl, subst (λ (t : Segment D). IsAt g t before (bodies ++ [])) (sym (keeps.full refl)) here);
+    ends = (refl, subst (λ (t : Segment D). IsAt g t before (bodies ++ [])) (sym (keeps.full refl).0) here);
     cause = (refl, keeps.cause);
+    room = λ is. kept_room house' s' said does keeps;
   }
   line_kept_open house' s' said InputEnds written writes does keeps = absurd keeps.cause
   line_kept_open house' s' said BadInput written writes does keeps = absurd keeps.cause
@@ -177,6 +197,7 @@ module _ {H D : Type 0} (responds : H → ℕ → List ℕ → Said → H → Ty
           refl,
         );
         cause = (calm, keeps.cause);
+        room = λ is. absurd (cc (is));
       }
 
   -- a line that was done, of whose answer a part was written
@@ -197,4 +218,5 @@ module _ {H D : Type 0} (responds : H → ℕ → List ℕ → Said → H → Ty
         takes = append-nil ((line ++ 10 ∷ []) ++ []) ∙ append-nil (line ++ 10 ∷ []);
         ends = ((drop k said.text, append-nil (said.text ++ []) ∙ append-nil said.text ∙ sym (take-append-drop k said.text)), refl, inl refl);
         cause = (rose, keeps.cause);
+        room = λ is. absurd (cc (is));
       }

@@ -16,7 +16,7 @@ use Rattle.house_serving.specs.Ending.{HasEndingCause}
 use Rattle.house_serving.specs.Ending as one_line
 use Rattle.house_serving.specs.Faults.{line_fault_text, shown, too_long}
 use Rattle.house_serving.specs.PrivateParts.{LineEndsSo, LineServed, Stops}
-use Rattle.house_serving.specs.Serving.{EndsSo, IsFaulty, IsOver, IsSettled, Run, Served, Work}
+use Rattle.house_serving.specs.Serving.{EndsSo, IsFaulty, IsOver, IsSettled, LacksRoom, Run, Served, Work}
 use Rattle.house_serving.specs.declared.faults.TheConstants.{MOST_LINE}
 use Rattle.house_serving.specs.Turns.{Said, Turn, bodies_of, lines_text, texts_of}
 use Rattle.house_serving.specs.declared.ending.Ending.{Ending}
@@ -105,6 +105,8 @@ module _ {H D : Type 0} (responds : H → ℕ → List ℕ → Said → H → Ty
       work = b.work;
       read = b.read;
       ends = (record { here = refl; none_over = refl; synced = b.synced; all_written = sym (append-nil (texts_of b.turns)) }, refl, refl, unbroken);
+      room = λ is. absurd (cc (is));
+      counted = λ is. b.number;
       cause = (b.reads, b.writes, b.disks);
     }
 
@@ -129,6 +131,8 @@ module _ {H D : Type 0} (responds : H → ℕ → List ℕ → Said → H → Ty
           next.answer.1,
           next.answer.2,
         );
+        room = λ is. absurd (cc (is));
+        counted = λ is. absurd (cc (is));
         cause = (calm ∙ b.reads, b.writes, b.disks);
       }
 
@@ -161,6 +165,8 @@ module _ {H D : Type 0} (responds : H → ℕ → List ℕ → Said → H → Ty
                   (sym stops.1) b.work;
               read = all_read;
               ends = (record { here = refl; none_over = refl; synced = b.synced; all_written = sym (append-nil (texts_of b.turns)) }, refl, refl);
+              room = λ is. absurd (cc (is));
+              counted = λ is. absurd (cc (is));
               cause = (subst (λ (n : ℕ). Rose n reads2) b.reads rose.1, stops.2 ∙ b.writes, b.disks);
             }
         stops_at BadInput stops cause =
@@ -180,6 +186,8 @@ module _ {H D : Type 0} (responds : H → ℕ → List ℕ → Said → H → Ty
                 record { here = refl; none_over = refl; synced = b.synced; all_written = refl },
                 inl (f, faulty, refl, refl),
               );
+              room = λ is. absurd (cc (is));
+              counted = λ is. absurd (cc (is));
               cause = (no_rise reads1 reads2 f stops.0 cause ∙ b.reads, stops.2 ∙ b.writes, b.disks);
             }
         stops_at WriteFault stops cause =
@@ -204,6 +212,8 @@ module _ {H D : Type 0} (responds : H → ℕ → List ℕ → Said → H → Ty
                 refl,
                 inr (inl (f, faulty, refl, refl)),
               );
+              room = λ is. absurd (cc (is));
+              counted = λ is. absurd (cc (is));
               cause = (no_rise reads1 reads2 f stops.0 cause ∙ b.reads, subst (λ (n : ℕ). Rose n writes2) b.writes stops.2, b.disks);
             }
         stops_at OutOfMemory stops cause = record {
@@ -218,6 +228,8 @@ module _ {H D : Type 0} (responds : H → ℕ → List ℕ → Said → H → Ty
               (sym stops.1) b.work;
           read = all_read;
           ends = refl;
+          room = λ is. absurd (cc (is));
+          counted = λ is. absurd (cc (is));
           cause = (no_rise reads1 reads2 f stops.0 cause ∙ b.reads, stops.2 ∙ b.writes, b.disks);
         }
         stops_at InputEnds stops cause = absurd stops
@@ -317,8 +329,10 @@ module _ {H D : Type 0} (responds : H → ℕ → List ℕ → Said → H → Ty
               → EndsSo g before bodies segment2 turns done.over done.last (texts_of b.turns ++ done.text) done.at house2 done.one lines2
               (lines_so_far lines + length turns + 1) left2 ending
               → HasEndingCause reads reads2 writes writes2 (g.faults (disk_of segment)) (g.faults (disk_of segment2)) ending
+              → (ending ≡ Full → LacksRoom responds (lines_so_far lines + length turns + 1) done.at done.over done.one (bodies ++ bodies_of turns))
+              → (ending ≡ Grown → lines_so_far lines2 ≡ lines_so_far lines + length turns)
               → Served responds g before bodies house house2 segment segment2 lines lines2 run3 ending
-          served_by ending ends cause = record {
+          served_by ending ends cause room counted = record {
             turns = turns;
             over = done.over;
             over_one = over_next;
@@ -329,6 +343,8 @@ module _ {H D : Type 0} (responds : H → ℕ → List ℕ → Said → H → Ty
             work = works;
             read = line_read;
             ends = ends;
+            room = room;
+            counted = counted;
             cause = cause;
           }
 
@@ -355,10 +371,25 @@ module _ {H D : Type 0} (responds : H → ℕ → List ℕ → Said → H → Ty
                 subst (λ (n : ℕ). done.last ≡ line_fault_text (too_long n)) numbered says,
               )
 
-          ends_by : (ending : Ending) → Ends ending → Cause ending → Served responds g before bodies house house2 segment segment2 lines lines2 run3 ending
-          ends_by BadInput ends cause =
-              served_by BadInput (settles ends.0, line_faulty ends.1 ends.2 ends.3) (calm ∙ b.reads, cause.0 ∙ b.writes, cause.1 ∙ b.disks)
-          ends_by WriteFault ends cause = served_by WriteFault (
+          -- the record of the line has no room after all of them
+          no_room : LacksRoom responds (number + length done.turns) done.at done.over done.one ((bodies ++ bodies_of b.turns) ++ bodies_of done.turns)
+              → LacksRoom responds (lines_so_far lines + length turns + 1) done.at done.over done.one (bodies ++ bodies_of turns)
+          no_room lacks =
+              let first = next.answer.0 in
+              let same = b.number in
+              let numbered : number + length done.turns ≡ lines_so_far lines + length turns + 1 =
+              omega (arith, first, same, length-append b.turns done.turns) in
+              subst (λ (l : List (List ℕ)). LacksRoom responds (lines_so_far lines + length turns + 1) done.at done.over done.one l)
+              (append_assoc bodies (bodies_of b.turns) (bodies_of done.turns) ∙ ap (λ (l : List (List ℕ)). bodies ++ l) (sym (bodies-append b.turns done.turns)))
+              (subst (λ (n : ℕ). LacksRoom responds n done.at done.over done.one ((bodies ++ bodies_of b.turns) ++ bodies_of done.turns)) numbered lacks)
+
+          abbrev Room : Ending → Type 0
+          Room e = e ≡ Full → LacksRoom responds (number + length done.turns) done.at done.over done.one ((bodies ++ bodies_of b.turns) ++ bodies_of done.turns)
+
+          ends_by : (ending : Ending) → Ends ending → Cause ending → Room ending → Served responds g before bodies house house2 segment segment2 lines lines2 run3 ending
+          ends_by BadInput ends cause room =
+              served_by BadInput (settles ends.0, line_faulty ends.1 ends.2 ends.3) (calm ∙ b.reads, cause.0 ∙ b.writes, cause.1 ∙ b.disks) (λ is. absurd (cc (is))) (λ is. absurd (cc (is)))
+          ends_by WriteFault ends cause room = served_by WriteFault (
             (
               ends.0.0,
               ap (λ (l : List ℕ). l ++ done.last) (texts-append b.turns done.turns) ∙ append_assoc (texts_of b.turns) (texts_of done.turns) done.last
@@ -367,16 +398,17 @@ module _ {H D : Type 0} (responds : H → ℕ → List ℕ → Said → H → Ty
             ends.1,
             ⊎_elim (λ none. inl none) (λ long. inr (line_faulty long.0 long.1 long.2)) ends.2,
           )
-              (calm ∙ b.reads, subst (λ (n : ℕ). Rose n writes2) b.writes cause.0, cause.1 ∙ b.disks)
-          ends_by OutOfMemory ends cause = served_by OutOfMemory (whole_texts done.text ends) (calm ∙ b.reads, cause.0 ∙ b.writes, cause.1 ∙ b.disks)
-          ends_by Full ends cause =
+              (calm ∙ b.reads, subst (λ (n : ℕ). Rose n writes2) b.writes cause.0, cause.1 ∙ b.disks) (λ is. absurd (cc (is))) (λ is. absurd (cc (is)))
+          ends_by OutOfMemory ends cause room = served_by OutOfMemory (whole_texts done.text ends) (calm ∙ b.reads, cause.0 ∙ b.writes, cause.1 ∙ b.disks) (λ is. absurd (cc (is))) (λ is. absurd (cc (is)))
+          ends_by Full ends cause room =
               served_by Full (whole_texts done.text ends.0, all_synced ends.1) (calm ∙ b.reads, cause.0 ∙ b.writes, cause.1 ∙ b.disks)
-          ends_by DiskFault ends cause =
+              (λ is. no_room (room refl)) (λ is. absurd (cc (is)))
+          ends_by DiskFault ends cause room =
               served_by DiskFault (whole_texts done.text ends)
-              (calm ∙ b.reads, cause.0 ∙ b.writes, subst (λ (n : ℕ). Rose n (g.faults (disk_of segment2))) b.disks cause.1)
-          ends_by InputEnds ends cause = absurd ends
-          ends_by ReadFault ends cause = absurd ends
-          ends_by Grown ends cause = absurd ends
+              (calm ∙ b.reads, cause.0 ∙ b.writes, subst (λ (n : ℕ). Rose n (g.faults (disk_of segment2))) b.disks cause.1) (λ is. absurd (cc (is))) (λ is. absurd (cc (is)))
+          ends_by InputEnds ends cause room = absurd ends
+          ends_by ReadFault ends cause room = absurd ends
+          ends_by Grown ends cause room = absurd ends
 
           -- it ended the run
           pub line_ends : (ending : Ending) → result ≡ Err ending
@@ -386,3 +418,4 @@ module _ {H D : Type 0} (responds : H → ℕ → List ℕ → Said → H → Ty
               (subst (λ (r : Result (Unit {0}) Ending). LineEndsSo g before (bodies ++ bodies_of b.turns) segment2 done.turns done.over done.last done.text done.at
               house2 done.one number line r) is done.ends)
               (subst (λ (r : Result (Unit {0}) Ending). one_line.HasLineCause writes1 writes2 (g.faults (disk_of segment1)) (g.faults (disk_of segment2)) r) is done.cause)
+              (λ full. done.room (is ∙ ap Err full))

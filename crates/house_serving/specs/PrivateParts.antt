@@ -1,5 +1,5 @@
 -- Words of private contracts: what the parts of a run do.
-use Rattle.std.specs.Prelude.{◌≡◌, ◌≢◌, ◌⊎◌, ℕ, ◌+◌, ◌<◌, List, [], ◌∷◌, ◌++◌, length, take, Option, Result, Ok, Err, OnOk}
+use Rattle.std.specs.Prelude.{◌≡◌, ◌≢◌, ◌⊎◌, ℕ, ◌+◌, ◌^◌, ◌<◌, List, [], ◌∷◌, ◌++◌, length, take, Option, Result, Ok, Err, OnOk}
 use Rattle.std.specs.Io.KnownBytes.{Appends}
 use Rattle.cds_base.specs.Counts.{Rose}
 use Rattle.cds_base.specs.declared.scan.LineFault.{LineFault}
@@ -8,11 +8,11 @@ use Rattle.house_journal.specs.declared.disk.Disk.{Ghosts}
 use Rattle.house_journal.specs.Journals.{LeavesOnly}
 use Rattle.house_journal.specs.declared.journal.JournalFault.{JournalFault}
 use Rattle.house_journal.specs.declared.journal.JournalFault.TheVariants as journal
-use Rattle.house_segments.specs.Segments.{IsAt, disk_of}
+use Rattle.house_segments.specs.Segments.{IsAt, disk_of, size_with}
 use Rattle.house_segments.specs.declared.segment.Segment.{Segment}
 use Rattle.house_serving.specs.Ending.{HasLineCause}
 use Rattle.house_serving.specs.Faults.{line_fault_text, shown, too_long}
-use Rattle.house_serving.specs.Serving.{HasFront, IsFront, IsOver, IsSettled, Work}
+use Rattle.house_serving.specs.Serving.{HasFront, IsFront, IsOver, IsSettled, LacksRoom, Work}
 use Rattle.house_serving.specs.Turns.{Said, Turn, bodies_in, bodies_of, lines_text, texts_of}
 use Rattle.house_serving.specs.declared.ending.Ending.{Ending}
 use Rattle.house_serving.specs.declared.ending.Ending.TheVariants.{BadInput, ReadFault, WriteFault, OutOfMemory, Full, DiskFault}
@@ -39,7 +39,8 @@ pub record Keeps {D : Type 0} (g : Ghosts D) (before : List ℕ) (bodies : List 
   pub crash : LeavesOnly g (disk_of segment) (disk_of segment') (HasFront before bodies (bodies_in body))
   pub left : (c : List ℕ) → g.may_leave (disk_of segment') c → HasFront before bodies (bodies_in body) c
   pub ok : OnOk result (IsAt g segment' before (bodies ++ bodies_in body))
-  pub full : result ≡ Err Full → segment' ≡ segment
+  pub full : result ≡ Err Full
+      → (segment' ≡ segment) × (2 ^ 40 < size_with (bodies ++ bodies_in body))
   pub cause : HasKeepCause (g.faults (disk_of segment)) (g.faults (disk_of segment')) result
 
 -- a run stops at a fault of lines: its line is written, or a part of it; of a failed read nothing
@@ -84,4 +85,6 @@ pub record LineServed {H D : Type 0} (responds : H → ℕ → List ℕ → Said
   pub work : Work responds g before bodies number house (disk_of segment) (disk_of segment') written written' turns over text at
   pub takes : lines_text turns ++ one ≡ line ++ 10 ∷ []
   pub ends : LineEndsSo g before bodies segment' turns over last text at house' one number line result
+  pub room : result ≡ Err Full
+      → LacksRoom responds (number + length turns) at over one (bodies ++ bodies_of turns)
   pub cause : HasLineCause writes writes' (g.faults (disk_of segment)) (g.faults (disk_of segment')) result

@@ -1,5 +1,5 @@
 -- How a run of a house ends: what it read, what it wrote, and what of it each crash keeps.
-use Rattle.std.specs.Prelude.{◌≡◌, ◌⊎◌, ℕ, ◌+◌, ◌<◌, List, [], ◌∷◌, ◌++◌, length, Option, None}
+use Rattle.std.specs.Prelude.{◌≡◌, ◌⊎◌, ℕ, ◌+◌, ◌^◌, ◌<◌, List, [], ◌∷◌, ◌++◌, length, Option, None}
 use Rattle.std.specs.Io.KnownBytes.{Appends, IsAtEnd}
 use Rattle.cds_base.specs.LineFaults.{IsLine}
 use Rattle.cds_base.specs.Lines.{HasFault, lines_so_far, octets_ahead, fault_of_lines}
@@ -8,7 +8,7 @@ use Rattle.cds_base.specs.declared.lines.Lines.{Lines}
 use Rattle.cds_base.specs.declared.scan.LineFault.{LineFault}
 use Rattle.house_journal.specs.declared.disk.Disk.{Ghosts}
 use Rattle.house_journal.specs.Journals.{LeavesOnly}
-use Rattle.house_segments.specs.Segments.{HasBodies, IsAt, disk_of}
+use Rattle.house_segments.specs.Segments.{HasBodies, IsAt, disk_of, size_with}
 use Rattle.house_segments.specs.declared.segment.Segment.{Segment}
 use Rattle.house_serving.specs.Ending.{HasEndingCause}
 use Rattle.house_serving.specs.Faults.{line_fault_text, shown, too_long}
@@ -115,6 +115,13 @@ abbrev pub IsOver : {H : Type 0} → (responds : H → ℕ → List ℕ → Said
     → (number : ℕ) → (at : H) → List (List ℕ) → Type 0
 IsOver responds number at over = (over ≡ []) ⊎ IsNextLine responds number at over
 
+-- the record of one more line, which was taken, has no room after these bodies (own)
+pub record LacksRoom {H : Type 0} (responds : H → ℕ → List ℕ → Said → H → Type 0)
+    (number : ℕ) (at : H) (over : List (List ℕ)) (one : List ℕ) (bodies : List (List ℕ)) : Type 0 where
+  pub next : IsNextLine responds number at over
+  pub line : one ≡ next.line ++ 10 ∷ []
+  pub large : 2 ^ 40 < size_with (bodies ++ over)
+
 -- A run of a house over a segment. Of the octets that were read come the lines of the turns, then
 -- one line that was taken and not done, if there is one, and then those that are octets_ahead
 pub record Served {H D : Type 0} (responds : H → ℕ → List ℕ → Said → H → Type 0) (g : Ghosts D) (before : List ℕ) (bodies : List (List ℕ))
@@ -129,4 +136,7 @@ pub record Served {H D : Type 0} (responds : H → ℕ → List ℕ → Said →
   pub work : Work responds g before bodies (lines_so_far lines + 1) house (disk_of segment) (disk_of segment') run.written run.written' turns over text at
   pub read : GrowsByReading run.left run.left' (octets_ahead lines) (lines_text turns ++ (one ++ octets_ahead lines'))
   pub ends : EndsSo g before bodies segment' turns over last text at house' one lines' (lines_so_far lines + length turns + 1) run.left' ending
+  pub room : ending ≡ Full → LacksRoom responds (lines_so_far lines + length turns + 1) at over one
+      (bodies ++ bodies_of turns)
+  pub counted : ending ≡ Grown → lines_so_far lines' ≡ lines_so_far lines + length turns
   pub cause : HasEndingCause run.reads run.reads' run.writes run.writes' (g.faults (disk_of segment)) (g.faults (disk_of segment')) ending

@@ -2,20 +2,20 @@ use Rattle.std.proofs.Common.{inl, refl, ◌∙◌}
 use Rattle.cds_base.proofs.KnownOctets.{appends_none}
 use Rattle.house_program.specs.Causes.{HasCause, IsRefused, counts_of}
 use Rattle.house_program.specs.Statuses.{status_of}
-use Rattle.house_program.proofs.CauseLemmas.{after_calm, cause_more, err_status, folder_cause, folder_end_later, same_counts}
-use Rattle.house_program.proofs.LifeLemmas.{folder_not_ok, same_not_ok}
+use Rattle.house_program.proofs.CauseLemmas.{after_calm, cause_more, err_status, folder_cause, folder_end_later, same_counts, unread_plain}
+use Rattle.house_program.proofs.LifeLemmas.{folder_plain}
 use Rattle.house_program.proofs.ProcessLemmas.{err_lived, idle, lived_later}
 use Rattle.house_program.proofs.running.process.Goals as goal
 
 pub returns-in_err-lock-clause-lived : goal.returns-in_err-lock-clause-lived
 returns-in_err-lock-clause-lived g c =
     err_lived _ _ _ _ _ _ c.from_residual.result c.from_residual.ensures.1
-    (λ s is. idle _ _ _ _ _ s (folder_not_ok _ s is) (appends_none _) c.lock.ensures.quiet.fewer c.lock.ensures.quiet.calm)
+    (λ s is. idle _ _ _ _ _ s (folder_plain _ s is) (appends_none _) c.lock.ensures.quiet.fewer c.lock.ensures.quiet.calm)
 
 pub returns-in_err-found-clause-lived : goal.returns-in_err-found-clause-lived
 returns-in_err-found-clause-lived g c =
     err_lived _ _ _ _ _ _ c.from_residual-in_err-found.result c.from_residual-in_err-found.ensures.1
-    (λ s is. idle _ _ _ _ _ s (same_not_ok _ s c.in_err-found.ensures.not_ok is) (appends_none _)
+    (λ s is. idle _ _ _ _ _ s (unread_plain _ _ _ _ s c.in_err-found.ensures.why is) (appends_none _)
     (λ f k. c.lock.ensures.quiet.fewer f (c.read_folder.ensures.quiet.fewer f k)) (λ f e. c.lock.ensures.quiet.calm f (c.read_folder.ensures.quiet.calm f e)))
 
 pub returns-clause-lived : goal.returns-clause-lived

@@ -1,8 +1,9 @@
-use Rattle.std.proofs.Common.{inl, refl, ◌∙◌}
+use Rattle.std.proofs.Common.{ℕ, inl, refl, subst, ◌∙◌}
 use Rattle.cds_base.proofs.KnownOctets.{appends_none}
+use Rattle.house_segments.specs.Segments.{HasFaultCause}
 use Rattle.house_program.specs.Beginnings.{first_bodies}
-use Rattle.house_program.proofs.CauseLemmas.{err_segment, folder_cause, rose_later, same_begun, same_counts, segment_cause}
-use Rattle.house_program.proofs.LifeLemmas.{folder_not_ok, named, refused, said_as, same_not_ok, unnamed}
+use Rattle.house_program.proofs.CauseLemmas.{counts_later, ends_failed, err_segment, folder_cause, not_begun_cause, rose_later, segment_cause}
+use Rattle.house_program.proofs.LifeLemmas.{begun_unmade, folder_plain, named, plain_unmade, refused, said_as, unnamed, unsaid}
 use Rattle.house_program.proofs.segments.serve_on.Goals as goal
 
 pub name-requires-clause-above : goal.name-requires-clause-above
@@ -13,19 +14,27 @@ speak_and_serve-ending-requires-clause-ready g c = (c.args.next.now.before, firs
 
 pub returns-in_err-file-clause-done : goal.returns-in_err-file-clause-done
 returns-in_err-file-clause-done g c =
-    refused _ _ _ _ _ _ _ _ _ c.from_residual.result c.from_residual.ensures.1 (folder_not_ok _) (appends_none _)
+    refused _ _ _ _ _ _ _ _ _ c.from_residual.result c.from_residual.ensures.1 (λ s is. plain_unmade _ s (folder_plain _ s is)) (appends_none _)
     (λ files kept. inl (c.make.ensures.quiet.fewer files kept)) (λ files left. inl (c.make.ensures.quiet.calm files left))
 
-pub returns-in_err-segment-clause-done : goal.returns-in_err-segment-clause-done
-returns-in_err-segment-clause-done g c =
-    refused _ _ _ _ _ _ _ _ _ c.from_residual-in_err-segment.result c.from_residual-in_err-segment.ensures.1
-    (λ s is. same_not_ok _ s c.in_err-segment.ensures.not_ok is) (appends_none _)
-    (λ files kept. inl (c.make.ensures.quiet.fewer files kept)) (λ files left. inl (c.make.ensures.quiet.calm files left))
+pub not_begun-requires-clause-cause : goal.not_begun-requires-clause-cause
+not_begun-requires-clause-cause g c =
+    subst (λ (n : ℕ). HasFaultCause n (g.F.File.Disk.faults c.in-Err.segment.disk) c.in-Err.segment.fault) c.in_ok-file.ensures.fresh c.in-Err.ensures.cause
+
+pub close-requires-clause-failed : goal.close-requires-clause-failed
+close-requires-clause-failed g c =
+    ends_failed _ _ _ _ _ _ _ _ (c.in_default-segment.ensures.calm ∙ c.in_ok-file.ensures.fresh) c.speak_and_serve-ending.ensures.cause c.is_failed.ensures
+
+pub returns-in-Err-clause-done : goal.returns-in-Err-clause-done
+returns-in-Err-clause-done g c =
+    unsaid _ _ _ _ _ _ _ _ _ (begun_unmade _ _ _ c.not_begun.ensures.status c.in-Err.ensures.full) (appends_none _)
+    (λ files kept. inl (c.make.ensures.quiet.fewer files (c.not_begun.ensures.quiet.fewer files kept)))
+    (λ files left. inl (c.make.ensures.quiet.calm files (c.not_begun.ensures.quiet.calm files left)))
 
 pub returns-in_err-name-clause-done : goal.returns-in_err-name-clause-done
 returns-in_err-name-clause-done g c =
     refused (g.F.Folder.kept c.args.folder.now) (g.F.Folder.left_ever c.args.folder.now) _ _ _ _ (g.F.Folder.kept c.name.new.self)
-    (g.F.Folder.left_ever c.name.new.self) _ c.from_residual-in_err-name.result c.from_residual-in_err-name.ensures.1 (folder_not_ok _) (appends_none _)
+    (g.F.Folder.left_ever c.name.new.self) _ c.from_residual-in_err-name.result c.from_residual-in_err-name.ensures.1 (λ s is. plain_unmade _ s (folder_plain _ s is)) (appends_none _)
     (unnamed _ _ _ c.args.next.now (g.F.Folder.kept c.args.folder.now) (g.F.Folder.kept c.make.new.self) (g.F.Folder.kept c.args.folder.now)
     (g.F.Folder.kept c.make.new.self) (g.F.Folder.kept c.name.new.self) c.disk.ensures c.in_ok-segment.ensures.ok c.make.ensures.quiet.fewer
     c.make.ensures.quiet.fewer c.in_err-name.ensures.one)
@@ -49,11 +58,11 @@ returns-in_err-file-clause-cause g c =
     err_segment _ _ _ c.from_residual.result c.from_residual.ensures.1
     (λ s is. folder_cause (λ x. ⊥) _ _ _ _ _ _ _ s is refl refl c.in_err-file.ensures.cause)
 
-pub returns-in_err-segment-clause-cause : goal.returns-in_err-segment-clause-cause
-returns-in_err-segment-clause-cause g c =
-    err_segment _ _ _ c.from_residual-in_err-segment.result c.from_residual-in_err-segment.ensures.1
-    (λ s is. same_begun (λ x. ⊥) _ _ _ s c.in_err-segment.ensures.not_begun is
-    (same_counts _ _ _ _ _ _ refl refl c.in_ok-file.ensures.cause))
+pub returns-in-Err-clause-cause : goal.returns-in-Err-clause-cause
+returns-in-Err-clause-cause g c =
+    not_begun_cause (λ x. ⊥) _ _ _ _ _ _ _ c.not_begun.ensures.status
+    (subst (λ (n : ℕ). HasFaultCause n (g.F.File.Disk.faults c.in-Err.segment.disk) c.in-Err.segment.fault) c.in_ok-file.ensures.fresh c.in-Err.ensures.cause)
+    (counts_later _ _ _ _ c.in_ok-file.ensures.cause c.not_begun.ensures.cause)
 
 pub returns-in_err-name-clause-cause : goal.returns-in_err-name-clause-cause
 returns-in_err-name-clause-cause g c =
@@ -63,5 +72,6 @@ returns-in_err-name-clause-cause g c =
 
 pub returns-clause-cause : goal.returns-clause-cause
 returns-clause-cause g c =
-    segment_cause _ _ _ _ _ _ (record { ending = c.speak_and_serve-ending.result; digest = c.digest-digest.result }) _ refl c.speak_and_serve-ending.ensures.cause
-    (c.close.ensures.cause ∙ c.in_ok-name.ensures.cause ∙ c.in_ok-file.ensures.cause)
+    segment_cause _ _ _ _ _ _ _ _ c.is_failed.result (record { ending = c.speak_and_serve-ending.result; digest = c.digest-digest.result }) _ refl
+    c.speak_and_serve-ending.ensures.cause c.is_failed.ensures
+    (counts_later c.is_failed.result _ _ _ (c.in_ok-name.ensures.cause ∙ c.in_ok-file.ensures.cause) c.close.ensures.cause)
