@@ -352,8 +352,8 @@ class DoorsTest(Room):
             self.assertEqual(two.ask(line), ["refused Forbidden"])
         stream = Client(f"{self.room}/a.p2")
         self.assertEqual(stream.ask(f"@1 take {MESSAGE}"), ["refused Forbidden"])
-        # (its own messages it may bring, and the house says what they are)
-        self.assertEqual(stream.ask(f"@1 take {MESSAGE[:12]}02{MESSAGE[14:]}")[0].split(" ")[0], "ok")
+        # (its own messages it may bring, and the house says what they are: this one has a stamp of house 1, which gave none)
+        self.assertEqual(stream.ask(f"@1 take {MESSAGE[:12]}02{MESSAGE[14:]}"), ["refused Restored 1@00000000000a"])
         self.assertIn("the door of house 2 may not send epoch 1 1", self.log("a"))
 
     def machine(self, number: int) -> Client:
