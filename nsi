@@ -10,7 +10,8 @@ The answer is printed as the door gives it, or with --json as one object: `statu
 at the path in CDS_DOOR, else at /run/cds/door.
 
 Exit status: 0 after `ok` and `end`, 1 after `refused` and `fault`, 2 if the door is not there or goes away before it
-answers, so that nobody knows whether the command is done. 3: this is no command.
+answers, so that nobody knows whether the command is done. 3: this is no command. 4, of `status` alone: the door
+answered, and the clerk or a house is down.
 """
 from __future__ import annotations
 
@@ -38,6 +39,12 @@ def ask(path: str, line: str) -> list[str]:
     return lines
 
 
+def is_down(line: str) -> bool:
+    """Whether a line of `status` says that the clerk or a house is down."""
+    words = line.split(" ")
+    return words[:2] == ["clerk", "down"] or words[0] == "house" and words[3:4] == ["down"]
+
+
 def main() -> int:
     parser = argparse.ArgumentParser(description=__doc__, formatter_class=argparse.RawDescriptionHelpFormatter)
     parser.add_argument("--socket", default=os.environ.get("CDS_DOOR", "/run/cds/door"))
@@ -61,6 +68,8 @@ def main() -> int:
         print(json.dumps({"status": word, "words": rest, "items": [text.split(" ") for text in lines[:-1]]}))
     else:
         print("\n".join(lines))
+    if line.split() == ["status"] and any(map(is_down, lines)):
+        return 4
     return 0 if word in ("ok", "end") else 1
 
 

@@ -9,7 +9,8 @@
     generate.py towers N     the octets of N RPC towers of five floors, 75 octets each, for the form `towers`
     generate.py untowers N   the text of the same towers, a line each, for the form `untowers`
     generate.py bag N        a directory at three houses, and N updates whose messages are delivered twice and then lost
-    generate.py two_masters N  N updates at a master and two secondary members in turn, each told to the others, with a skulk each thousand
+    generate.py two_masters N  N updates at a master and two secondary members in turn, each told to the others, with a
+                               skulk each thousand
     generate.py skulks N     a directory of 10,000 entries with four values each at four houses, and N skulks of it
     generate.py quiet N      the same, but that each update comes through to each house before the skulk
     generate.py crashes N    a house with 10,000 entries that goes down and starts again N times
@@ -19,17 +20,23 @@
     generate.py imports N    a profile of 200 elements over 50 groups of 200 members, and N imports from it
     generate.py lookups N    the same, but N lookups in batches of 1, 10 and 65,535, for the form `inquire`
     generate.py inquiries N  a profile of 5,000 elements, and N inquiries for them by each kind, for the form `inquire`
-    generate.py cached N     200 entries at two houses, and N reads at low confidence in mixed order, for the form `clerk 1000`
+    generate.py cached N     200 entries at two houses, and N reads at low confidence in mixed order, for the form
+                             `clerk 1000`
     generate.py crowded N    the same of 2,000 entries, of which few fit into the room of the clerk
-    generate.py journals N   N updates of a house of 100 entries, of which each hundredth is stopped, for the form `journal`
-    generate.py idle N       two houses of 100 entries, and N commands that change nothing of them, for the form `journal`
-    generate.py resumed N    a journal of N images, and then 100 times its last image, a `crash` and a `start`, for the form `journal`
-    generate.py wide N       a directory at 64 houses, and N updates at its master, whose messages are delivered to four houses and lost to the others
+    generate.py journals N   N updates of a house of 100 entries, of which each hundredth is stopped, for the form
+                             `journal`
+    generate.py idle N       two houses of 100 entries, and N commands that change nothing of them, for the form
+                             `journal`
+    generate.py resumed N    a journal of N images, and then 100 times its last image, a `crash` and a `start`, for the
+                             form `journal`
+    generate.py wide N       a directory at 64 houses, and N updates at its master, whose messages are delivered to four
+                             houses and lost to the others
     generate.py deep N       a path of 200 directories, and N reads at its end
     generate.py linked N     a chain of 63 links, and N reads through all of it
     generate.py small N      one command: what it costs to begin
     generate.py mends N      a cell of 64 houses in trouble, N lines, for the program `cdsmend`
-    generate.py migrate N    the image, in format 1, of a house with N entries of four values each, for the form `migrate`
+    generate.py migrate N    the image, in format 1, of a house with N entries of four values each, for the form
+                             `migrate`
     generate.py audits N     two such images, of N entries each, of houses that agree, for the form `audit 1`
     generate.py differing N  the same, but that the last value of the second one is missing in the first
     generate.py script N     the script of the form `load` with N rounds, as text; `loads N` is the same
@@ -37,15 +44,24 @@
 The same kind and size is the same input, always.
 """
 
+from __future__ import annotations
+
+import os
 import sys
+from collections.abc import Callable, Iterable, Iterator
+from typing import IO
+
+sys.dont_write_bytecode = True
+sys.path.insert(0, f"{os.path.dirname(os.path.dirname(os.path.realpath(__file__)))}/tools")
+from cds import records, tool
 
 
-def comments(count):
+def comments(count: int) -> Iterator[str]:
     for i in range(1, count + 1):
         yield f"# Comment {i:010}, which says nothing and has no answer.\n"
 
 
-def adds(count):
+def adds(count: int) -> Iterator[str]:
     yield "house 1 00000000000a\nroot 1\ncreate 1 1 entry\n"
     # Numbers that look random, so that values come and go in no order.
     x = count
@@ -56,21 +72,21 @@ def adds(count):
     yield "read 1 low /.:/entry Attribute\n"
 
 
-def mixed(count):
+def mixed(count: int) -> Iterator[int]:
     """The numbers below the count, each once, in no order."""
     # A step that shares no divisor with the count visits each number once.
     step = next(s for s in range(count * 2 // 3 + 1, 2 * count + 2) if coprime(s, count))
     return (i * step % count for i in range(count))
 
 
-def values(count):
+def values(count: int) -> Iterator[str]:
     yield "house 1 00000000000a\nroot 1\ncreate 1 1 entry\n"
     for i in mixed(count):
         yield f"add 1 1 entry Attribute {i:08x}\n"
     yield "read 1 low /.:/entry Attribute\n"
 
 
-def creates(count):
+def creates(count: int) -> Iterator[str]:
     yield "house 1 00000000000a\nroot 1\n"
     for i in mixed(count):
         yield f"create 1 1 entry-{i:08}\n"
@@ -79,7 +95,7 @@ def creates(count):
         yield f"read 1 low /.:/entry-{i:08} Attribute\n"
 
 
-def check(count):
+def check(count: int) -> Iterator[str]:
     for i in range(count):
         kind, name = i % 5, f"entry-{i // 5:08}"
         if kind == 0:
@@ -92,28 +108,28 @@ def check(count):
             yield f"{'add' if kind == 2 else 'remove'} 1 1 {name} Attribute {i:08x}\n"
 
 
-def houses(count):
+def houses(count: int) -> Iterator[str]:
     """Houses from 1 on, and the root directory at the first."""
     for house in range(1, count + 1):
         yield f"house {house} {house:012x}\n"
     yield "root 1\n"
 
 
-def pseudorandom(seed):
+def pseudorandom(seed: int) -> Iterator[int]:
     """Numbers below 2048 that look random."""
     while True:
         seed = (seed * 1103515245 + 12345) % 2147483648
         yield seed >> 20
 
 
-def replicate(count):
+def replicate(count: int) -> Iterator[str]:
     """The root directory comes to all houses, by the first messages of the cell."""
     others = range(2, count + 1)
     yield f"epoch 1 1 {' '.join(map(str, others))}\n"
     yield from delivered(range(1, count), 1)
 
 
-def delivered(serials, times):
+def delivered(serials: range | list[int], times: int) -> Iterator[str]:
     """Messages that are each delivered so many times, and then lost."""
     for _ in range(times):
         for serial in serials:
@@ -122,7 +138,7 @@ def delivered(serials, times):
         yield f"lose {serial}\n"
 
 
-def bag(count):
+def bag(count: int) -> Iterator[str]:
     yield from houses(3)
     for i in range(16):
         yield f"create 1 1 entry-{i:02}\n"
@@ -139,7 +155,7 @@ def bag(count):
         yield f"dump {house} 1\n"
 
 
-def two_masters(count):
+def two_masters(count: int) -> Iterator[str]:
     yield from houses(3)
     for i in range(16):
         yield f"create 1 1 entry-{i:02}\n"
@@ -167,7 +183,7 @@ def two_masters(count):
 ENTRIES = 10_000
 
 
-def skulks(count, told=1):
+def skulks(count: int, told: int = 1) -> Iterator[str]:
     """Of each update so many other houses get the message at once, and the rest by the skulk alone."""
     yield from houses(4)
     for i in mixed(ENTRIES):
@@ -193,7 +209,7 @@ def skulks(count, told=1):
         yield f"octets house {house}\n"
 
 
-def crashes(count):
+def crashes(count: int) -> Iterator[str]:
     yield from houses(1)
     for i in mixed(ENTRIES):
         yield f"create 1 1 entry-{i:08}\n"
@@ -203,7 +219,7 @@ def crashes(count):
     yield "octets house 1\n"
 
 
-def purges(count):
+def purges(count: int) -> Iterator[str]:
     yield from houses(1)
     yield "create 1 1 entry\n"
     for command in "add", "remove":
@@ -214,7 +230,7 @@ def purges(count):
     yield "skulk 1 1\noctets house 1\n"
 
 
-def deaths(count):
+def deaths(count: int) -> Iterator[str]:
     yield from houses(3)
     yield from replicate(3)
     serial = 3
@@ -232,17 +248,20 @@ def deaths(count):
         yield f"octets house {house}\n"
 
 
-def interface(number):
+def interface(number: int) -> str:
     return f"a0000000-0000-0000-0000-{number:012x}"
 
 
-def exports(count):
+def exports(count: int) -> Iterator[str]:
     yield from houses(1)
     yield "mkdir 1 1 servers 1\n"
     for i in mixed(count):
         host = f"10.{i >> 16 & 255}.{i >> 8 & 255}.{i & 255}"
         bindings = f"ncacn_ip_tcp:{host}[1025],ncadg_ip_udp:{host}[1026],ncacn_ip_tcp:{host}"
-        yield f"export /.:/servers/server-{i:08} {interface(i % 10)}:1.0 {bindings} 00000000-0000-0000-0000-{i + 1:012x}\n"
+        yield (
+            f"export /.:/servers/server-{i:08} {interface(i % 10)}:1.0"
+            f" {bindings} 00000000-0000-0000-0000-{i + 1:012x}\n"
+        )
 
 
 # What imports search: servers of ten interfaces, aliases of some of them, and groups.
@@ -251,7 +270,7 @@ ALIASES = 1_000
 GROUPS = 50
 
 
-def members(group):
+def members(group: int) -> Iterator[str]:
     """The 200 members of a group: 160 servers, 32 aliases, and 8 groups, of which it is one itself."""
     # A step that shares no divisor with their numbers brings each server and each alias into one group or two.
     for i in range(160):
@@ -262,8 +281,9 @@ def members(group):
         yield f"groups/group-{(group + i) % GROUPS:02}"
 
 
-def elements():
-    """For each group an element for an interface, for a later minor version of it, for another interface, and for any."""
+def elements() -> Iterator[str]:
+    """For each group an element for an interface, for a later minor version of it, for another interface, and for
+    any."""
     for group in range(GROUPS):
         member, priority = f"/.:/groups/group-{group:02}", group % 8
         yield f"{interface(0)}:1.0 {member} {priority} -"
@@ -272,12 +292,15 @@ def elements():
         yield f"default {member} 8 -"
 
 
-def searched():
+def searched() -> Iterator[str]:
     """A cell to search in, with the profile at its root."""
     yield from houses(1)
     yield "mkdir 1 1 servers 1\nmkdir 1 1 aliases 1\nmkdir 1 1 groups 1\n"
     for i in mixed(SERVERS):
-        yield f"export /.:/servers/server-{i:04} {interface(i % 10)}:1.{i % 4} ncacn_ip_tcp:10.0.{i >> 8}.{i & 255}[1025] -\n"
+        yield (
+            "export"
+            f" /.:/servers/server-{i:04} {interface(i % 10)}:1.{i % 4} ncacn_ip_tcp:10.0.{i >> 8}.{i & 255}[1025] -\n"
+        )
     for i in range(ALIASES):
         yield f"link 1 3 alias-{i:04} /.:/servers/server-{i * 3:04}\n"
     for group in range(GROUPS):
@@ -287,20 +310,20 @@ def searched():
         yield f"profadd /.:/profile {element}\n"
 
 
-def imports(count):
+def imports(count: int) -> Iterator[str]:
     yield from searched()
     for i in range(count):
         yield f"import 1 {'high' if i % 2 else 'low'} /.:/profile {interface(i % 10)}:1.1 - ncacn_ip_tcp,ncadg_ip_udp\n"
 
 
-def lookups(count):
+def lookups(count: int) -> Iterator[str]:
     yield from searched()
     for i in range(count):
         asked = f"{interface(i % 10)}:1.1 - ncacn_ip_tcp,ncadg_ip_udp {(1, 10, 65_535)[i % 3]}"
         yield f"lookup 1 {'high' if i % 2 else 'low'} /.:/profile {asked}\n"
 
 
-def inquiries(count):
+def inquiries(count: int) -> Iterator[str]:
     yield from houses(1)
     for i in mixed(5_000):
         # Of ten interfaces, in ten versions, at fifty members; each hundredth is for any interface.
@@ -309,11 +332,17 @@ def inquiries(count):
     for i in range(count):
         asked, member = f"{interface(i % 9)}:{i % 5}.1", f"/.:/member-{i % 50:02}"
         version = ("all", "compatible", "exact", "major_only", "upto")[i // 7 % 5]
-        choices = ("all - all -", "default - all -", f"byif {asked} {version} -", f"bymbr - all {member}", f"byboth {asked} {version} {member}")
+        choices = (
+            "all - all -",
+            "default - all -",
+            f"byif {asked} {version} -",
+            f"bymbr - all {member}",
+            f"byboth {asked} {version} {member}",
+        )
         yield f"proflist 1 low /.:/profile {choices[i % 5]}\n"
 
 
-def reads(names, count):
+def reads(names: int, count: int) -> Iterator[str]:
     """So many entries at two houses, each with a value, and reads of them that look random."""
     yield "house 1 00000000000a\nhouse 2 00000000000b\nroot 1 2\ndeliver 1\n"
     serial = 2
@@ -326,14 +355,18 @@ def reads(names, count):
         yield f"read {i % 2 + 1} low /.:/entry-{next(random) % names:04} Attribute\n"
 
 
-def journals(count):
+def journals(count: int) -> Iterator[str]:
     yield "house 1 00000000000a\nroot 1\n"
     for i in mixed(100):
         yield f"create 1 1 entry-{i:02}\nadd 1 1 entry-{i:02} Attribute {i:08x}\n"
     random = pseudorandom(count)
     for at in range(1, count + 1):
         x = next(random)
-        update = f"{'add' if x & 3 else 'remove'} 1 1 entry-{x >> 4:02} Attribute {x >> 4:08x}" if x >> 4 < 100 else f"put 1 1 entry-{x % 100:02} B {x % 4:02x}"
+        update = (
+            f"{'add' if x & 3 else 'remove'} 1 1 entry-{x >> 4:02} Attribute {x >> 4:08x}"
+            if x >> 4 < 100
+            else f"put 1 1 entry-{x % 100:02} B {x % 4:02x}"
+        )
         if at % 100:
             yield f"{update}\n"
         else:
@@ -342,16 +375,21 @@ def journals(count):
             yield "skulk 1 1\nimage 1\n"
 
 
-def idle(count):
+def idle(count: int) -> Iterator[str]:
     yield "house 1 00000000000a\nhouse 2 00000000000b\nroot 1 2\ndeliver 1\n"
     for at, i in enumerate(mixed(100)):
         yield f"create 1 1 entry-{i:02}\nadd 1 1 entry-{i:02} Attribute {i:08x}\n"
         yield f"deliver {2 * at + 2}\ndeliver {2 * at + 3}\n"
     for i in range(count):
-        yield (f"deliver {i % 200 + 2}\n", f"create 1 1 entry-{i % 100:02}\n", f"add 2 1 entry-{i % 100:02} Attribute 01\n", "clock 1 0\n")[i % 4]
+        yield (
+            f"deliver {i % 200 + 2}\n",
+            f"create 1 1 entry-{i % 100:02}\n",
+            f"add 2 1 entry-{i % 100:02} Attribute 01\n",
+            "clock 1 0\n",
+        )[i % 4]
 
 
-def resumed(count):
+def resumed(count: int) -> Iterator[str]:
     yield "house 1 00000000000a\nroot 1\ncreate 1 1 entry\n"
     for i in range(count):
         yield f"{'remove' if i & 1 else 'add'} 1 1 entry Attribute 01\n"
@@ -359,7 +397,7 @@ def resumed(count):
         yield "image 1\ncrash 1\nstart 1\n"
 
 
-def wide(count):
+def wide(count: int) -> Iterator[str]:
     yield "".join(f"house {house} {house:012x}\n" for house in range(1, 65))
     yield f"root 1 {' '.join(map(str, range(2, 65)))}\n"
     yield from delivered(range(1, 64), 1)
@@ -377,25 +415,26 @@ def wide(count):
         serial += 63
 
 
-def deep(count):
+def deep(count: int) -> Iterator[str]:
     yield "house 1 00000000000a\nroot 1\n"
     yield "".join(f"mkdir 1 {i + 1} d 1\n" for i in range(200))
     yield "create 1 201 entry\nadd 1 201 entry Attribute 01\n"
     yield from (f"read 1 {'high' if i % 2 else 'low'} /.:{'/d' * 200}/entry Attribute\n" for i in range(count))
 
 
-def linked(count):
+def linked(count: int) -> Iterator[str]:
     yield "house 1 00000000000a\nroot 1\ncreate 1 1 entry-00\nadd 1 1 entry-00 Attribute 01\n"
     yield "".join(f"link 1 1 entry-{i:02} /.:/entry-{i - 1:02}\n" for i in range(1, 64))
     yield from (f"read 1 {'high' if i % 2 else 'low'} /.:/entry-63 Attribute\n" for i in range(count))
 
 
-def small(count):
+def small(count: int) -> Iterator[str]:
     yield "house 1 00000000000a\n"
 
 
-def mends(count):
-    """House 1 is the master, 2 to 8 are secondary, and 9 to 64 read-only. Joins were lost or wait; houses are down; a skulk waits for them."""
+def mends(count: int) -> Iterator[str]:
+    """House 1 is the master, 2 to 8 are secondary, and 9 to 64 read-only. Joins were lost or wait; houses are down; a
+    skulk waits for them."""
     for house in range(1, 65):
         yield f"house {house} {house:012x}\n"
     listed = " ".join([*(f"s{it}" for it in range(2, 9)), *map(str, range(9, 65))])
@@ -421,7 +460,7 @@ def mends(count):
         yield f"create {entry}\n" if i // 8 % 4 == 0 else f"add {entry} Attribute {i:08x}\n"
 
 
-def script(count):
+def script(count: int) -> Iterator[str]:
     for house in 1, 2, 3:
         yield f"house {house} {house:012x}\n"
     yield "root 1 2 3\n"
@@ -450,66 +489,64 @@ def script(count):
             serial += 10
 
 
-def coprime(a, b):
+def coprime(a: int, b: int) -> bool:
     while b:
         a, b = b, a % b
     return a == 1
 
 
-def floors(count):
-    """The floors of towers: an interface, NDR, connections, a TCP port and an address, which differ from tower to tower."""
-    ndr = bytes.fromhex("0d045d888aeb1cc9119fe808002b1048600200")
+def floors(count: int) -> Iterator[tuple[tuple[bytes, bytes], ...]]:
+    """The floors of towers: an interface, NDR, connections, a TCP port and an address, which differ from tower to
+    tower."""
     for i in range(count):
         interface = b"\x0d" + (i * 2654435761 % 2**128).to_bytes(16, "little") + b"\x03\x00"
-        port, host = (i % 65536).to_bytes(2, "big"), (i * 40503 % 2**32).to_bytes(4, "big")
-        yield (interface, b"\0\0"), (ndr, b"\0\0"), (b"\x0b", b"\0\0"), (b"\x07", port), (b"\x09", host)
+        port, host = records.number(i % 65536, 2), records.number(i * 40503 % 2**32, 4)
+        yield (interface, b"\0\0"), records.identity(records.NDR), (b"\x0b", b"\0\0"), (b"\x07", port), (b"\x09", host)
 
 
-def towers(count):
+def towers(count: int) -> Iterator[bytes]:
     for tower in floors(count):
-        yield b"\x05\0" + b"".join(len(part).to_bytes(2, "little") + part for floor in tower for part in floor)
+        yield b"\x05\0" + records.floors_of(tower)
 
 
-def untowers(count):
+def untowers(count: int) -> Iterator[bytes]:
     for tower in floors(count):
         yield (" ".join(f"{left.hex()}:{right.hex()}" for left, right in tower) + "\n").encode()
 
 
-def stamp(time):
-    return time.to_bytes(8, "big") + bytes.fromhex("00000000000a")
+def stamp(time: int) -> bytes:
+    return records.stamp(time, "00000000000a")
 
 
-def image(octets_of_format, count, all_up_to=b"\0", house=1, lacks=0):
-    """An entry in each piece, the first one behind the head of the image. The house is the only member. The last one lacks values."""
-    member = b"\x01" + bytes([house]) + (1).to_bytes(8, "big") + b"\x01"
-    head = octets_of_format + b"\x09" + bytes([house]) + bytes.fromhex("00000000000a") + (5 * count).to_bytes(8, "big")
-    head += (1).to_bytes(8, "big") + (1).to_bytes(4, "big")
-    head += b"\x01" + (1).to_bytes(8, "big") + member + all_up_to + count.to_bytes(8, "big")
+def image(layout: int, count: int, all_up_to: bytes = b"", house: int = 1, lacks: int = 0) -> Iterator[bytes]:
+    """An entry in each piece, the first one after the head of the image. The house is the only member. The last one
+    lacks values."""
+    head = records.image_head(layout, house, "00000000000a", 5 * count, 1)
+    head += records.directory_head(1, 1, [(house, 1, records.MASTER)], all_up_to, count)
     for i in range(count):
-        values = 4 - lacks if i + 1 == count else 4
-        name, time = f"entry-{i:08}".encode(), 5 * i + 1
-        entry = len(name).to_bytes(1, "big") + name + b"\x01" + stamp(time) + b"\0" + (1).to_bytes(8, "big")
-        entry += b"\x09Attribute\0" + values.to_bytes(8, "big")
-        marks = (b"\0\x04" + (4 * i + j).to_bytes(4, "big") + b"\x01" + stamp(time + 1 + j) for j in range(values))
-        yield (b"" if i else head) + entry + b"".join(marks)
+        values, time = 4 - lacks if i + 1 == count else 4, 5 * i + 1
+        marks = {records.number(4 * i + j, 4): (1, stamp(time + 1 + j)) for j in range(values)}
+        yield (b"" if i else head) + records.entry(
+            f"entry-{i:08}".encode(), records.OBJECT, stamp(time), {b"Attribute": marks}
+        )
 
 
-def migrate(count):
-    return image(b"\x01", count)
+def migrate(count: int) -> Iterator[bytes]:
+    return image(1, count)
 
 
-def audits(count, lacks=0):
-    """Two images of houses whose AllUpTo is behind all that they hold."""
-    all_up_to = b"\x01" + stamp(5 * count + 1)
-    yield from image(b"\x01", count, all_up_to, lacks=lacks)
-    yield from image(b"\x01", count, all_up_to, house=2)
+def audits(count: int, lacks: int = 0) -> Iterator[bytes]:
+    """Two images of houses whose AllUpTo is after all that they hold."""
+    all_up_to = stamp(5 * count + 1)
+    yield from image(1, count, all_up_to, lacks=lacks)
+    yield from image(1, count, all_up_to, house=2)
 
 
-def encoded(texts):
+def encoded(texts: Iterable[str]) -> Iterator[bytes]:
     return (text.encode() for text in texts)
 
 
-KINDS = {
+KINDS: dict[str, Callable[[int], Iterable[bytes]]] = {
     "comments": lambda count: encoded(comments(count)),
     "adds": lambda count: encoded(adds(count)),
     "values": lambda count: encoded(values(count)),
@@ -546,7 +583,7 @@ KINDS = {
 }
 
 
-def write(kind, count, out):
+def write(kind: str, count: int, out: IO[bytes]) -> int:
     """Writes the input, in pieces, and gives the number of its lines, towers or entries."""
     piece, items = [], 0
     for text in KINDS[kind](count):
@@ -559,15 +596,21 @@ def write(kind, count, out):
     return items + items_in(kind, piece)
 
 
-def items_in(kind, piece):
-    return len(piece) if kind in ("towers", "migrate", "audits", "differing") else sum(text.count(b"\n") for text in piece)
+def items_in(kind: str, piece: list[bytes]) -> int:
+    return (
+        len(piece) if kind in ("towers", "migrate", "audits", "differing") else sum(text.count(b"\n") for text in piece)
+    )
 
 
-def main():
-    if len(sys.argv) != 3 or sys.argv[1] not in KINDS or not sys.argv[2].isdigit():
-        sys.exit(__doc__)
-    write(sys.argv[1], int(sys.argv[2]), sys.stdout.buffer)
+def main(words: list[str]) -> int:
+    """Writes an input, and returns the exit status."""
+    parser = tool.Words(__doc__)
+    parser.add_argument("kind", choices=KINDS)
+    parser.add_argument("count", type=int)
+    given = parser.parse_args(words)
+    write(given.kind, given.count, sys.stdout.buffer)
+    return 0
 
 
 if __name__ == "__main__":
-    main()
+    tool.run(main)

@@ -11,7 +11,6 @@ in memory (/dev/shm), where a sync costs nothing.
 """
 from __future__ import annotations
 
-import argparse
 import multiprocessing
 import os
 import signal
@@ -24,9 +23,10 @@ from collections.abc import Callable
 ROOT = os.path.dirname(os.path.dirname(os.path.realpath(__file__)))
 sys.dont_write_bytecode = True
 sys.path.insert(0, f"{ROOT}/tools")
+from cds import tool
+from cds.programs import plain_house
 from doors import executables
 from doors.trials.clients import INTERFACE, Client
-from housing import building
 
 CLIENTS = (1, 8)
 WANTED = f"{INTERFACE}:1.0 - ncacn_ip_tcp"
@@ -130,13 +130,13 @@ def set_up(folder: str, house: str, clerk: str, houses: int) -> subprocess.Popen
 
 
 def main() -> None:
-    parser = argparse.ArgumentParser(description=__doc__, formatter_class=argparse.RawDescriptionHelpFormatter)
+    parser = tool.Words(__doc__)
     parser.add_argument("--seconds", type=float, default=2.0)
     parser.add_argument("--house")
     parser.add_argument("--clerk")
     parser.add_argument("--houses", type=int, default=3)
     args = parser.parse_args()
-    house = os.path.abspath(args.house or building.compiled("bench/house.rs", "out/plain-house"))
+    house = plain_house(args.house)
     clerk = os.path.abspath(args.clerk or executables.clerk())
     with tempfile.TemporaryDirectory(dir="/dev/shm" if os.access("/dev/shm", os.W_OK) else None) as folder:
         door = set_up(folder, house, clerk, args.houses)

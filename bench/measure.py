@@ -4,21 +4,23 @@
     measure.py [--runs K] [--divide D] [--instructions E | --growth] [--kinds KIND,KIND] NAME=PROGRAM [NAME=PROGRAM ..]
 
 Each PROGRAM is run as `PROGRAM FORM`, with the input on its standard input, K times (3); one run at a time. The form is
-`run`, or that of the kind, as `towers`; of `loads` it is `load N`, which reads nothing; of `mends` it is `1` for a program whose
-file is named `cdsmend`, which mends directory 1, and whose answers are not compared with those of others. For each input and each program one line tells the number of lines or towers of
-the input, the seconds of the fastest run, the lines or towers and the MB that it took in one second, the processor time of
-that run, and the greatest peak of memory of its runs in KiB. The programs have to give the same answers and status 0; if not,
-it says so and ends with status 1. D divides the sizes of the inputs.
+`run`, or that of the kind, as `towers`; of `loads` it is `load N`, which reads nothing; of `mends` it is `1` for a
+program whose file is named `cdsmend`, which mends directory 1, and whose answers are not compared with those of others.
+For each input and each program one line tells the number of lines or towers of the input, the seconds of the fastest
+run, the lines or towers and the MB that it took in one second, the processor time of that run, and the greatest peak of
+memory of its runs in KiB. The programs have to give the same answers and status 0; if not, it says so and ends with
+status 1. D divides the sizes of the inputs.
 
-With --instructions the instructions are counted too, by valgrind, which a busy machine does not change. That is slow, so the
-inputs are E times smaller for it (20, say). At the end a table has the ratios of the first program to the last.
+With --instructions the instructions are counted too, by valgrind, which a busy machine does not change. That is slow,
+so the inputs are E times smaller for it (20, say). At the end a table has the ratios of the first program to the last.
 
-With --growth each kind is measured at an eighth, a quarter, a half and the whole of its size. A line of a table has the processor times and
-the peaks of memory of a program at these four sizes, and how many times as long the last one takes as the third: 2 where time grows as the
-input does, and 4 where it grows as its square.
+With --growth each kind is measured at an eighth, a quarter, a half and the whole of its size. A line of a table has the
+processor times and the peaks of memory of a program at these four sizes, and how many times as long the last one takes
+as the third: 2 where time grows as the input does, and 4 where it grows as its square.
 """
 
-import argparse
+from __future__ import annotations
+
 import filecmp
 import os
 import re
@@ -31,6 +33,7 @@ import time
 
 sys.dont_write_bytecode = True
 import generate
+from cds import tool
 
 SIZES = {
     "comments": 10_000_000,
@@ -78,14 +81,14 @@ FORMS = {
 TIME = shutil.which("time")
 
 
-def form_of(kind, size, program):
+def form_of(kind: str, size: int, program: str) -> list[str]:
     """The words behind the program's name."""
     if kind == "mends" and os.path.basename(program) == "cdsmend":
         return ["1"]
     return ["load", str(size)] if kind == "loads" else FORMS.get(kind, ["run"])
 
 
-def run_once(program, form, script, answers):
+def run_once(program: str, form: list[str], script: str, answers: str) -> tuple[float, float, int, int]:
     """Seconds, processor seconds and peak KiB of one run, and its status."""
     with tempfile.NamedTemporaryFile("r") as peak, open(script, "rb") as source, open(answers, "wb") as sink:
         command = [program, *form]
@@ -98,22 +101,22 @@ def run_once(program, form, script, answers):
         return seconds, processor, int(peak.read()) if TIME else after.ru_maxrss, status
 
 
-def instructions(program, form, script):
+def instructions(program: str, form: list[str], script: str) -> int:
     """How many instructions a run takes."""
     command = ["valgrind", "--tool=callgrind", "--callgrind-out-file=/dev/null", program, *form]
     with open(script, "rb") as source:
         ran = subprocess.run(command, stdin=source, stdout=subprocess.DEVNULL, stderr=subprocess.PIPE, text=True)
-    return int(re.search(r"Collected : (\d+)", ran.stderr)[1])
+    return int(re.findall(r"Collected : (\d+)", ran.stderr)[0])
 
 
-def generated(kind, size, folder):
+def generated(kind: str, size: int, folder: str) -> tuple[str, int]:
     """The input's file, and how many items it has."""
     script = os.path.join(folder, "input")
     with open(script, "wb") as out:
         return script, generate.write(kind, size, out)
 
 
-def measure(kind, size, programs, runs, folder):
+def measure(kind: str, size: int, programs: list[tuple[str, str]], runs: int, folder: str) -> tuple[list[float], bool]:
     """Prints the line of each program; the processor time of each, and whether they agree."""
     script, items = generated(kind, size, folder)
     megabytes = os.path.getsize(script) / 1e6
@@ -125,7 +128,13 @@ def measure(kind, size, programs, runs, folder):
         processor = min(result[1] for result in results)
         peak = max(result[2] for result in results)
         times.append(processor)
-        print(f"{kind:<10}{name:<12}{items:>12,}{seconds:>10.2f}{items / seconds:>14,.0f}{megabytes / seconds:>8,.0f}{processor:>11.2f}{peak:>11,}", flush=True)
+        print(
+            (
+                f"{kind:<10}{name:<12}{items:>12,}{seconds:>10.2f}{items / seconds:>14,.0f}"
+                f"{megabytes / seconds:>8,.0f}{processor:>11.2f}{peak:>11,}"
+            ),
+            flush=True,
+        )
         if any(result[3] != 0 for result in results):
             print(f"{name} ended with a status other than 0")
             agreed = False
@@ -136,7 +145,7 @@ def measure(kind, size, programs, runs, folder):
     return times, agreed
 
 
-def count(kind, size, programs, folder):
+def count(kind: str, size: int, programs: list[tuple[str, str]], folder: str) -> list[int]:
     """Prints the instructions of each program, and gives them."""
     script, items = generated(kind, size, folder)
     counts = [instructions(program, form_of(kind, size, program), script) for _, program in programs]
@@ -145,10 +154,11 @@ def count(kind, size, programs, folder):
     return counts
 
 
-def grow(kind, size, programs, runs, folder):
-    """Prints how each program's time and memory grow from an eighth of an input to all of it, and whether the runs ended well."""
+def grow(kind: str, size: int, programs: list[tuple[str, str]], runs: int, folder: str) -> bool:
+    """Prints how each program's time and memory grow from an eighth of an input to all of it, and whether the runs
+    ended well."""
     sizes, well = [size // it for it in (8, 4, 2, 1)], True
-    found = {name: [] for name, _ in programs}
+    found: dict[str, list[tuple[float, int]]] = {name: [] for name, _ in programs}
     for it in sizes:
         script, _ = generated(kind, it, folder)
         for name, program in programs:
@@ -158,20 +168,28 @@ def grow(kind, size, programs, runs, folder):
     for name, points in found.items():
         times, peaks = (f"{points[i][0]:.2f}" for i in range(4)), (f"{points[i][1] / 1000:,.1f}" for i in range(4))
         ratio = points[3][0] / max(points[2][0], 0.001)
-        print(f"| `{kind}` | {name} | {size:,} | {', '.join(times)} | {', '.join(peaks)} | {ratio:.1f} |{'' if well else ' a run failed'}", flush=True)
+        print(
+            (
+                f"| `{kind}` | {name} | {size:,} | {', '.join(times)} | {', '.join(peaks)} |"
+                f" {ratio:.1f} |{'' if well else ' a run failed'}"
+            ),
+            flush=True,
+        )
     return well
 
 
-def grow_all(kinds, divide, programs, runs):
+def grow_all(kinds: list[str], divide: int, programs: list[tuple[str, str]], runs: int) -> bool:
     """Prints the table of all kinds that have a size, and returns whether all runs ended well."""
-    print("| kind | program | N | seconds at N/8, N/4, N/2, N | MB | the last to the third |\n|---|---|---|---|---|---|")
+    print(
+        "| kind | program | N | seconds at N/8, N/4, N/2, N | MB | the last to the third |\n|---|---|---|---|---|---|"
+    )
     sizes = {kind: SIZES[kind] // divide for kind in kinds}
     with tempfile.TemporaryDirectory() as folder:
         return all([grow(kind, size, programs, runs, folder) for kind, size in sizes.items() if size >= 8])
 
 
-def main():
-    parser = argparse.ArgumentParser(description=__doc__, formatter_class=argparse.RawDescriptionHelpFormatter)
+def main() -> None:
+    parser = tool.Words(__doc__)
     parser.add_argument("--runs", type=int, default=3)
     parser.add_argument("--divide", type=int, default=1)
     parser.add_argument("--instructions", type=int, default=0)
@@ -187,7 +205,10 @@ def main():
         programs.append((name, os.path.abspath(path)))
     if args.growth:
         sys.exit(0 if grow_all(args.kinds.split(","), args.divide, programs, args.runs) else 1)
-    print(f"{'input':<10}{'program':<12}{'items':>12}{'seconds':>10}{'items/second':>14}{'MB/s':>8}{'processor':>11}{'peak KiB':>11}")
+    print(
+        f"{'input':<10}{'program':<12}{'items':>12}{'seconds':>10}{'items/second':>14}"
+        f"{'MB/s':>8}{'processor':>11}{'peak KiB':>11}"
+    )
     all_agreed, rows = True, []
     with tempfile.TemporaryDirectory() as folder:
         for kind in args.kinds.split(","):
@@ -198,7 +219,10 @@ def main():
             rows.append((kind, times, counts))
     print(f"\n| workload | processor time, {programs[0][0]} to {programs[-1][0]} | instructions |\n|---|---|---|")
     for kind, times, counts in rows:
-        print(f"| `{kind}` | {times[0] / max(times[-1], 0.001):.2f} | {f'{counts[0] / counts[-1]:.2f}' if counts else ''} |")
+        print(
+            f"| `{kind}` | {times[0] / max(times[-1], 0.001):.2f} |"
+            f" {f'{counts[0] / counts[-1]:.2f}' if counts else ''} |"
+        )
     sys.exit(0 if all_agreed else 1)
 
 

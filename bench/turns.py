@@ -2,25 +2,31 @@
 """Measures houses, programs that are run as `PROGRAM FOLDER` (docs/HOUSE.md):
 
     turns.py [--runs K] [--turns N] [--entries E] [--disk FOLDER] NAME=PROGRAM [NAME=PROGRAM ..]
-    turns.py --ratios [--runs K] [--turns N] [--entries E] [--disk FOLDER] [--explainer PROGRAM] NAME=PROGRAM [NAME=PROGRAM ..]
+    turns.py --ratios [--runs K] [--turns N] [--entries E] [--disk FOLDER] [--explainer PROGRAM] NAME=PROGRAM ..
 
-Each house is made in a new folder, gets E entries (100) with a value each, and then N turns (2,000) that change one of them, all
-from one pipe. One run at a time, K times (3); the fastest counts. Each line has the turns, the octets of a turn's record, the turns in a
-second, the microseconds of processor time for a turn, and the peak of memory after N turns and after 2 N. `start` is the time of a start
-after them, in milliseconds.
+Each house is made in a new folder, gets E entries (100) with a value each, and then N turns (2,000) that change one of
+them, all from one pipe. One run at a time, K times (3); the fastest counts. Each line has the turns, the octets of a
+turn's record, the turns in a second, the microseconds of processor time for a turn, and the peak of memory after N
+turns and after 2 N. `start` is the time of a start after them, in milliseconds.
 
-The folders are in memory (/dev/shm), where a sync costs nothing. With --disk they are in that folder, and the last line is a loop that
-writes and syncs as many octets in two calls a turn, as a house has to. The ratios of the first program to the last follow.
+The folders are in memory (/dev/shm), where a sync costs nothing. With --disk they are in that folder, and the last line
+is a loop that writes and syncs as many octets in two calls a turn, as a house has to. The ratios of the first program
+to the last follow.
 
-With --ratios the houses have a second member in their directory, so that each turn posts a message, and E is 10,000 if it is not given, N is
-20,000. Each line has these ratios of a program, and what they are made of:
+With --ratios the houses have a second member in their directory, so that each turn posts a message, and E is 10,000 if
+it is not given, N is 20,000. Each line has these ratios of a program, and what they are made of:
 
     octets       what the folder grows by at a turn, images and all, to the octets of its line, messages and answer
     processor    processor time of a turn at E entries to that of one at 10
-    start        processor time of a start that does 10,000 turns of a house of 100 entries again, to that of these turns
+    start        processor time of a start that does 10,000 turns of a house of 100 entries again, to that of these
+                 turns
     pipe         turns in a second of 1,000 lines that come at once, to those that come one by one, with --disk
-    explained    the peak in MB of the program --explainer over the folder of a house of 300 entries and 4,600 turns more
+    explained    the peak in MB of the program --explainer over the folder of a house of 300 entries and 4,600 turns
+                 more
 """
+
+from __future__ import annotations
+
 import argparse
 import os
 import resource
@@ -29,17 +35,21 @@ import subprocess
 import sys
 import tempfile
 import time
+from collections.abc import Callable, Sequence
+from typing import TypeVar
 
 ROOT = os.path.dirname(os.path.dirname(os.path.realpath(__file__)))
 sys.dont_write_bytecode = True
-sys.path.insert(0, f"{ROOT}/tools/housing")
-import journals
-from processes import Process
+sys.path.insert(0, f"{ROOT}/tools")
+from cds import journals, tool
+from cds.processes import Process
 
 TIME = shutil.which("time")
+Figures = dict[str, float]
+T = TypeVar("T")
 
 
-def making(entries, root="root"):
+def making(entries: int, root: str = "root") -> list[str]:
     """The lines that make a house."""
     made = ["house 1 00000000000a", root]
     for number in range(entries):
@@ -47,14 +57,14 @@ def making(entries, root="root"):
     return made
 
 
-def turning(entries, turns):
+def turning(entries: int, turns: int) -> list[str]:
     """The lines of turns."""
     return [f"put 1 entry{turn % entries} A {turn:08x}" for turn in range(turns)]
 
 
-def timed(command, place, read=()):
-    """Seconds, processor seconds and the peak in KiB of a program that reads lines. (A child's peak begins at that of this process, so
-    GNU time measures it.)"""
+def timed(command: list[str], place: str, read: Sequence[str] = ()) -> tuple[float, float, int]:
+    """Seconds, processor seconds and the peak in KiB of a program that reads lines. (A child's peak begins at that of
+    this process, so GNU time measures it.)"""
     with open(f"{place}/lines", "w", encoding="ascii") as file:
         file.writelines(f"{line}\n" for line in read)
     peak = f"{place}/peak"
@@ -75,24 +85,24 @@ def timed(command, place, read=()):
 class House:
     """A house in a folder of its own."""
 
-    def __init__(self, program, room, entries, root="root"):
+    def __init__(self, program: str, room: str, entries: int, root: str = "root") -> None:
         self.program, self.room, self.folder = program, room, f"{room}/h"
         os.makedirs(self.folder)
         self.ran(making(entries, root))
 
-    def ran(self, lines=()):
+    def ran(self, lines: Sequence[str] = ()) -> tuple[float, float, int]:
         return timed([self.program, self.folder], self.room, lines)
 
-    def size(self):
+    def size(self) -> int:
         return sum(os.path.getsize(f"{self.folder}/{name}") for name in os.listdir(self.folder))
 
-    def texts(self, segments):
+    def texts(self, segments: int) -> int:
         """The octets of the texts of all turns after so many segments."""
         found = [record for segment in list(journals.segments(self.folder))[segments:] for record in segment.records]
         return sum(len(line) + 1 for record in found if record.image is None for line in record.lines)
 
 
-def measured(program, args, place):
+def measured(program: str, args: argparse.Namespace, place: str | None) -> Figures:
     """The figures of one life of a house."""
     with tempfile.TemporaryDirectory(dir=place) as room:
         house, turns = House(program, room, args.entries), turning(args.entries, args.turns)
@@ -112,7 +122,7 @@ def measured(program, args, place):
         }
 
 
-def looped(octets, args):
+def looped(octets: float, args: argparse.Namespace) -> float:
     """Turns a second of a loop that writes so many octets and then one, and syncs after each."""
     with tempfile.NamedTemporaryFile(dir=args.disk) as file:
         record, at, begin = bytes(int(octets) - 1), 1, time.perf_counter()
@@ -122,14 +132,16 @@ def looped(octets, args):
             os.pwrite(file.fileno(), b"\1", at - 1)
             os.fsync(file.fileno())
             at += len(record) + 1
-        return args.turns / (time.perf_counter() - begin)
+        seconds = time.perf_counter() - begin
+        return float(args.turns / seconds)
 
 
 # ---- ratios
 
 
-def grown(program, room, entries, turns):
-    """What a folder grows by at a turn to the octets of the turn's text, and the microseconds of processor time for it."""
+def grown(program: str, room: str, entries: int, turns: int) -> tuple[float, float]:
+    """What a folder grows by at a turn to the octets of the turn's text, and the microseconds of processor time for
+    it."""
     house = House(program, room, entries, "root 2")
     house.ran()
     _, idle, _ = house.ran()
@@ -138,7 +150,7 @@ def grown(program, room, entries, turns):
     return (house.size() - before) / house.texts(segments), (processor - idle) / turns * 1e6
 
 
-def redone(program, room):
+def redone(program: str, room: str) -> tuple[float, float]:
     """The milliseconds of processor time of 10,000 turns, and of a start that does them again."""
     house = House(program, room, 100, "root 2")
     house.ran()
@@ -148,7 +160,7 @@ def redone(program, room):
     return (processor - idle) * 1000, (again - idle) * 1000
 
 
-def piped(program, room, entries):
+def piped(program: str, room: str, entries: int) -> float:
     """The turns in a second of 1,000 lines at once, to those of 500 that come one by one."""
     house, (once, one) = House(program, room, entries, "root 2"), (1000, 500)
     house.ran()
@@ -165,47 +177,55 @@ def piped(program, room, entries):
     return once / (seconds - empty) / (one / slow)
 
 
-def explained(program, explainer, room):
+def explained(program: str, explainer: str, room: str) -> float:
     """The peak in MB of an explainer."""
     house = House(program, room, 300)
     house.ran(turning(300, 4600))
     return timed([explainer, house.folder], room)[2] / 1024
 
 
-def compared(program, args, place):
+def compared(program: str, args: argparse.Namespace, place: str | None) -> Figures:
     """The figures of which the ratios are."""
 
-    def fresh(measure, *more):
+    def fresh(measure: Callable[[str], T]) -> T:
         with tempfile.TemporaryDirectory(dir=place) as room:
-            return measure(program, room, *more)
+            return measure(room)
 
-    octets, large = fresh(grown, args.entries, args.turns)
-    _, small = fresh(grown, 10, args.turns)
-    turns, again = fresh(redone)
+    octets, large = fresh(lambda room: grown(program, room, args.entries, args.turns))
+    _, small = fresh(lambda room: grown(program, room, 10, args.turns))
+    turns, again = fresh(lambda room: redone(program, room))
     found = {"octets": octets, "microseconds": large, "at 10 entries": small, "10,000 turns": turns, "again": again}
     if args.disk:
-        found["pipe"] = fresh(piped, args.entries)
+        found["pipe"] = fresh(lambda room: piped(program, room, args.entries))
     if args.explainer:
-        found["explained"] = fresh(lambda house, room: explained(house, path_of(args.explainer), room))
+        found["explained"] = fresh(lambda room: explained(program, path_of(args.explainer), room))
     return found
 
 
-def ratios(found):
-    return found | {"processor": found["microseconds"] / found["at 10 entries"], "start": found["again"] / found["10,000 turns"]}
+def ratios(found: Figures) -> Figures:
+    return found | {
+        "processor": found["microseconds"] / found["at 10 entries"],
+        "start": found["again"] / found["10,000 turns"],
+    }
 
 
-def path_of(program):
+def path_of(program: str) -> str:
     return shutil.which(program) or os.path.abspath(program)
 
 
-def best(measure, program, args, place):
+def best(
+    measure: Callable[[str, argparse.Namespace, str | None], Figures],
+    program: str,
+    args: argparse.Namespace,
+    place: str | None,
+) -> Figures:
     """The least of each figure of some runs; of turns in a second the greatest."""
     lives = [measure(program, args, place) for _ in range(args.runs)]
     return {key: (max if key in ("turns a second", "pipe") else min)(life[key] for life in lives) for key in lives[0]}
 
 
-def arguments():
-    parser = argparse.ArgumentParser(description=__doc__, formatter_class=argparse.RawDescriptionHelpFormatter)
+def arguments() -> argparse.Namespace:
+    parser = tool.Words(__doc__)
     parser.add_argument("--ratios", action="store_true")
     parser.add_argument("--runs", type=int, default=3)
     parser.add_argument("--turns", type=int)
@@ -219,7 +239,7 @@ def arguments():
     return args
 
 
-def main():
+def main() -> None:
     args = arguments()
     place = args.disk or ("/dev/shm" if os.access("/dev/shm", os.W_OK) else None)
     found = {}
@@ -231,7 +251,10 @@ def main():
     first, last = list(found.values())[0], list(found.values())[-1]
     if args.disk and not args.ratios:
         loop = max(looped(last["octets"], args) for _ in range(args.runs))
-        print(f"{'loop':<10} turns a second {loop:,.1f}; a turn of the first takes {loop / first['turns a second']:.2f} of a turn of the loop")
+        print(
+            f"{'loop':<10} turns a second {loop:,.1f}; a turn of the first takes"
+            f" {loop / first['turns a second']:.2f} of a turn of the loop"
+        )
     print(f"processor time of the first to the last: {first['microseconds'] / max(last['microseconds'], 0.001):.2f}")
 
 

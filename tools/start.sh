@@ -10,11 +10,25 @@ say() {
     printf '%s: %s\n' "$name" "$*" >&2
 }
 
-# Whether the proved program is that of the sources: it was noted as that, and no code and no promise has changed since.
+# Sets `second` to the present second since the machine was started, and which start that was; or to nothing. (It starts no process.)
+this_second() {
+    second='' up='' boot=''
+    { read -r up _ </proc/uptime && read -r boot </proc/sys/kernel/random/boot_id; } 2>/dev/null || return 0
+    second="$boot ${up%.*}"
+}
+
+# Whether the proved program is that of the sources: it was noted as that, and no code and no promise has changed since. To look at all of
+# them takes longer than a short script does, so that is done once in a second. (Whoever may not note that it was done looks each time.)
 is_proved() {
     [ -x "$program" ] && [ -f "$note" ] || return 1
+    this_second
+    looked=''
+    [ -z "$second" ] || { read -r looked <"$root/out/looked-$name"; } 2>/dev/null
+    [ -z "$second" ] || [ "$second" != "$looked" ] || return 0
     changed=$(find "$program" "$root/crates.txt" "$root/HANDLES" "$root"/crates/*/src "$root"/crates/*/specs \
-        -cnewer "$note" 2>&1) && [ -z "$changed" ]
+        -cnewer "$note" 2>&1) && [ -z "$changed" ] || return 1
+    { echo "$second" >"$root/out/looked-$name"; } 2>/dev/null
+    return 0
 }
 
 # Whether a word is a number from 1 to a greatest one, of so many digits at most.
@@ -25,10 +39,10 @@ is_number() {
     [ "${#1}" -le "$3" ] && [ "$1" -le "$2" ]
 }
 
-# Prints where standard input is in its file, or nothing.
-place_in_input() {
+# Sets `began` to where standard input is in its file.
+find_place_in_input() {
     while read -r key value; do
-        [ "$key" != pos: ] || printf '%s' "$value"
+        [ "$key" != pos: ] || began=$value
     done <"/proc/$$/fdinfo/3"
 }
 
@@ -87,7 +101,7 @@ hand_on() {
 run_program() {
     signal='' began='' child=''
     exec 3<&0 4>&1
-    [ ! -f "/proc/$$/fd/3" ] || began=$(place_in_input)
+    [ ! -f "/proc/$$/fd/3" ] || find_place_in_input
     trap 'hand_on INT' INT
     trap 'hand_on TERM' TERM
     trap 'hand_on HUP' HUP

@@ -1,6 +1,8 @@
 #!/usr/bin/env python3
 """replay.py WORD.. <INPUT >TEXT: `cdsreplay` again, as a program in Python over the library."""
 
+from __future__ import annotations
+
 import os
 import sys
 

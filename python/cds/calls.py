@@ -61,7 +61,8 @@ class Library:
         return status, length.value, ctypes.string_at(out, min(room, length.value))
 
     def run(self, words: str, octets: bytes, room: int = ROOM) -> bytes:
-        """What a form says of these octets. If there is more of it than room, it is called again with as much as it needs."""
+        """What a form says of these octets. If there is more of it than room, it is called again with as much as it
+        needs."""
         form, octets = words.encode(), bytes(octets)
         status, wanted, text = self.call(form, octets, room)
         if status == NO_ROOM:

@@ -1,4 +1,5 @@
-"""Tests of the calls in Python: `python3 -m unittest cds.test_calls` in the folder above, with CDS_LIBRARY if the library is elsewhere."""
+"""Tests of the calls in Python: `python3 -m unittest cds.test_calls` in the folder above, with CDS_LIBRARY if the
+library is elsewhere."""
 
 from __future__ import annotations
 
@@ -56,7 +57,7 @@ class Calls(unittest.TestCase):
 
     def test_much(self) -> None:
         """More octets than the first room has."""
-        lines = b"" .join(b"# %d\n" % it for it in range(20000))
+        lines = b"".join(b"# %d\n" % it for it in range(20000))
         self.assertEqual(cds.run("run", lines), b"")
         text = cds.run("run", SCRIPT * 1 + b"house 2 00000000000b\n" + b"read 1 . \n" * 0 + b"root 1\n" * 20000)
         self.assertEqual(text.count(b"\n"), 20003)

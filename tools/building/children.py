@@ -24,7 +24,15 @@ class Children:
         with self.alone:
             if self.is_over:
                 raise OSError("it was stopped")
-            ran = subprocess.Popen(words, cwd=folder, stdin=subprocess.DEVNULL, stdout=out, stderr=subprocess.STDOUT, text=True, start_new_session=True)
+            ran = subprocess.Popen(
+                words,
+                cwd=folder,
+                stdin=subprocess.DEVNULL,
+                stdout=out,
+                stderr=subprocess.STDOUT,
+                text=True,
+                start_new_session=True,
+            )
             self.running.add(ran.pid)
         try:
             yield ran

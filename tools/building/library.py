@@ -1,5 +1,5 @@
-"""Makes the library for C: proves the crate `cds_c` and all below it, and lays the archive, a shared object, the header and the code of
-other languages into out/library/, and into a tar of these."""
+"""Makes the library for C: proves the crate `cds_c` and all below it, and lays the archive, a shared object, the header
+and the code of other languages into out/library/, and into a tar of these."""
 
 from __future__ import annotations
 
@@ -22,7 +22,12 @@ LOG = f"{ROOT}/out/library.log"
 # All that the library may ask of a program: the heap and four functions over octets.
 MAY_CALL = {"malloc", "realloc", "free", "memcpy", "memmove", "memset", "memcmp"}
 # What is copied beside it, by its place there.
-BESIDE = {"include": "include", "python/cds": "python/cds", "rust/cds": "rust/cds", "examples/embedded": "examples/embedded"}
+BESIDE = {
+    "include": "include",
+    "python/cds": "python/cds",
+    "rust/cds": "rust/cds",
+    "examples/embedded": "examples/embedded",
+}
 LEFT_OUT = {"__pycache__", "target", "Cargo.lock", ".mypy_cache"}
 PACKAGE_CONFIG = """prefix=${{pcfiledir}}/../..
 Name: cds
@@ -55,7 +60,15 @@ def calls() -> list[str]:
 
 def run(words: list[str], room: str, why: str) -> str:
     """Runs a command, and returns what it prints."""
-    ran = subprocess.run(words, cwd=room, stdin=subprocess.DEVNULL, stdout=subprocess.PIPE, stderr=subprocess.STDOUT, text=True, check=False)
+    ran = subprocess.run(
+        words,
+        cwd=room,
+        stdin=subprocess.DEVNULL,
+        stdout=subprocess.PIPE,
+        stderr=subprocess.STDOUT,
+        text=True,
+        check=False,
+    )
     if ran.returncode:
         raise NotMade(f"{why}: {ran.stdout.strip()[-500:]}")
     return ran.stdout
@@ -74,7 +87,9 @@ def prove(room: str) -> str:
     copy_to(room, [CRATE])
     os.makedirs(os.path.dirname(LOG), exist_ok=True)
     with open(LOG, "w", encoding="utf-8") as log:
-        ran = subprocess.run(["rt", "lib"], cwd=f"{room}/crates/{CRATE}", stdin=subprocess.DEVNULL, stdout=log, stderr=log, check=False)
+        ran = subprocess.run(
+            ["rt", "lib"], cwd=f"{room}/crates/{CRATE}", stdin=subprocess.DEVNULL, stdout=log, stderr=log, check=False
+        )
     archive = f"{room}/crates/{CRATE}/out/lib{CRATE}.a"
     if ran.returncode or not os.path.isfile(archive):
         raise NotMade(f"it could not be proved and built. {LOG} has what rt said")
@@ -91,7 +106,20 @@ def link(archive: str, heap: str, folder: str, linker: str, archiver: str) -> No
         with open(f"{room}/names", "w", encoding="utf-8") as names:
             names.write(f"{{ global: {'; '.join(calls())}; local: *; }};\n")
         run([archiver, "rcs", f"{folder}/lib/libcds.a", *members], room, "no archive could be made")
-        flags = ["-shared", "--gc-sections", "-z", "relro", "-z", "now", "-z", "noexecstack", "-z", "text", "--version-script", "names"]
+        flags = [
+            "-shared",
+            "--gc-sections",
+            "-z",
+            "relro",
+            "-z",
+            "now",
+            "-z",
+            "noexecstack",
+            "-z",
+            "text",
+            "--version-script",
+            "names",
+        ]
         wanted = [word for name in calls() for word in ("-u", name)]
         shared = ["-soname", f"libcds.so.{abi()}", "-o", f"{folder}/lib/libcds.so.{abi()}"]
         run([linker, *flags, *wanted, *shared, *members], room, "no shared object could be linked")
@@ -119,14 +147,18 @@ def sum_of_beside() -> str:
 
 
 def lay_beside(folder: str, proved: bool) -> None:
-    """Lays the header and the code of other languages beside the library, notes of what it was made, and makes a tar of all."""
+    """Lays the header and the code of other languages beside the library, notes of what it was made, and makes a tar of
+    all."""
     for it, to in BESIDE.items():
         shutil.copytree(f"{ROOT}/{it}", f"{folder}/{to}", ignore=shutil.ignore_patterns(*LEFT_OUT))
     os.makedirs(f"{folder}/lib/pkgconfig")
     with open(f"{folder}/lib/pkgconfig/cds.pc", "w", encoding="utf-8") as config:
         config.write(PACKAGE_CONFIG.format(abi=abi()))
     with open(f"{folder}/BUILT", "w", encoding="utf-8") as note:
-        note.write(f"{sum_of_sources(ROOT, CRATE)} {sum_of(f'{folder}/lib/libcds.a')} {sum_of_beside()} {'proved' if proved else 'not-proved'}\n")
+        note.write(
+            f"{sum_of_sources(ROOT, CRATE)} {sum_of(f'{folder}/lib/libcds.a')} {sum_of_beside()}"
+            f" {'proved' if proved else 'not-proved'}\n"
+        )
     name = f"cds-{abi()}-x86_64-linux"
     with tarfile.open(f"{folder}/{name}.tar.gz", "w:gz") as tar:
         for part in sorted(os.listdir(folder)):

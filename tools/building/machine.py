@@ -22,7 +22,8 @@ def number_in(file: str) -> int | None:
 
 
 def processors() -> int:
-    """How many processors there are to use: those that this process may run on, or fewer where its control group has a quota."""
+    """How many processors there are to use: those that this process may run on, or fewer where its control group has a
+    quota."""
     found = len(os.sched_getaffinity(0))
     try:
         with open(f"{GROUP}/cpu.max", encoding="utf-8") as it:

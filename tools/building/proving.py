@@ -1,8 +1,8 @@
 """Proves crates one by one, for a schedule that says when, and with how many jobs.
 
-A release of the toolchain that keeps what `rt ci` proved takes names of crates: then `rt ci NAME` proves each, so that a later gate, here or in
-another clone, has it. Any other release is asked as its `rt ci` would ask: `rattle build` for a library, whose statements stay in
-out/libraries, and `rattle check` for a program, which is compiled and linked then.
+A release of the toolchain that keeps what `rt ci` proved takes names of crates: then `rt ci NAME` proves each, so that
+a later gate, here or in another clone, has it. Any other release is asked as its `rt ci` would ask: `rattle build` for
+a library, whose statements stay in out/libraries, and `rattle check` for a program, which is compiled and linked then.
 """
 
 from __future__ import annotations
@@ -45,7 +45,8 @@ def lines_in(folder: str) -> int:
 
 
 def tasks_of(room: str, rows: dict[str, str]) -> list[Task]:
-    """The proofs of crates: what each stands on, and its minutes and memory, as its lines of code and the crates below it tell them.
+    """The proofs of crates: what each stands on, and its minutes and memory, as its lines of code and the crates below
+    it tell them.
 
     (By 17 crates that were timed: none took more than two minutes beside that.)"""
     found = []
@@ -60,7 +61,8 @@ def tasks_of(room: str, rows: dict[str, str]) -> list[Task]:
 class Prover(Protocol):
     """What proves a crate, or builds a proved program, and returns whether it could."""
 
-    def prove(self, name: str, jobs: int) -> bool: ...
+    def prove(self, name: str, jobs: int) -> bool:
+        ...
 
 
 class Speaker:
@@ -83,7 +85,8 @@ class Speaker:
 
 
 class Pool:
-    """The processors, of which each check has some for itself: `rt ci` gives a check as many jobs as it may use processors."""
+    """The processors, of which each check has some for itself: `rt ci` gives a check as many jobs as it may use
+    processors."""
 
     def __init__(self, count: int) -> None:
         self.free, self.alone = sorted(os.sched_getaffinity(0))[:count], threading.Lock()
@@ -121,7 +124,8 @@ class ByGate:
 
 
 class ByProver:
-    """Has the prover build libraries, which stay, and programs: those of sources that have not changed since are not proved again."""
+    """Has the prover build libraries, which stay, and programs: those of sources that have not changed since are not
+    proved again."""
 
     def __init__(self, room: str, rows: dict[str, str], kit: str, speaker: Speaker) -> None:
         self.room, self.rows, self.kit, self.speaker = room, rows, kit, speaker
@@ -181,8 +185,19 @@ class ByProver:
         made = f"{self.room}/crates/{name}/out"
         os.makedirs(made, exist_ok=True)
         tools = ["--toolchain", f"{self.kit}/toolchain"]
-        compiled = [*self.words(name), "--crate-checked", f"{made}/checked", *tools, "--backend", "llvm", "-o", f"{made}/{name}.o"]
-        if not self.rattle(name, ["check", *checks, "-o", f"{made}/checked"]) or not self.rattle(name, ["build", *compiled]):
+        compiled = [
+            *self.words(name),
+            "--crate-checked",
+            f"{made}/checked",
+            *tools,
+            "--backend",
+            "llvm",
+            "-o",
+            f"{made}/{name}.o",
+        ]
+        if not self.rattle(name, ["check", *checks, "-o", f"{made}/checked"]) or not self.rattle(
+            name, ["build", *compiled]
+        ):
             return False
         link = [f"{self.kit}/bin/rattle-link", "--target", TARGET, *tools, "-o", f"{made}/{name}", f"{made}/{name}.o"]
         if self.speaker.said([*link, f"{self.kit}/c/libos_c.a", f"{self.kit}/c/liblibc_c.a"], made)[0]:

@@ -1,7 +1,7 @@
 """Runs tasks that stand on one another side by side: first the one with the most work in the longest chain from it on.
 
-A task may take several jobs, and then ends sooner, for more work in all. It gets as many as its chain needs to end with the rest of
-the work, and those that no other task waits for.
+A task may take several jobs, and then ends sooner, for more work in all. It gets as many as its chain needs to end with
+the rest of the work, and those that no other task waits for.
 """
 
 from __future__ import annotations
@@ -19,8 +19,8 @@ MORE_MEMORY = 0.4
 
 @dataclasses.dataclass(frozen=True)
 class Task:
-    """What is to be done: its name, the names of those that have to end well before, minutes of one processor, octets of memory, and the
-    most jobs that it can use."""
+    """What is to be done: its name, the names of those that have to end well before, minutes of one processor, octets
+    of memory, and the most jobs that it can use."""
 
     name: str
     after: tuple[str, ...]
@@ -77,7 +77,9 @@ class Schedule:
         self.ended[name] = is_well
         lost: list[str] = []
         while True:
-            more = [it.name for it in self.waiting.values() if any(self.ended.get(below) is False for below in it.after)]
+            more = [
+                it.name for it in self.waiting.values() if any(self.ended.get(below) is False for below in it.after)
+            ]
             if not more:
                 return lost
             for it in more:
@@ -111,7 +113,9 @@ class Schedule:
     def jobs_needed(self, task: Task) -> int:
         """The least jobs with which the chain from a task on ends by the time that all work that is left takes here."""
         left = sum(it.minutes for it in self.waiting.values()) + sum(it.minutes for it, _ in self.running.values())
-        enough = (jobs for jobs, speed in enumerate(SPEED, 1) if self.chain[task.name] / speed <= left / self.room.processors)
+        enough = (
+            jobs for jobs, speed in enumerate(SPEED, 1) if self.chain[task.name] / speed <= left / self.room.processors
+        )
         return next(enough, len(SPEED))
 
 

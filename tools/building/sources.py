@@ -10,10 +10,12 @@ import time
 from collections.abc import Iterable, Iterator
 
 ROOT = os.path.dirname(os.path.dirname(os.path.dirname(os.path.realpath(__file__))))
-# Which are proved and built together: the replayers, and the house, and what explains houses, which have crates that no replayer needs.
+# Which are proved and built together: the replayers, and the house, and what explains houses, which have crates that no
+# replayer needs.
 GROUPS = (("cdsreplay", "cdsmend"), ("cdshouse",), ("cdsexplain",))
 PROGRAMS = tuple(name for group in GROUPS for name in group)
-# What the proof of a crate reads; what says which program it is and what is promised of it; and what rt runs a program on.
+# What the proof of a crate reads; what says which program it is and what is promised of it; and what rt runs a program
+# on.
 PARTS = ("src", "specs", "proofs")
 MEANT = ("src", "specs")
 RUN_ON = ("args", "stdin", "stdout", "status", "data")
@@ -25,7 +27,8 @@ def program_at(root: str, name: str) -> str:
 
 
 def note_of(name: str) -> str:
-    """The file that says of which sources the proved program here was built: their sum, its own, and the sum of those without proofs."""
+    """The file that says of which sources the proved program here was built: their sum, its own, and the sum of those
+    without proofs."""
     return f"{ROOT}/out/built-{name}"
 
 
@@ -49,7 +52,8 @@ def lines_of_crates(root: str, names: Iterable[str]) -> dict[str, str]:
 
 
 def copy_to(room: str, names: Iterable[str]) -> dict[str, str]:
-    """Copies what these programs are made from to a repository of its own, and returns its lines of crates.txt, by name."""
+    """Copies what these programs are made from to a repository of its own, and returns its lines of crates.txt, by
+    name."""
     lines = lines_of_crates(ROOT, names)
     os.mkdir(f"{room}/.git")
     with open(f"{room}/crates.txt", "w", encoding="utf-8") as file:
@@ -75,9 +79,14 @@ def sum_of(file: str) -> str:
 
 def sources_of(root: str, name: str, parts: tuple[str, ...] = PARTS) -> Iterator[str]:
     """The files that a program of this repository, or of such a copy, is made from, beside crates.txt."""
-    tops = [f"{root}/HANDLES", *[f"{root}/crates/{crate}/{part}" for crate in lines_of_crates(root, [name]) for part in parts]]
+    tops = [
+        f"{root}/HANDLES",
+        *[f"{root}/crates/{crate}/{part}" for crate in lines_of_crates(root, [name]) for part in parts],
+    ]
     for top in tops:
-        yield from sorted(f"{at}/{file}" for at, _, files in os.walk(top) for file in files) or [top] * os.path.isfile(top)
+        yield from sorted(f"{at}/{file}" for at, _, files in os.walk(top) for file in files) or [top] * os.path.isfile(
+            top
+        )
 
 
 def sum_of_sources(root: str, name: str, parts: tuple[str, ...] = PARTS) -> str:
@@ -103,9 +112,11 @@ def is_current(name: str) -> bool:
 
 
 def is_proved(name: str) -> bool:
-    """Whether the program here has the code that the sources have, and was proved to do what they promise, by whichever proofs.
+    """Whether the program here has the code that the sources have, and was proved to do what they promise, by whichever
+    proofs.
 
-    The note then gets the time of this look: the wrappers take it for true while no code and no promise has changed since that time."""
+    The note then gets the time of this look: the wrappers take it for true while no code and no promise has changed
+    since that time."""
     began = time.time()
     found = words_of_note(name)[2:] == [sum_of_sources(ROOT, name, MEANT)]
     if found:

@@ -7,12 +7,16 @@ import os
 import tempfile
 import threading
 import unittest
+from typing import Any
 from unittest import mock
 
-from building import proving
+from building import proving, sources
 from building.proving import ByGate, ByProver, Pool, Speaker, tasks_of
 
-VERDICT = "logic=proved functions=1 sum=0 native=nat,char,string logic-built=trusted libraries-built=trusted statements=trusted"
+VERDICT = (
+    "logic=proved functions=1 sum=0 native=nat,char,string logic-built=trusted libraries-built=trusted"
+    " statements=trusted"
+)
 # Says what the file `says` has, makes what it is asked for, and notes its words.
 RATTLE = """#!/bin/sh
 echo "$@" >>"{kit}/words"
@@ -52,9 +56,12 @@ class WithKit(unittest.TestCase):
         for name in ROWS:
             write(f"{self.room}/crates/{name}/src/{'main' if name == 'cdsmend' else 'lib'}.rt", "fn f() {}\n" * 1000)
         self.speaker, self.installed = Speaker(io.StringIO()), list[tuple[str, str]]()
-        for patch in (mock.patch.object(proving, "LIBRARIES", libraries),
-                      mock.patch.object(proving.sources, "install", lambda *words: self.installed.append(words)),
-                      mock.patch.dict(os.environ, {"PATH": f"{self.kit}:{os.environ['PATH']}"})):
+        patches: tuple[Any, ...] = (
+            mock.patch.object(proving, "LIBRARIES", libraries),
+            mock.patch.object(sources, "install", lambda room, name: self.installed.append((room, name))),
+            mock.patch.dict(os.environ, {"PATH": f"{self.kit}:{os.environ['PATH']}"}),
+        )
+        for patch in patches:
             patch.start()
             self.addCleanup(patch.stop)
 
@@ -82,8 +89,14 @@ class OfTheProver(WithKit):
 
     def test_a_library_is_built_over_those_below(self) -> None:
         self.assertTrue(self.prover().prove("middle", 3))
-        said, = self.words()
-        for part in ("build --crate-name middle src/lib.rt", "/libraries/low.rlib", "/rlibs/hex.rlib", "--jobs 3", "--statements"):
+        (said,) = self.words()
+        for part in (
+            "build --crate-name middle src/lib.rt",
+            "/libraries/low.rlib",
+            "/rlibs/hex.rlib",
+            "--jobs 3",
+            "--statements",
+        ):
             self.assertIn(part, said)
 
     def test_what_has_not_changed_is_not_proved_again(self) -> None:
@@ -107,8 +120,15 @@ class OfTheProver(WithKit):
         self.assertEqual(len(self.words()), 1)
 
     def test_no_other_line_is_a_verdict(self) -> None:
-        for text in ("logic=not-proved", VERDICT.replace("functions=1", "functions=1 bugs=1"), VERDICT.replace("sum=0", "may-abort=1 sum=0"),
-                     f"{VERDICT} incremental=trusted", f"{VERDICT} pinned=no", f"{VERDICT}\nrattle: stopped", "holes=1"):
+        for text in (
+            "logic=not-proved",
+            VERDICT.replace("functions=1", "functions=1 bugs=1"),
+            VERDICT.replace("sum=0", "may-abort=1 sum=0"),
+            f"{VERDICT} incremental=trusted",
+            f"{VERDICT} pinned=no",
+            f"{VERDICT}\nrattle: stopped",
+            "holes=1",
+        ):
             self.says(text)
             self.assertFalse(self.prover().prove("low", 1), text)
             self.assertFalse(os.path.exists(f"{proving.LIBRARIES}/low.rlib"))
@@ -136,14 +156,14 @@ class OfTheGate(WithKit):
         self.assertEqual(self.words(), [f"ci low; {processor}", f"ci bad; {processor}"])
 
     def test_a_program_is_proved_in_a_copy_of_its_own(self) -> None:
-        with mock.patch.object(proving.sources, "copy_to", lambda room, names: None):
+        with mock.patch.object(sources, "copy_to", lambda room, names: None):
             self.assertTrue(ByGate(self.room, 1, self.speaker).prove("cdsmend", 1))
-        (room, name), = self.installed
+        ((room, name),) = self.installed
         self.assertEqual((name, room == self.room), ("cdsmend", False))
 
     def test_a_program_that_did_not_pass_is_not_installed(self) -> None:
         write(f"{self.kit}/fails", "")
-        with mock.patch.object(proving.sources, "copy_to", lambda room, names: None):
+        with mock.patch.object(sources, "copy_to", lambda room, names: None):
             self.assertFalse(ByGate(self.room, 1, self.speaker).prove("cdsmend", 1))
         self.assertEqual(self.installed, [])
 
@@ -160,7 +180,9 @@ class OfTasks(WithKit):
 
     def test_a_task_waits_for_the_crates_of_the_repository(self) -> None:
         found = {it.name: it for it in tasks_of(self.room, ROWS)}
-        self.assertEqual({name: it.after for name, it in found.items()}, {"low": (), "middle": ("low",), "cdsmend": ("middle",)})
+        self.assertEqual(
+            {name: it.after for name, it in found.items()}, {"low": (), "middle": ("low",), "cdsmend": ("middle",)}
+        )
         self.assertTrue(found["low"].minutes < found["middle"].minutes < found["cdsmend"].minutes)
 
 

@@ -13,7 +13,8 @@ MUCH = 10**12
 
 
 def time_of(tasks: list[Task], room: Room) -> float:
-    """The minutes that tasks take by the clock, if each ends as its work and its jobs say. Asks that the room is never left."""
+    """The minutes that tasks take by the clock, if each ends as its work and its jobs say. Asks that the room is never
+    left."""
     schedule, left, now = Schedule(tasks, room), dict[str, float](), 0.0
     while not schedule.is_over():
         left |= {task.name: task.minutes / SPEED[jobs - 1] for task, jobs in schedule.begin()}
@@ -38,7 +39,9 @@ class OfChains(unittest.TestCase):
     """How long the chain from a task on is."""
 
     def test_chain_goes_up(self) -> None:
-        found = chains([Task("low", (), 3), Task("left", ("low",), 1), Task("right", ("low",), 5), Task("top", ("left",), 2)])
+        found = chains(
+            [Task("low", (), 3), Task("left", ("low",), 1), Task("right", ("low",), 5), Task("top", ("left",), 2)]
+        )
         self.assertEqual(found, {"low": 8, "left": 3, "right": 5, "top": 2})
 
 
@@ -81,10 +84,15 @@ class OfSchedule(unittest.TestCase):
         self.assertEqual(Schedule([Task("a", (), 5.0, 10, 4)], Room(4, 14)).begin()[0][1], 2)
 
     def test_one_task_begins_with_too_little_memory(self) -> None:
-        self.assertEqual([jobs for _, jobs in Schedule([Task("a", (), 5.0, 9, 4), Task("b", (), 1.0, 9)], Room(4, 1)).begin()], [1])
+        self.assertEqual(
+            [jobs for _, jobs in Schedule([Task("a", (), 5.0, 9, 4), Task("b", (), 1.0, 9)], Room(4, 1)).begin()], [1]
+        )
 
     def test_what_waits_for_a_failure_is_lost(self) -> None:
-        schedule = Schedule([Task("low", (), 1), Task("high", ("low",), 1), Task("top", ("high",), 1), Task("other", (), 1)], Room(1, MUCH))
+        schedule = Schedule(
+            [Task("low", (), 1), Task("high", ("low",), 1), Task("top", ("high",), 1), Task("other", (), 1)],
+            Room(1, MUCH),
+        )
         schedule.begin()
         self.assertEqual(sorted(schedule.end("low", False)), ["high", "top"])
         self.assertEqual([task.name for task, _ in schedule.begin()], ["other"])
@@ -99,7 +107,13 @@ class OfSchedule(unittest.TestCase):
         for seed in range(200):
             chance = random.Random(seed)
             tasks = [
-                Task(str(it), tuple(str(below) for below in range(it) if chance.random() < 0.15), chance.uniform(0.1, 9), chance.randint(1, 5), 4)
+                Task(
+                    str(it),
+                    tuple(str(below) for below in range(it) if chance.random() < 0.15),
+                    chance.uniform(0.1, 9),
+                    chance.randint(1, 5),
+                    4,
+                )
                 for it in range(chance.randint(1, 40))
             ]
             room = Room(chance.randint(1, 8), chance.randint(1, 20))

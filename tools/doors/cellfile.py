@@ -100,7 +100,7 @@ class CellFile:
     def peer(self, number: int, table: dict[str, Any]) -> Peer:
         houses, classes = table.get("houses", [number]), table.get("allow", list(allows.OF_DOORS))
         if not set(houses) <= set(self.there) or not isinstance(table.get("socket"), str):
-            raise Faulty(f"[peer.{number}] has socket = \"..\", and houses of other machines")
+            raise Faulty(f'[peer.{number}] has socket = "..", and houses of other machines')
         if unknown := set(classes) - {*allows.CLASSES, "messages"}:
             raise Faulty(f"[peer.{number}]: {min(unknown)} is no class of lines")
         return Peer(os.path.join(self.base, table["socket"]), frozenset(houses), frozenset(classes))

@@ -9,7 +9,7 @@ from collections.abc import Callable, Mapping
 from doors.houses import Answer, House, ends_of, status_of
 from doors.loops import Loop
 from doors.streams import Lines
-from housing.processes import ENDS
+from cds.processes import ENDS
 
 # So long a command asks houses, in seconds; then none is reached any more, and so it comes to its end. A clerk that
 # does not end it then is killed after twice that.

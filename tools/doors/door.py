@@ -13,7 +13,7 @@ from collections.abc import Callable
 from doors.allows import Who, uid_of
 from doors.cellfile import CellFile, Faulty
 from doors.clerks import Clerk
-from doors.houses import Answer, Here, House, There
+from doors.houses import Answer, Here, House, There, kill
 from doors.lines import NUMBERED
 from doors.loops import Loop
 from doors.numbers import Numbers
@@ -134,7 +134,7 @@ class Door:
         except subprocess.TimeoutExpired:
             if house.is_here:
                 self.note(f"house {house.number} does not end: it is killed")
-            child.kill()
+            kill(child)
             child.wait()
 
     # ---- sockets

@@ -5,9 +5,8 @@ import os
 import shutil
 import sys
 
-from housing import building
-
-ROOT = building.ROOT
+from building.sources import ROOT
+from cds import programs
 
 
 class NoProgram(Exception):
@@ -22,7 +21,7 @@ def built(name: str) -> str | None:
 
 def compiled(source: str, target: str) -> str:
     if shutil.which("rustc"):
-        return building.compiled(source, target)
+        return programs.compiled(source, target)
     if os.access(f"{ROOT}/{target}", os.X_OK):
         return f"{ROOT}/{target}"
     raise NoProgram(f"rustc is not there, which compiles {source}")
@@ -32,12 +31,9 @@ def house() -> str:
     """The proved house; else the one of the same sources that is not proved, if the toolchain is there; else the
     plain one of bench/."""
     if shutil.which("rt"):
-        # (here, since `tools/housing` has a module of that name, which is found first by the tools of houses)
-        from building import choosing
-
         try:
-            return choosing.chosen("cdshouse")
-        except choosing.NoProgram as reason:
+            return programs.chosen("cdshouse")
+        except programs.NoProgram as reason:
             raise NoProgram(f"{reason} cannot be made") from None
     if path := built("cdshouse"):
         return path

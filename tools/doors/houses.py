@@ -4,6 +4,7 @@ from __future__ import annotations
 
 import collections
 import os
+import re
 import shlex
 import signal
 import subprocess
@@ -13,7 +14,7 @@ from collections.abc import Callable
 from doors.lines import LONGEST_OF_DOORS, LONGEST_OF_HOUSES, TURNS
 from doors.loops import Loop
 from doors.streams import Lines
-from housing.processes import ENDS, take_lines
+from cds.processes import ENDS, take_lines
 
 Answer = list[str] | None
 Hear = Callable[[Answer], None]
@@ -21,6 +22,8 @@ Hear = Callable[[Answer], None]
 LONGEST_START = 120.0
 # A house that ended, or a stream, is started again after so long; then after twice that, up to the longest wait.
 FIRST_WAIT, LONGEST_WAIT = 0.05, 5.0
+# A line of another door: the number of the line that it answers, its place in the answer, and what it says.
+ANSWERED = re.compile(r"(\d{1,20})\.(\d{1,9}) (.*)")
 # The clock of a house is set again after so long.
 CLOCK_AGES = 1.0
 
@@ -50,6 +53,8 @@ class Waiting:
 
     def __init__(self, line: str, hear: Hear | None, patience: float = 0.0) -> None:
         self.line, self.hear, self.patience, self.since = line, hear, patience, time.monotonic()
+        # The number that it was sent with, to another door.
+        self.number = 0
 
 
 def ends_of(child: subprocess.Popen[bytes]) -> tuple[int, int]:
@@ -61,13 +66,23 @@ def ends_of(child: subprocess.Popen[bytes]) -> tuple[int, int]:
     return ends
 
 
+def kill(child: subprocess.Popen[bytes]) -> None:
+    """Kills a child, which leads a group of its own, and what it started."""
+    try:
+        os.killpg(child.pid, signal.SIGKILL)
+    except (ProcessLookupError, PermissionError):
+        pass
+
+
 def status_of(child: subprocess.Popen[bytes]) -> int:
-    """The status of a child that has closed its output. One that goes on is killed."""
+    """The status of a child that has closed its output. One that goes on is killed, with what it started."""
     try:
         return child.wait(0.5)
     except subprocess.TimeoutExpired:
-        child.kill()
-        return child.wait()
+        pass
+    finally:
+        kill(child)
+    return child.wait()
 
 
 class House:
@@ -136,7 +151,7 @@ class House:
     def kill(self) -> None:
         """Kills the process, if one runs. What it said before is still heard."""
         if self.child and self.child.poll() is None:
-            self.child.send_signal(signal.SIGKILL)
+            kill(self.child)
 
     def close(self) -> None:
         """Ends its input. A house answers what it has, and ends."""
@@ -266,7 +281,8 @@ class Here(House):
 
 
 class There(House):
-    """A house behind another door: the lines `@H LINE`, over the stream that a command makes."""
+    """A house behind another door: the lines `K @H LINE`, over the stream that a command makes. Each line of the answer
+    begins with `K.I`, so a stream that loses, repeats or keeps lines gives no line the answer of another one."""
 
     is_here = False
 
@@ -274,9 +290,11 @@ class There(House):
         super().__init__(loop, number, shlex.split(command), note)
         # Where in its journal the last answer is, if the other door says so.
         self.at = (0, 0)
+        # The number of the last line (no earlier door gave it), and how many lines of the present answer came.
+        self.last, self.came = time.time_ns() // 1000, 0
 
     def begun(self) -> None:
-        self.is_up = True
+        self.is_up, self.came = True, 0
         self.on_up()
 
     def send(self, line: str, hear: Hear | None) -> None:
@@ -284,19 +302,43 @@ class There(House):
 
     def send_as_is(self, text: str, line: str, hear: Hear | None) -> None:
         """Sends a line to the other door itself."""
-        self.flight.append(self.waiting(line, hear))
+        self.last += 1
+        waiting = self.waiting(line, hear)
+        waiting.number = self.last
+        self.flight.append(waiting)
         if self.stream:
-            self.stream.send(f"{text}\n")
+            self.stream.send(f"{self.last} {text}\n")
+
+    def is_next(self, number: int, place: int) -> bool:
+        """Whether a line of an answer is the next one. Those before it that did not come are lost."""
+        while self.flight and self.flight[0].number < number:
+            self.lose()
+        if not self.flight or self.flight[0].number > number or place <= self.came:
+            return False
+        self.came += 1
+        if place > self.came:
+            self.lose()
+            return False
+        return True
+
+    def lose(self) -> None:
+        """The answer to the first line under way did not come whole."""
+        waiting, self.told, self.came = self.flight.popleft(), [], 0
+        if waiting.hear:
+            waiting.hear(None)
 
     def line(self, text: str | None) -> None:
         self.heard, self.is_silent, self.wait, self.why = time.monotonic(), False, FIRST_WAIT, ""
-        said = text or ""
+        answered = ANSWERED.fullmatch(text or "")
+        if not answered or not self.is_next(int(answered[1]), int(answered[2])):
+            return
+        said = answered[3]
         if said.startswith("at "):
             numbers = [int(word) for word in said.split(" ")[1:] if word.isdigit()]
             self.at = (numbers[0], numbers[1]) if len(numbers) == 2 else (0, 0)
             return
         waiting = self.tell(said)
         if waiting:
-            told, self.told = self.told, []
+            told, self.told, self.came = self.told, [], 0
             if waiting.hear:
                 waiting.hear(None if told == ["refused Down"] else told)

@@ -5,7 +5,7 @@ from __future__ import annotations
 import os
 from collections.abc import Iterator
 
-from housing.console import Console
+from cds.console import Console
 
 
 class Ledger:

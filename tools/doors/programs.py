@@ -2,6 +2,7 @@
 from __future__ import annotations
 
 import collections
+import re
 from collections.abc import Callable
 
 from doors.allows import Who
@@ -11,6 +12,9 @@ from doors.streams import Lines
 
 # So many lines of one connection wait; then no more are read.
 MOST_WAITING = 64
+# A number before a line, which its answer has then, too.
+NUMBERED = re.compile(r" *(\d{1,20}) (.*)")
+LONGEST_NUMBER = 22
 Say = Callable[[list[str]], None]
 Command = Callable[[str, Who, Say], None]
 
@@ -18,10 +22,17 @@ Command = Callable[[str, Who, Say], None]
 class Slot:
     """A line, and its answer when there is one."""
 
-    def __init__(self, line: str | None) -> None:
-        self.line = line
+    def __init__(self, line: str | None, number: str = "") -> None:
+        self.line, self.number = line, number
         self.answer: list[str] | None = None
         self.is_begun = False
+
+    def said(self) -> str:
+        """The lines of the answer: `K.I LINE`, if the line had the number K, and else as they are."""
+        lines = self.answer or []
+        return "".join(
+            f"{self.number}.{at} {line}\n" if self.number else f"{line}\n" for at, line in enumerate(lines, 1)
+        )
 
 
 class Program:
@@ -33,7 +44,7 @@ class Program:
         self.slots: collections.deque[Slot] = collections.deque()
         self.longest = LONGEST_OF_DOORS if who.is_door else LONGEST
         self.is_over = False
-        self.stream = Lines(loop, fd, fd, self.line, self.ended, self.longest)
+        self.stream = Lines(loop, fd, fd, self.line, self.ended, self.longest + LONGEST_NUMBER)
         self.stream.outlives = True
 
     def ended(self) -> None:
@@ -49,11 +60,13 @@ class Program:
             self.on_end(self)
 
     def line(self, line: str | None) -> None:
+        number = NUMBERED.fullmatch(line or "")
+        line = number[2] if number else line
         words = (line or "").split()
         # (a blank line and a comment have no answer)
         if line is not None and (not words or words[0].startswith("#")):
             return
-        self.slots.append(Slot(line))
+        self.slots.append(Slot(line, number[1] if number else ""))
         if len(self.slots) >= MOST_WAITING:
             self.stream.pause()
         self.next()
@@ -79,8 +92,7 @@ class Program:
     def flush(self) -> None:
         """Writes the answers that have their turn."""
         while self.slots and self.slots[0].answer is not None:
-            answer = self.slots.popleft().answer or []
-            self.stream.send("".join(f"{line}\n" for line in answer))
+            self.stream.send(self.slots.popleft().said())
             if len(self.slots) == MOST_WAITING // 2:
                 self.stream.go_on()
         if self.slots and not self.stream.is_broken:

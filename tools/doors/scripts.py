@@ -5,18 +5,19 @@ from __future__ import annotations
 import collections
 import glob
 import os
+import random
 import re
 import subprocess
-import sys
 import tempfile
 import time
 from collections.abc import Callable, Iterable, Iterator
 
-from housing.building import ROOT
-from housing.console import Console
+from building.sources import ROOT
+from cds.answers import answers_of
+from cds.processes import ENDS, Process, take_lines
+from cds.console import Console
 from doors.lines import ASKS, PLANS
-from housing.processes import ENDS, Process, take_lines
-from housing.replaying import answers_of
+from fuzzing.scripts import script
 from running.case_files import all_cases
 
 # What a house does by itself: the words after the house are those of its own line.
@@ -265,14 +266,13 @@ def random_scripts(seed: int, plain: str, seconds: float) -> Iterator[Script]:
     """Scripts as `tools/fuzz` makes them, from this seed on, for so many seconds."""
     until = time.monotonic() + seconds
     while time.monotonic() < until:
-        words = [sys.executable, f"{ROOT}/tools/doors/fuzzed.py", str(seed), plain]
-        yield f"seed {seed}", subprocess.run(words, stdout=subprocess.PIPE, check=True).stdout
+        yield f"seed {seed}", script(random.Random(seed), plain, ["inquire"])
         seed += 1
 
 
 def tried(comparison: Comparison, scripts: Iterable[Script]) -> bool:
     """Does all scripts, and prints the sum. Whether none differs."""
-    for name, script in scripts:
-        comparison.run(name, script)
+    for name, it in scripts:
+        comparison.run(name, it)
     print(comparison.summed())
     return not comparison.counts["differences"]

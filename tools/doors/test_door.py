@@ -16,9 +16,9 @@ import unittest
 from doors import executables
 from doors.test_lines import MESSAGE
 from doors.trials.clients import Client
-from housing import building
+from building.sources import ROOT
+from cds import programs
 
-ROOT = building.ROOT
 INTERFACE = "a0000000-0000-0000-0000-000000000001:1.0"
 BINDING = "ncacn_ip_tcp:10.0.0.1[1025]"
 # A house that hangs with a question.
@@ -39,7 +39,7 @@ class Room(unittest.TestCase):
     def setUp(self) -> None:
         if not shutil.which("rustc"):
             self.skipTest("rustc is not there")
-        self.house = building.compiled("bench/house.rs", "out/plain-house")
+        self.house = programs.compiled("bench/house.rs", "out/plain-house")
         self.clerk = executables.clerk()
         memory = "/dev/shm" if os.access("/dev/shm", os.W_OK) else None
         room = tempfile.TemporaryDirectory(dir=memory)
@@ -126,6 +126,23 @@ class DoorTest(Room):
         # a blank line and a comment have no answer, so the next one is that of the command
         self.assertEqual(client.ask("\n   \n# a comment\n@1 dump 1"), ["refused NoHouse"])
 
+    def test_lines_with_numbers(self) -> None:
+        self.open()
+        with socket.socket(socket.AF_UNIX) as door:
+            door.connect(f"{self.room}/cell.door")
+            door.sendall(
+                b"7 @1 dump 1\n  08 hop\n9 \n9 # no answer\nhop\n" + b"6 " + b"x" * 4097 + b"\n1 " + b"x" * 5000 + b"\n"
+            )
+            door.shutdown(socket.SHUT_WR)
+            said = door.makefile("r").read().splitlines()
+        due = [
+            "7.1 refused NoHouse",
+            "08.1 fault UnknownCommand 1",
+            "fault UnknownCommand 1",
+            "6.1 fault LineTooLong 4097",
+        ]
+        self.assertEqual(said, [*due, "fault LineTooLong 4097"])
+
     def test_who_may_send_what(self) -> None:
         client = self.open(tail=f'[allow]\nquestions = ["*"]\nupdates = ["{os.getuid()}"]\noperation = []')
         for line in ("house 1 00000000000a", "root 1", "skulk", "@1 house 1 00000000000a", "@1 clock 5", "@1 take 00"):
@@ -208,7 +225,7 @@ class DoorTest(Room):
         self.make(client)
         words = [f"{ROOT}/tools/door", f"{self.room}/cell.toml"]
         second = subprocess.run(words, capture_output=True, text=True, check=False)
-        self.assertEqual((second.returncode, "another door is there" in second.stderr), (1, True))
+        self.assertEqual((second.returncode, "another door is there" in second.stderr), (2, True))
         self.doors[0].kill()
         self.doors[0].wait()
         self.assertEqual(client.ask("status"), ["gone"])
@@ -250,7 +267,7 @@ class DoorTest(Room):
         for path, said in ((f"{self.room}/bad.toml", "[house.x]"), (f"{self.room}/none.toml", "No such file")):
             ran = subprocess.run([f"{ROOT}/tools/door", path], capture_output=True, text=True, check=False)
             found = (ran.returncode, said in ran.stderr, "Traceback" in ran.stderr)
-            self.assertEqual(found, (1, True, False), ran.stderr)
+            self.assertEqual(found, (2, True, False), ran.stderr)
 
 
 class DayTest(Room):
@@ -352,7 +369,8 @@ class DoorsTest(Room):
             self.assertEqual(two.ask(line), ["refused Forbidden"])
         stream = Client(f"{self.room}/a.p2")
         self.assertEqual(stream.ask(f"@1 take {MESSAGE}"), ["refused Forbidden"])
-        # (its own messages it may bring, and the house says what they are: this one has a stamp of house 1, which gave none)
+        # (its own messages it may bring, and the house says what they are: this one has a stamp of house 1, which gave
+        # none)
         self.assertEqual(stream.ask(f"@1 take {MESSAGE[:12]}02{MESSAGE[14:]}"), ["refused Restored 1@00000000000a"])
         self.assertIn("the door of house 2 may not send epoch 1 1", self.log("a"))
 
@@ -419,6 +437,22 @@ class ClientsTest(Room):
         words = [f"{ROOT}/nsi", "--socket", f"{self.room}/none", "status"]
         gone = subprocess.run(words, capture_output=True, check=False)
         self.assertEqual(gone.returncode, 2)
+
+    def test_an_alarm_reads_the_status(self) -> None:
+        os.makedirs(f"{self.room}/h2")
+        with open(f"{self.room}/h2/1", "wb") as file:
+            file.write(b"no journal")
+        client = self.open(houses=(1, 2))
+        self.until(lambda: "house 2 is down" in self.log())
+        status, text = self.nsi("status")
+        self.assertEqual((status, "house 2 here down" in text), (4, True), text)
+        self.assertEqual(self.nsi("--json", "status")[0], 4)
+        os.unlink(f"{self.room}/h2/1")
+        self.until(lambda: self.up(client, 2))
+        self.assertEqual(self.nsi("status")[0], 0)
+        self.doors[-1].kill()
+        self.doors[-1].wait()
+        self.assertEqual(self.nsi("status")[0], 2)
 
     def test_the_examples_in_c_and_in_a_shell(self) -> None:
         client = self.open()

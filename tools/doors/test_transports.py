@@ -1,5 +1,5 @@
-"""Tests of three machines that reach each other by real `ssh` and by real TLS: what the key or the certificate of a machine lets it send.
-A transport whose programs are not there is passed over."""
+"""Tests of three machines that reach each other by real `ssh`, by real TLS and over a real broker: what the key or the
+certificate of a machine lets it send. A transport whose programs are not there is passed over."""
 from __future__ import annotations
 
 import os
@@ -14,9 +14,9 @@ from doors import executables
 from doors.test_lines import MESSAGE
 from doors.trials.machines import MACHINES, Machines
 from doors.trials.nets import Namespaces
-from doors.trials.transports import Ssh, Tcp, Tls
-from housing import building
-from housing.processes import ENDS
+from doors.trials.transports import Mqtt, Ssh, Tcp, Tls
+from cds.processes import ENDS
+from cds.programs import compiled
 
 INTERFACE = "a0000000-0000-0000-0000-000000000001:1.0"
 LONGEST = 30.0
@@ -29,14 +29,17 @@ class Stranger(Machines):
         lines = super().cell_file(machine)
         if machine == 1:
             lines[-1] = 'allow = ["questions"]'
-        return lines
+        # (over a broker a line is lost if the other door does not listen yet, and nothing else says so)
+        return ["kill_after = 5", *lines]
 
 
 class Line:
     """The stream by which a machine reaches another one, in other hands than those of its door."""
 
     def __init__(self, words: list[str]) -> None:
-        self.child = subprocess.Popen(words, stdin=subprocess.PIPE, stdout=subprocess.PIPE, stderr=subprocess.DEVNULL, text=True)
+        self.child = subprocess.Popen(
+            words, stdin=subprocess.PIPE, stdout=subprocess.PIPE, stderr=subprocess.DEVNULL, text=True
+        )
 
     def ask(self, line: str) -> list[str]:
         """The answer to a line; nothing if the stream ends."""
@@ -70,7 +73,7 @@ class TransportTest(unittest.TestCase):
             self.skipTest(f"rustc or {self.kind.name} is not there")
         room = tempfile.TemporaryDirectory(dir="/dev/shm" if os.access("/dev/shm", os.W_OK) else None)
         self.addCleanup(room.cleanup)
-        house, clerk = building.compiled("bench/house.rs", "out/plain-house"), executables.clerk()
+        house, clerk = compiled("bench/house.rs", "out/plain-house"), executables.clerk()
         self.machines = Stranger(room.name, house, clerk, 3.0, not Namespaces.are_allowed(), self.kind)
         self.addCleanup(self.machines.close)
         self.machines.begin()
@@ -101,7 +104,9 @@ class TransportTest(unittest.TestCase):
     def day(self) -> None:
         """A server at machine 2 exports, and a client at machine 3 imports."""
         self.found()
-        self.until(lambda: self.ask(2, f"export /.:/lpr {INTERFACE} ncacn_ip_tcp:10.0.0.1[1025] -")[-1].startswith("ok"))
+        self.until(
+            lambda: self.ask(2, f"export /.:/lpr {INTERFACE} ncacn_ip_tcp:10.0.0.1[1025] -")[-1].startswith("ok")
+        )
         wanted = ["binding ncacn_ip_tcp:10.0.0.1[1025]", "end 1"]
         self.until(lambda: self.ask(3, f"import high /.:/lpr {INTERFACE} - ncacn_ip_tcp") == wanted)
 
@@ -140,7 +145,9 @@ class SshTest(TransportTest):
     def test_a_key_leads_to_one_command_and_a_stranger_s_key_to_none(self) -> None:
         place = self.machines.place(1, 2)
         words = self.machines.transport.via(2, 1, place)
-        self.assertEqual(self.line(2, 1, [*words, "echo", "refused", "shell"]).ask("@1 status 1")[-1].split(" ")[0], "refused")
+        self.assertEqual(
+            self.line(2, 1, [*words, "echo", "refused", "shell"]).ask("@1 status 1")[-1].split(" ")[0], "refused"
+        )
         self.assertNotEqual(self.line(2, 1, [*words, "echo", "refused", "shell"]).ask("@1 status 1"), ["refused shell"])
         own = words.index("-i") + 1
         words[own] = words[own].replace("door2", "door3")
@@ -157,8 +164,65 @@ class TlsTest(TransportTest):
         self.forge()
 
     def test_the_certificate_of_another_machine_leads_nowhere(self) -> None:
-        words = [it.replace("host2.pem", "host3.pem") for it in self.machines.transport.via(2, 1, self.machines.place(1, 2))]
+        words = [
+            it.replace("host2.pem", "host3.pem") for it in self.machines.transport.via(2, 1, self.machines.place(1, 2))
+        ]
         self.assertEqual(self.line(2, 1, words).ask("@1 status 1"), [])
+
+
+class MqttTest(TransportTest):
+    kind = Mqtt
+
+    def words(self, machine: int) -> list[str]:
+        """The words by which a machine comes to the broker."""
+        transport = self.machines.transport
+        assert isinstance(transport, Mqtt)
+        return transport.broker(machine)
+
+    def hear(self, machine: int, topic: str) -> Callable[[], list[str]]:
+        """Subscribes, and returns what gives the lines that came within two seconds."""
+        words = ["mosquitto_sub", *self.words(machine), "-v", "-W", "2", "-t", topic]
+        words = [*self.machines.net.inside(machine), *words]
+        child = subprocess.Popen(words, stdout=subprocess.PIPE, stderr=subprocess.DEVNULL, text=True)
+        return lambda: child.communicate()[0].splitlines()
+
+    def publish(self, machine: int, topic: str, text: str, words: list[str] | None = None) -> int:
+        words = self.words(machine) if words is None else words
+        command = [*self.machines.net.inside(machine), "mosquitto_pub", *words, "-t", topic, "-m", text]
+        return subprocess.run(command, capture_output=True, timeout=20, check=False).returncode
+
+    def test_what_the_list_lets_a_machine_send_and_hear(self) -> None:
+        hears = [self.hear(1, "cds/host1/+/try"), self.hear(3, "#"), self.hear(3, "cds/host1/host2/try")]
+        for _ in range(3):
+            time.sleep(0.5)
+            self.assertEqual(self.publish(2, "cds/host1/host2/try", "from host2"), 0)
+            self.publish(3, "cds/host1/host2/try", "forged")
+            self.publish(3, "cds/host2/host1/say", "1.1 forged")
+            self.publish(3, "cds/host1/host3/try/more", "forged")
+            self.publish(3, "other/host3/try", "forged")
+        one, all_of_three, three = (it() for it in hears)
+        self.assertEqual(set(one), {"cds/host1/host2/try from host2"})
+        # (its own doors' lines are all that it hears)
+        self.assertEqual([it for it in all_of_three if not it.startswith("cds/host3/")], [])
+        self.assertEqual(three, [])
+
+    def test_a_stranger_does_not_come_in(self) -> None:
+        words = self.words(3)
+        files = words.index("--cert")
+        self.assertNotEqual(self.publish(3, "cds/host1/host3/try", "x", words[:files]), 0)
+        folder = tempfile.TemporaryDirectory()
+        self.addCleanup(folder.cleanup)
+        other = Mqtt(folder.name, [3])
+        other.prepare()
+        strange = [other.file("host3.crt") if it.endswith(".crt") else it for it in words]
+        strange = [other.file("host3.key") if it.endswith(".key") else it for it in strange]
+        self.assertNotEqual(self.publish(3, "cds/host1/host3/try", "x", strange), 0)
+
+    def test_a_server_exports_and_a_client_imports(self) -> None:
+        self.day()
+
+    def test_another_machine_forges_nothing(self) -> None:
+        self.forge()
 
 
 del TransportTest

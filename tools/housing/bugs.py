@@ -1,7 +1,12 @@
 """Bugs of the plain house that trials have to find: a check that finds none of them would show nothing."""
-import shutil
 
-import building
+from __future__ import annotations
+
+import shutil
+from typing import Any
+
+from building.sources import ROOT
+from cds import programs
 
 SEGMENTS, TURNS, MAIN = "bench/plain/house_segments.rs", "bench/plain/house_turns.rs", "bench/house.rs"
 
@@ -34,13 +39,13 @@ SAY_LAST = "    tell(&mut out, 0, rest);\n"
 SAY_ANSWER = """    let at = rest[..rest.len() - 1].iter().rposition(|b| *b == b'\\n').map_or(0, |at| at + 1);
     tell(&mut out, 0, &rest[at..]);
 """
-REFUSED = r'''Err(refusal) => Reply::says(format!("{refusal}\n")),'''
-PUT_REFUSED = r'''Err(refusal) => {
+REFUSED = r"""Err(refusal) => Reply::says(format!("{refusal}\n")),"""
+PUT_REFUSED = r"""Err(refusal) => {
                 let said = format!("{refusal}\n").into_bytes();
                 self.entry += 1;
                 let text = [&words.join(&b' '), &b"\n"[..], &said].concat();
                 Reply { text: said, record: Some(Record { entry: self.entry, clock: self.clock, text, image: None }) }
-            }'''
+            }"""
 PIECES = "let pieces = std::mem::take(&mut self.pieces);"
 KEEP_PIECES = """let is_message = matches!(line, Line::Take(_) | Line::More(_));
         let pieces = if is_message { std::mem::take(&mut self.pieces) } else { Vec::new() };"""
@@ -48,7 +53,8 @@ BEHIND = "next.is_some_and(|record| record_at(&opened, 1 + LENGTH + record.len()
 ANY_BEHIND = "next.is_some_and(|record| opened.get(1 + LENGTH + record.len()) == Some(&1))"
 
 # What the bug is, the file, and its edits: the present text, and the text in its place.
-BUGS = [
+Bug = tuple[Any, ...]
+BUGS: list[Bug] = [
     ("a turn is answered before it is put", MAIN, (PUT + SAY, SAY + PUT)),
     ("a turn that leaves the image as it is is not put", MAIN, (RESPOND + PUT, BEFORE + RESPOND + PUT_CHANGED)),
     ("a line that is refused leaves a record", TURNS, (REFUSED, PUT_REFUSED)),
@@ -59,8 +65,16 @@ BUGS = [
     ("a start does not sync what it reads", SEGMENTS, ("file.sync_all().map_err(|_| NotOpened::Failed)?;", "")),
     ("the folder is not synced", SEGMENTS, (RENAME + "        sync_folder(&self.path)?;\n", RENAME)),
     ("a segment has its name before its records", SEGMENTS, (RECORDS + BEGUN, NAMED + RECORDS + BEGUN), (RENAME, "")),
-    ("a new segment does not follow the one before", MAIN, ("self.folder.next(Some(&self.segment),", "self.folder.next(None,")),
-    ("a start keeps the clock", TURNS, ("Home { clock: 0, pieces: vec![], ..self }", "Home { pieces: vec![], ..self }")),
+    (
+        "a new segment does not follow the one before",
+        MAIN,
+        ("self.folder.next(Some(&self.segment),", "self.folder.next(None,"),
+    ),
+    (
+        "a start keeps the clock",
+        TURNS,
+        ("Home { clock: 0, pieces: vec![], ..self }", "Home { pieces: vec![], ..self }"),
+    ),
     ("a start says no message", MAIN, (SAY_LAST, SAY_ANSWER)),
     ("a start does not count as an entry", MAIN, ("home.entry += u64::from(home.house.is_some());", "")),
     ("pieces of a message are kept over another line", TURNS, (PIECES, KEEP_PIECES)),
@@ -70,7 +84,11 @@ BUGS = [
     ("a start keeps the skulks that run", TURNS, ("            house.crash();\n", "            let _ = house;\n")),
     ("a next segment forgets the skulks that run", TURNS, ("&house.running(), ", "")),
     ("a next segment knows of a skulk in its first round alone", TURNS, ('b"spread" => true', 'b"spread" => false')),
-    ("what is done again is not compared", TURNS, (".record.is_some_and(|own| own.octets() == body)", ".record.is_some()")),
+    (
+        "what is done again is not compared",
+        TURNS,
+        (".record.is_some_and(|own| own.octets() == body)", ".record.is_some()"),
+    ),
 ]
 # The tests that find what trials seldom come across, or never.
 TESTS = {
@@ -80,10 +98,10 @@ TESTS = {
 }
 
 
-def planted(bug, room):
+def planted(bug: Bug, room: str) -> str:
     """A house with a bug, in a copy of bench/ of its own."""
     name, file, *edits = bug
-    shutil.copytree(f"{building.ROOT}/bench", f"{room}/bench")
+    shutil.copytree(f"{ROOT}/bench", f"{room}/bench")
     path = f"{room}/{file}"
     with open(path, encoding="utf-8") as it:
         text = it.read()
@@ -93,4 +111,4 @@ def planted(bug, room):
         text = text.replace(old, new)
     with open(path, "w", encoding="utf-8") as it:
         it.write(text)
-    return building.compiled("bench/house.rs", "out/house", root=room)
+    return programs.compiled("bench/house.rs", "out/house", root=room)

@@ -1,18 +1,29 @@
-"""Writes a script of `cdsreplay run` that explains the journals of houses (docs/EXPLAINED.md), or says the first entry that no order explains.
+"""Writes a script of `cdsreplay run` that explains the journals of houses (docs/EXPLAINED.md), or says the first entry
+that no order explains. (It is an oracle of `cdsexplain`, written apart from it, as bench/explain.rs is.)
 
-A script's line comes with the answer that the journals have for it, or None where they have none.
+A script's line comes with the answer that the journals have for it, or None if they have none.
 """
+
+from __future__ import annotations
+
 import collections
-from console import listing
+from collections.abc import Iterator, Mapping, Sequence
+from random import Random
+
+from cds.console import Console
+from cds.journals import Record
 
 # The lines that a house answers by itself.
 UPDATES = ("create", "link", "delete", "add", "remove", "put", "clear", "skulk")
+# The entries of houses, by their numbers; and lines, each with its answer.
+Houses = Mapping[int, Sequence[Record]]
+Script = list[tuple[str, "list[str] | None"]]
 
 
 class Unexplained(Exception):
     """An entry that no order explains. `waits` says whether another entry may yet explain it."""
 
-    def __init__(self, text, waits=False):
+    def __init__(self, text: str, waits: bool = False) -> None:
         super().__init__(text)
         self.waits = waits
 
@@ -20,48 +31,43 @@ class Unexplained(Exception):
 class Asked:
     """A line that a house answered without a turn, and its answer."""
 
-    def __init__(self, line, answer):
+    def __init__(self, line: str, answer: list[str]) -> None:
         self.words, self.answer = line.split(), answer
 
 
-def named_houses(entries):
+# What houses answered after an entry, by the house and the entry's number.
+Questions = Mapping[tuple[int, int], Sequence[Asked]]
+
+
+def named_houses(entries: Sequence[Record]) -> set[int]:
     """The houses that the lines of entries name."""
-    named = set()
-    for entry in entries:
-        words = entry.line.split(" ")
-        if words[0] == "root":
-            named |= {int(word.lstrip("s")) for word in words[1:]}
-        elif words[0] == "mkdir":
-            named |= {int(word.lstrip("s")) for word in words[4:]}
-        elif words[0] == "repoint":
-            named |= {int(word) for word in words[3:]}
-        elif words[0] == "epoch":
-            named |= {int(word.split(":")[0]) for word in words[3:] if word != "-"}
-    return named
+    places = {"root": 1, "mkdir": 4, "repoint": 3, "epoch": 3}
+    lines = (entry.line.split(" ") for entry in entries)
+    named = (word for words in lines if words[0] in places for word in words[places[words[0]] :] if word != "-")
+    return {int(word.lstrip("s").split(":")[0]) for word in named}
 
 
 class Explainer:
-    """`houses` is {number: entries}; `asked` is {(house, entry number): [Asked]}, what it answered after that entry."""
+    """Explains the entries of houses, and what they were asked in between."""
 
-    def __init__(self, houses, asked=None):
+    def __init__(self, houses: Houses, asked: Questions | None = None) -> None:
         self.houses = houses
         self.items = {house: list(with_asked(house, entries, asked or {})) for house, entries in houses.items()}
-        self.next = dict.fromkeys(houses, 0)
-        self.clock = dict.fromkeys(houses, 0)
-        # {(receiver, octets): serials}
-        self.posted = collections.defaultdict(list)
-        self.messages = 0
-        self.directories = {}
-        self.script = []
-        self.taken = self.images = 0
+        self.next, self.clock = dict.fromkeys(houses, 0), dict.fromkeys(houses, 0)
+        # The serials of the messages, by receiver and octets.
+        self.posted: dict[tuple[int, str], list[int]] = collections.defaultdict(list)
+        self.messages = self.taken = self.images = 0
+        self.console = Console()
+        self.script: Script = []
 
-    def say(self, line, answer=None):
+    def say(self, line: str, answer: list[str] | None = None) -> None:
+        """Writes a line of the script."""
         self.script.append((line, answer))
 
-    # ---- the houses
-
-    def begin(self):
-        nodes, fresh = {}, 1
+    def begin(self) -> None:
+        """Makes all houses: those that have journals, and those that these name."""
+        nodes: dict[str, int] = {}
+        fresh = 1
         for house, entries in sorted(self.houses.items()):
             words = entries[0].line.split(" ")
             node = words[2].lower()
@@ -73,14 +79,14 @@ class Explainer:
             self.say(f"house {house} {node}", ["ok"])
             self.show(house, entries[0])
             self.next[house] = 1
-        others = set().union(*map(named_houses, self.houses.values())) - set(self.houses)
-        for house in sorted(others):
+        named = {it for entries in self.houses.values() for it in named_houses(entries)}
+        for house in sorted(named - set(self.houses)):
             while f"{fresh:012x}" in nodes:
                 fresh += 1
             nodes[f"{fresh:012x}"] = house
             self.say(f"house {house} {fresh:012x}")
 
-    def show(self, house, entry):
+    def show(self, house: int, entry: Record) -> None:
         """The messages of an entry, and the image after it if a record has it, have to be those of the replay."""
         for to, octets in entry.posts if entry.kind != "start" else []:
             self.messages += 1
@@ -90,9 +96,7 @@ class Explainer:
             self.images += 1
             self.say(f"octets house {house}", [f"ok {len(entry.image)} {entry.image.hex()}"])
 
-    # ---- an entry
-
-    def step(self, house):
+    def step(self, house: int) -> None:
         """Explains the next entry of a house, or what it was asked, or says why not."""
         item = self.items[house][self.next[house]]
         if isinstance(item, Asked):
@@ -110,7 +114,8 @@ class Explainer:
             self.show(house, item)
         self.next[house] += 1
 
-    def start(self, house, entry):
+    def start(self, house: int, entry: Record) -> None:
+        """A house crashed, and starts."""
         self.say(f"crash {house}")
         if self.clock[house]:
             self.say(f"clock {house} 0")
@@ -118,65 +123,56 @@ class Explainer:
         self.clock[house] = 0
         self.show(house, entry)
 
-    def script_line(self, house, entry):
+    def script_line(self, house: int, entry: Record) -> str:
         """The script's line of a turn, whose numbers have to be those that a console gives."""
         words = entry.line.split(" ")
-        match words[0]:
-            case "take":
-                return self.deliver_line(house, words[1], entry.place)
-            case "root":
-                self.number_root(house, words, entry.place)
-                return " ".join(["root", str(house), *words[1:]])
-            case "mkdir":
-                self.number_directory(house, words, entry.place)
-                return " ".join(["mkdir", str(house), *words[1:3], str(house), *words[4:]])
-            case "epoch":
-                return self.epoch_line(house, words, entry.place)
-            case command:
-                return " ".join([command, str(house), *words[1:]])
+        if words[0] == "take":
+            return self.deliver_line(house, words[1], entry.place)
+        if words[0] == "epoch":
+            return self.epoch_line(house, words, entry.place)
+        if words[0] in ("root", "mkdir"):
+            self.check_directory(words, entry.place)
+            self.console.done(house, entry.line)
+            words[3:4] = [str(house)] if words[0] == "mkdir" else words[3:4]
+        return " ".join([words[0], str(house), *words[1:]])
 
-    def deliver_line(self, house, octets, place):
+    def deliver_line(self, house: int, octets: str, place: str) -> str:
+        """The line that delivers a message to a house."""
         serials = self.posted.get((house, octets))
         if not serials:
             raise Unexplained(f"{place}: took a message that no house posted", waits=True)
         self.taken += 1
         return f"deliver {serials[0]}"
 
-    def number_root(self, house, words, place):
-        if 1 in self.directories:
+    def check_directory(self, words: list[str], place: str) -> None:
+        """A directory has to be the next one."""
+        due = self.console.next_directory
+        if words[0] == "root" and due > 1:
             raise Unexplained(f"{place}: a second root")
-        self.directories[1] = (1, listing({}, 1, house, words[1:]))
+        if words[0] == "mkdir" and int(words[3]) < due:
+            raise Unexplained(f"{place}: directory {words[3]} was made before")
+        if words[0] == "mkdir" and (int(words[3]) > due or due == 1):
+            raise Unexplained(f"{place}: directory {words[3]} where the next one is {due}", waits=True)
 
-    def number_directory(self, house, words, place):
-        number, due = int(words[3]), max(self.directories, default=0) + 1
-        if number < due:
-            raise Unexplained(f"{place}: directory {number} was made before")
-        if number > due or due == 1:
-            raise Unexplained(f"{place}: directory {number} where the next one is {due}", waits=True)
-        self.directories[number] = (1, listing({}, 1, house, words[4:]))
-
-    def epoch_line(self, house, words, place):
+    def epoch_line(self, house: int, words: list[str], place: str) -> str:
+        """The script's line of an epoch."""
         directory, epoch = int(words[1]), int(words[2])
-        last, before = self.directories.get(directory, (0, {}))
+        last, before = self.console.directories.get(directory, (0, {}))
         if last != epoch - 1 or not before:
             raise Unexplained(f"{place}: epoch {epoch} where the last one is {last}", waits=epoch > last)
         cut = words.index("-") if "-" in words else len(words)
         parts = [word.split(":") for word in words[3:cut]]
         others = [("s" if kind == "s" else "") + at for at, _, kind in parts if kind != "m"]
-        members = listing(before, epoch, house, others)
-        given = [f"{at}:{since}:{kind}" for at, (since, kind) in members.items()]
-        left = [str(at) for at in before if at not in members]
-        if given != words[3:cut] or left != words[cut + 1 :] or house not in before:
-            raise Unexplained(f"{place}: the console would give {' '.join(given)} - {' '.join(left)}")
-        self.directories[directory] = (epoch, members)
+        due = self.console.epoch_line(directory, house, others)
+        if " ".join(words) != due or house not in before:
+            raise Unexplained(f"{place}: the console would give {due.split(' ', 3)[3]}")
+        self.console.done(house, due)
         return " ".join(["epoch", str(directory), str(house), *others])
 
-    # ---- what is no turn
-
-    def answer(self, house, asked):
+    def answer(self, house: int, asked: Asked) -> None:
         """A question, or a line that was refused or not taken, asked again in the replay."""
         words, answer = asked.words, asked.answer
-        known = len(words) > 1 and words[1].isdigit() and int(words[1]) in self.directories
+        known = len(words) > 1 and words[1].isdigit() and int(words[1]) in self.console.directories
         if words[0] in ("dump", *UPDATES):
             line = " ".join([words[0], str(house), *words[1:]])
             self.say(line, answer if known else ["refused NoDirectory"])
@@ -188,9 +184,7 @@ class Explainer:
         elif words[0] == "take":
             self.say(self.deliver_line(house, words[1], f"house {house}"), answer)
 
-    # ---- the order
-
-    def run(self):
+    def run(self) -> None:
         """The houses in turn, each as far as it comes."""
         self.begin()
         while True:
@@ -202,7 +196,7 @@ class Explainer:
                 # one that can never be explained comes before those that wait for it
                 raise min(reasons, key=lambda reason: reason.waits)
 
-    def run_in_any_order(self, random):
+    def run_in_any_order(self, random: Random) -> None:
         """As `run`, but each step is of a random house of those that come on."""
         self.begin()
         while left := [house for house in self.houses if self.next[house] < len(self.items[house])]:
@@ -211,9 +205,9 @@ class Explainer:
             if len(reasons) == len(left):
                 raise min(reasons, key=lambda reason: reason.waits)
 
-    def stopped_before_one(self, houses):
+    def stopped_before_one(self, houses: list[int]) -> list[Unexplained]:
         """Takes a step of the first of these houses that comes on. Returns why those before it do not."""
-        reasons = []
+        reasons: list[Unexplained] = []
         for house in houses:
             try:
                 self.step(house)
@@ -222,7 +216,7 @@ class Explainer:
                 reasons.append(reason)
         return reasons
 
-    def go_on(self, house):
+    def go_on(self, house: int) -> Unexplained | None:
         """Explains a house as far as it comes. Returns why it stops, or None at its end."""
         while self.next[house] < len(self.items[house]):
             try:
@@ -232,14 +226,25 @@ class Explainer:
         return None
 
 
-def script_of(houses):
-    """The script that explains journals, {house: entries}, without the questions that compare it."""
-    explainer = Explainer(houses)
+def explained(houses: Houses, asked: Questions | None = None) -> Explainer:
+    """An explainer that has explained these houses."""
+    explainer = Explainer(houses, asked)
     explainer.run()
-    return [line for line, _ in explainer.script if not line.startswith("octets ")]
+    return explainer
 
 
-def with_asked(house, entries, asked):
+def script_of(houses: Houses) -> list[str]:
+    """The script that explains houses, without the questions that compare it."""
+    return without_questions(explained(houses).script)
+
+
+def without_questions(script: Script) -> list[str]:
+    """The lines of a script, without the questions that compare it."""
+    return [line for line, _ in script if not line.startswith("octets ")]
+
+
+def with_asked(house: int, entries: Sequence[Record], asked: Questions) -> Iterator[Record | Asked]:
+    """The entries of a house, each with what the house was asked after it."""
     for entry in entries:
         yield entry
         yield from asked.get((house, entry.number), ())

@@ -1,4 +1,6 @@
-"""A net that loses, repeats, delays and reorders messages. It never makes one up, and gives each to its receiver alone."""
+"""A net that loses, repeats, delays and reorders messages. It never makes one up, and gives each to its receiver
+alone."""
+
 from __future__ import annotations
 
 from random import Random
@@ -15,9 +17,11 @@ class Net:
         self.lost = self.repeated = self.posted = 0
 
     def chance(self, of_hundred: float) -> bool:
+        """Whether something happens that does so often of a hundred times."""
         return self.random.random() * 100 < of_hundred
 
     def post(self, messages: list[Message]) -> None:
+        """Takes messages that were posted."""
         for message in messages:
             self.posted += 1
             if self.chance(self.loss):

@@ -1,9 +1,11 @@
-"""Writes the folder of a house of version 1 as one of version 2 (docs/HOUSE.md): its turns have no images, and each process one segment."""
+"""Writes the folder of a house of version 1 as one of version 2 (docs/HOUSE.md): its turns have no images, and each
+process one segment."""
+
 from __future__ import annotations
 
 import os
 
-import journals
+from cds import journals
 
 
 def body_of(record: journals.Record) -> bytes:
@@ -13,8 +15,8 @@ def body_of(record: journals.Record) -> bytes:
 
 
 def lives(folder: str) -> list[tuple[journals.Segment, list[bytes]]]:
-    """The processes of a folder: the segment in which one began, and the bodies of its records. One whose first segment was removed is
-    left out."""
+    """The processes of a folder: the segment in which one began, and the bodies of its records. One whose first segment
+    was removed is left out."""
     found: list[tuple[journals.Segment, list[bytes]]] = []
     for segment in journals.segments(folder, version=journals.EARLIER):
         for record in segment.records:
@@ -23,7 +25,9 @@ def lives(folder: str) -> list[tuple[journals.Segment, list[bytes]]]:
             if record.kind != "segment" and found:
                 found[-1][1].append(body_of(record))
     if not found:
-        raise journals.Damaged(f"{folder}: no process began in a segment that is there: start the house once with its own program")
+        raise journals.Damaged(
+            f"{folder}: no process began in a segment that is there: start the house once with its own program"
+        )
     return found
 
 
@@ -37,7 +41,7 @@ def renew(folder: str, target: str) -> str:
     first = found[0][0]
     before = first.before
     for number, (_, bodies) in enumerate(found, first.number):
-        octets = b"".join(journals.chained(number, before, bodies))
+        octets = journals.sealed(number, bodies, before)
         with open(f"{target}/{number}", "xb") as file:
             size += file.write(octets)
         before = octets[-journals.SUM - 1 : -1]

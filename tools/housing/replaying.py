@@ -1,24 +1,30 @@
 """Replays a script, and compares the answers with those that the journals have."""
-import subprocess
+
+from __future__ import annotations
+
+import dataclasses
+
+from cds.answers import answers_of
+from cds.programs import ran
+from housing.explaining import Script
 
 
-def answers_of(octets: bytes) -> dict[int, list[str]]:
-    """The answers of an output: the lines of each number without it."""
-    found: dict[int, list[str]] = {}
-    for line in octets.decode("ascii").splitlines():
-        number, _, text = line.partition(" ")
-        found.setdefault(int(number), []).append(text)
-    return found
+@dataclasses.dataclass(frozen=True)
+class Difference:
+    """A line that the replay answers otherwise, and its place, from 0 on."""
+
+    place: int
+    line: str
+    answer: str
+    due: str
 
 
-def differences(program: str, script: list[tuple[str, list[str] | None]]) -> tuple[list[tuple[str, str, str]], int]:
-    """What `PROGRAM run` answers otherwise than the script, as (line, answer, what is due), and how many lines were compared."""
-    lines = "".join(f"{line}\n" for line, _ in script)
-    ran = subprocess.run([program, "run"], input=lines.encode(), capture_output=True, check=False)
-    answers = answers_of(ran.stdout)
-    found = [] if ran.returncode == 0 else [("status", str(ran.returncode), "0")]
-    for number, (line, due) in enumerate(script, 1):
-        answer = answers.get(number, [])
+def differences(program: str, script: Script) -> list[Difference]:
+    """What `PROGRAM run` answers otherwise than the script; last its status, if that is not 0."""
+    status, output = ran([program, "run"], "".join(f"{line}\n" for line, _ in script).encode())
+    answers, found = answers_of(output), list[Difference]()
+    for place, (line, due) in enumerate(script):
+        answer = answers.get(place + 1, [])
         if answer != due if due is not None else not answer or not answer[-1].startswith("ok"):
-            found.append((line, "; ".join(answer)[:300], "; ".join(due or ["ok"])[:300]))
-    return found, len(script)
+            found.append(Difference(place, line, "; ".join(answer)[:300], "; ".join(due or ["ok"])[:300]))
+    return found + [Difference(len(script), "status", str(status), "0")] * (status != 0)

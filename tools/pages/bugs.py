@@ -1,11 +1,15 @@
 """What each planted bug changes, and which functions of docs/RULES.md it so belongs to."""
+
+from __future__ import annotations
+
 import functools
 import re
+from collections.abc import Iterator
 
 from . import sources
 
 
-def changed_lines(crate, name):
+def changed_lines(crate: str, name: str) -> Iterator[tuple[str, int]]:
     """The file and the line of each text that a planted bug changes."""
     files, olds = sources.bugs()[crate, name]
     for file in files:
@@ -17,13 +21,14 @@ def changed_lines(crate, name):
 
 
 @functools.cache
-def functions_in(path):
+def functions_in(path: str) -> list[sources.Function]:
     """The functions of a file, in the order of their lines."""
     return sorted((it for it in sources.functions() if it.file == path), key=lambda it: it.line)
 
 
-def changed(crate, name):
-    """The functions that a planted bug changes; of a constant or a derived order those that name it, and of a definition the crate's laws."""
+def changed(crate: str, name: str) -> set[sources.Function]:
+    """The functions that a planted bug changes; of a constant or a derived order those that name it, and of a
+    definition the crate's laws."""
     found = set()
     for path, line in changed_lines(crate, name):
         if "/specs/" in path:
@@ -34,7 +39,7 @@ def changed(crate, name):
     return found
 
 
-def users_of(crate, path, line):
+def users_of(crate: str, path: str, line: int) -> set[sources.Function]:
     """The functions that name the constant or the type at a line: of its crate, or else of those above it."""
     before = sources.text_of(path).split("\n")[:line]
     named = [it for text in before for it in re.findall(r"^ *(?:pub(?:\([^)]*\))? )?(?:const|struct|enum) (\w+)", text)]
@@ -44,9 +49,10 @@ def users_of(crate, path, line):
 
 
 @functools.cache
-def callers():
+def callers() -> dict[sources.Function, set[sources.Function]]:
     """Of each function those that can call it."""
-    calls, found = sources.Calls(), {}
+    calls = sources.Calls()
+    found: dict[sources.Function, set[sources.Function]] = {}
     for it in sources.functions():
         if not it.is_test and it.crate not in sources.TESTS:
             for called in calls.of(it):
@@ -54,7 +60,7 @@ def callers():
     return found
 
 
-def nearest(functions, named):
+def nearest(functions: set[sources.Function], named: set[sources.Function]) -> set[sources.Function]:
     """The functions of `named` that are these, or else the nearest ones above them that call them."""
     known, level = set(functions), set(functions)
     while level and not level & named:
@@ -63,9 +69,13 @@ def nearest(functions, named):
     return level & named
 
 
-def by_function(named):
-    """Of each function of `named` the planted bugs that change it, or what only such functions call; and the bugs of none."""
-    found, lost = {}, []
+def by_function(
+    named: set[sources.Function],
+) -> tuple[dict[sources.Function, list[tuple[str, str]]], list[tuple[str, str]]]:
+    """Of each function of `named` the planted bugs that change it, or what only such functions call; and the bugs of
+    none."""
+    found: dict[sources.Function, list[tuple[str, str]]] = {}
+    lost = []
     for crate, name in sorted(sources.bugs()):
         at = nearest(changed(crate, name), named)
         for it in at:

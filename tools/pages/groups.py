@@ -1,4 +1,5 @@
-"""The groups of crates, as the headings of crates.txt have them: the page crates/README.md and the picture of the groups are made from them."""
+"""The groups of crates, as the headings of crates.txt have them: the page crates/README.md and the picture of the
+groups are made from them."""
 from __future__ import annotations
 
 import re
@@ -70,7 +71,10 @@ def between(groups: list[Group], edges: Edges) -> Edges:
             reached[name] = used[name].union(*(all_under(it) for it in used[name]))
         return reached[name]
 
-    return {name: {it for it in below if not any(it in all_under(one) for one in below - {it})} for name, below in used.items()}
+    return {
+        name: {it for it in below if not any(it in all_under(one) for one in below - {it})}
+        for name, below in used.items()
+    }
 
 
 def levels(arrows: Edges) -> list[list[str]]:
@@ -92,7 +96,11 @@ def drawn(groups: list[Group], edges: Edges) -> str:
     rows = levels(arrows)
     width = 2 * EDGE + max(len(it) for it in rows) * (WIDE + ACROSS) - ACROSS
     height = 2 * EDGE + len(rows) * (HIGH + DOWN) - DOWN
-    at = {name: centre(row, place, len(names), width) for row, names in enumerate(rows) for place, name in enumerate(names)}
+    at = {
+        name: centre(row, place, len(names), width)
+        for row, names in enumerate(rows)
+        for place, name in enumerate(names)
+    }
     lines = [arrow(at[name], at[it]) for name in arrows for it in sorted(arrows[name])]
     lines += [box(name, few[name], *at[name]) for name in arrows]
     head = f'<svg xmlns="http://www.w3.org/2000/svg" width="{width}" height="{height}" viewBox="0 0 {width} {height}">'
@@ -110,7 +118,10 @@ def centre(row: int, place: int, of: int, width: int) -> tuple[int, int]:
 def arrow(begin: tuple[int, int], end: tuple[int, int]) -> str:
     """An arrow from a box to one that it uses."""
     (x, y), (to, down) = begin, end
-    return f'<path d="M{x} {y + HIGH}C{x} {y + HIGH + DOWN // 2} {to} {down - DOWN // 2} {to} {down}" marker-end="url(#tip)"/>'
+    return (
+        f'<path d="M{x} {y + HIGH}C{x} {y + HIGH + DOWN // 2} {to} {down - DOWN // 2} {to} {down}"'
+        ' marker-end="url(#tip)"/>'
+    )
 
 
 def box(name: str, crates: int, x: int, y: int) -> str:
@@ -142,16 +153,30 @@ def page(groups: list[Group], edges: Edges) -> str:
     lines = [
         "# The crates",
         "",
-        "Made by `tools/map` from the headings of `crates.txt` and from the first sentence of each crate. A group uses groups below it alone.",
-        "[ARCHITECTURE](../docs/ARCHITECTURE.md#the-crates) says of each crate what it owns, what it may not know, and what it promises;",
-        "[LAWS](LAWS.md) has the laws of all crates, and [BELIEVED](BELIEVED.md) the definitions that have to be believed, by file.",
+        (
+            "Made by `tools/map` from the headings of `crates.txt` and from the first sentence of each crate. A group"
+            " uses groups below it alone."
+        ),
+        (
+            "[ARCHITECTURE](../docs/ARCHITECTURE.md#the-crates) says of each crate what it owns, what it may not know,"
+            " and what it promises;"
+        ),
+        (
+            "[LAWS](LAWS.md) has the laws of all crates, and [BELIEVED](BELIEVED.md) the definitions that have to be"
+            " believed, by file."
+        ),
         "",
         "![The groups of crates, and which uses which](../docs/crates.svg)",
         "",
         *made_of(made),
     ]
     for group in groups:
-        lines += ["", f"## {group.name}", "", *([f"{group.purpose[0].upper()}{group.purpose[1:]}.", ""] if group.purpose else [])]
+        lines += [
+            "",
+            f"## {group.name}",
+            "",
+            *([f"{group.purpose[0].upper()}{group.purpose[1:]}.", ""] if group.purpose else []),
+        ]
         lines += ["| crate | what it is | in |", "|---|---|---|"]
         lines += [f"| `{it}` | {first_sentence(it)} | {in_programs(it, made)} |" for it in group.crates]
     return "\n".join(lines) + "\n"
@@ -168,5 +193,8 @@ def made_of(made: Edges) -> list[str]:
     shared: dict[tuple[str, ...], list[str]] = {}
     for crate in sorted(set().union(*made.values()) - set(PROGRAMS)):
         shared.setdefault(tuple(it for it in PROGRAMS if crate in made[it]), []).append(crate)
-    rows = [f"| {', '.join(f'`{it}`' for it in programs)} | {len(crates)} |" for programs, crates in sorted(shared.items(), key=lambda it: -len(it[0]))]
+    rows = [
+        f"| {', '.join(f'`{it}`' for it in programs)} | {len(crates)} |"
+        for programs, crates in sorted(shared.items(), key=lambda it: -len(it[0]))
+    ]
     return ["| crates that are in | |", "|---|---|", *rows]

@@ -19,8 +19,14 @@ def page(groups: list[Group]) -> str:
     lines = [
         "# The laws",
         "",
-        "Made by `tools/map` from the comments of `crates/NAME/src/laws.rt`. A law is a function that does nothing, and",
-        "whose contract is a theorem. [PROVED](../docs/PROVED.md) says which of them carry the promises of the programs.",
+        (
+            "Made by `tools/map` from the comments of `crates/NAME/src/laws.rt`. A law is a function that does"
+            " nothing, and"
+        ),
+        (
+            "whose contract is a theorem. [PROVED](../docs/PROVED.md) says which of them carry the promises of the"
+            " programs."
+        ),
     ]
     for crate in (it for group in groups for it in group.crates):
         laws = told_in(sources.text_of(f"crates/{crate}/src/laws.rt"))

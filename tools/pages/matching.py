@@ -1,5 +1,9 @@
 """Which files match over what a change adds to: an enum of the code, or a type of the model."""
+
+from __future__ import annotations
+
 import re
+from collections.abc import Iterator
 
 from . import sources
 
@@ -16,7 +20,7 @@ ADDED = {
 SEVERAL = 3
 
 
-def matching(added):
+def matching(added: str) -> Iterator[tuple[str, str]]:
     """The crates and the names of the files that match over what is added: `file.rt`, and `File` of definitions."""
     enums, types = ADDED[added]
     for crate in sources.stood_on():
@@ -27,18 +31,19 @@ def matching(added):
             for file in sources.files_of(crate, "specs", "antt"):
                 text = sources.text_of(file)
                 if any(len(in_definitions(text, rf"\w+\.{it}\.TheVariants")) >= SEVERAL for it in enums) or any(
-                    len(in_definitions(text, rf"cell_model\.specs\.{of}") & variants(of, it)) >= SEVERAL for of, it in types
+                    len(in_definitions(text, rf"cell_model\.specs\.{of}") & variants(of, it)) >= SEVERAL
+                    for of, it in types
                 ):
                     yield crate, file.split("/")[-1][:-5]
 
 
-def in_code(text, enum):
+def in_code(text: str, enum: str) -> set[str]:
     """The variants of an enum that patterns of a source name."""
     text = re.sub(r"(?m)^ghost use.*$", "", text)
     return set(re.findall(rf"\b{enum}::([A-Z]\w+)(?=[^=;{{}}]*(?:=>|\|))", text))
 
 
-def in_definitions(text, imported):
+def in_definitions(text: str, imported: str) -> set[str]:
     """The names of an import that definitions use."""
     body = "\n".join(it for it in text.split("\n") if not it.startswith(("use ", "--")))
     found = set()
@@ -50,7 +55,7 @@ def in_definitions(text, imported):
     return found
 
 
-def variants(file, kind):
+def variants(file: str, kind: str) -> set[str]:
     """The constructors of a type of the model."""
     rows = re.search(rf"data {kind} .*?where\n((?:  .*\n)+)", sources.text_of(f"crates/cell_model/specs/{file}.antt"))
-    return set(re.findall(r"(?m)^  (?:pub )?(\w+) :", rows.group(1)))
+    return set(re.findall(r"(?m)^  (?:pub )?(\w+) :", rows.group(1))) if rows else set()

@@ -16,7 +16,7 @@ CONSTANT = re.compile(r"(?m)^(?:pub(?:\([^)]*\))? )?const (\w+): [^=]+ = ([^;]+)
 def said_in(rule: str) -> dict[str, set[int]]:
     """The numbers that the words of a rule name, each with what it may be: octets of names are in hexadecimal."""
     text = re.sub(r"`[^`]*`", "", rule)
-    found = {}
+    found: dict[str, set[int]] = {}
     for word in SAID.findall(text):
         number = word.replace(",", "")
         octet = {int(number, 16)} if len(number) == 2 else set()
@@ -57,7 +57,8 @@ def with_constants(text: str) -> str:
 
 
 def of_definitions(names: list[tuple[str, str]]) -> str:
-    """The text of definitions, each of a crate and `File.name`, of those that they name, and of those that these name."""
+    """The text of definitions, each of a crate and `File.name`, of those that they name, and of those that these
+    name."""
     known = {it for crate, word in names if (it := beliefs.found_in(crate, *word.split(".", 1))) is not None}
     for _ in range(2):
         known |= {it for one in known for it in one.file.named_by(one) if it is not None}

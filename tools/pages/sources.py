@@ -1,4 +1,8 @@
-"""What the sources of the crates say, read as text: functions and whom they call by name, planted bugs, tests, definitions."""
+"""What the sources of the crates say, read as text: functions and whom they call by name, planted bugs, tests,
+definitions."""
+
+from __future__ import annotations
+
 import functools
 import glob
 import os
@@ -13,7 +17,7 @@ EXAMPLES = ("two_houses",)
 
 
 @functools.cache
-def text_of(file):
+def text_of(file: str) -> str:
     """The text of a file, given from the root on; empty where there is none."""
     path = f"{ROOT}/{file}"
     if not os.path.isfile(path):
@@ -23,14 +27,14 @@ def text_of(file):
 
 
 @functools.cache
-def stood_on():
+def stood_on() -> dict[str, set[str]]:
     """The crates of crates.txt, each with those of the repository that it stands on, itself included."""
     lines = [it.split(":") for it in text_of("crates.txt").splitlines() if it.strip() and not it.startswith("#")]
     names = {first.split()[0] for first, _ in lines}
     return {first.split()[0]: {first.split()[0], *(names & set(rest.split()))} for first, rest in lines}
 
 
-def files_of(crate, folder, ending):
+def files_of(crate: str, folder: str, ending: str) -> list[str]:
     """The files of a crate's folder, from the root on."""
     found = glob.glob(f"{ROOT}/crates/{crate}/{folder}/**/*.{ending}", recursive=True)
     return sorted(os.path.relpath(it, ROOT) for it in found)
@@ -39,18 +43,33 @@ def files_of(crate, folder, ending):
 class Function:
     """A function: its crate, file, owner (the type of its `impl`, or its trait), name, parameters and body."""
 
-    def __init__(self, crate, file, owner, trait, head, body, line, is_test):
-        self.crate, self.file, self.owner, self.trait, self.line, self.is_test = crate, file, owner, trait, line, is_test
-        self.name = re.search(r"\bfn (\w+)", head).group(1)
+    def __init__(
+        self, crate: str, file: str, owner: str, trait: str, head: str, body: str, line: int, is_test: bool
+    ) -> None:
+        self.crate, self.file, self.owner, self.trait, self.line, self.is_test = (
+            crate,
+            file,
+            owner,
+            trait,
+            line,
+            is_test,
+        )
+        self.name = re.findall(r"\bfn (\w+)", head)[0]
         self.head, self.body = head, body
         inner = inside(head, head.index("(", head.index(f"fn {self.name}")))
         parameters = [it.strip() for it in split_at_commas(inner) if it.strip()]
-        self.is_method = bool(parameters) and re.fullmatch(r"&?(?:'\w+ )?(?:mut )?self(?:: .*)?", parameters[0]) is not None
+        self.is_method = (
+            bool(parameters) and re.fullmatch(r"&?(?:'\w+ )?(?:mut )?self(?:: .*)?", parameters[0]) is not None
+        )
         self.arity = len(parameters) - self.is_method
-        self.types = {it.split(":")[0].removeprefix("mut ").strip(): set(re.findall(r"\b[A-Z]\w*", it)) for it in parameters if ":" in it}
+        self.types = {
+            it.split(":")[0].removeprefix("mut ").strip(): set(re.findall(r"\b[A-Z]\w*", it))
+            for it in parameters
+            if ":" in it
+        }
 
 
-def inside(text, at):
+def inside(text: str, at: int) -> str:
     """What stands between the bracket at a place and its partner."""
     depth, begin = 0, at + 1
     for place in range(at, len(text)):
@@ -60,7 +79,7 @@ def inside(text, at):
     return text[begin:]
 
 
-def split_at_commas(text):
+def split_at_commas(text: str) -> list[str]:
     """The parts of a text between commas that no bracket encloses."""
     parts, depth, last = [], 0, 0
     for at, letter in enumerate(text):
@@ -71,14 +90,15 @@ def split_at_commas(text):
     return [*parts, text[last:]]
 
 
-def bare(text):
+def bare(text: str) -> str:
     """A source without comments and without what its strings say, each in as many lines as it had."""
     text = re.sub(r"//[^\n]*", "", text)
     return re.sub(r'b?"(?:[^"\\]|\\.)*"', lambda it: '""' + "\n" * it.group().count("\n"), text, flags=re.S)
 
 
-def functions_of(crate, file):
-    """The functions of a file. The layout of `rt fmt` is taken for granted: a body ends at the indentation of its head."""
+def functions_of(crate: str, file: str) -> list[Function]:
+    """The functions of a file. The layout of `rt fmt` is taken for granted: a body ends at the indentation of its
+    head."""
     lines = bare(text_of(file)).split("\n")
     found, owner, trait, is_test, at = [], "", "", False, 0
     while at < len(lines):
@@ -103,7 +123,7 @@ def functions_of(crate, file):
     return found
 
 
-def parted(lines, indent):
+def parted(lines: list[str], indent: str) -> tuple[str, str]:
     """The head of a function, and its body. Behind clauses the body begins at a bracket of its own."""
     own = [at for at, text in enumerate(lines) if text == indent + "{"]
     if own:
@@ -112,19 +132,19 @@ def parted(lines, indent):
     return "\n".join(lines[: last + 1]), "\n".join(lines[last + 1 :] or lines[:1])
 
 
-def owner_of(said):
+def owner_of(said: str) -> tuple[str, str]:
     """The type of an `impl`, or the trait, and the trait that is implemented, if any."""
     said = said.split("{")[0].split(" where ")[0]
     said = re.sub(r"<[^<>]*(?:<[^<>]*>[^<>]*)*>", "", said)
     if re.match(r"(?:pub(?:\([^)]*\))? )?trait\b", said):
-        return re.search(r"trait (\w+)", said).group(1), ""
+        return re.findall(r"trait (\w+)", said)[0], ""
     said = said.split("impl", 1)[1]
     first, mark, second = said.partition(" for ")
     words = re.findall(r"\w+", (second if mark else first))
     return (words[-1] if words else ""), (re.findall(r"\w+", first)[-1] if mark else "")
 
 
-def end_of(lines, at, indent):
+def end_of(lines: list[str], at: int, indent: str) -> int:
     """The last line of the function whose head begins at a line."""
     for place in range(at, len(lines)):
         text = lines[place]
@@ -137,15 +157,15 @@ def end_of(lines, at, indent):
 
 
 @functools.cache
-def functions():
+def functions() -> list[Function]:
     """All functions of all crates."""
     return [it for crate in stood_on() for file in files_of(crate, "src", "rt") for it in functions_of(crate, file)]
 
 
 @functools.cache
-def fields():
+def fields() -> dict[str, set[str]]:
     """Of each name of a field the types that such fields have, in any crate."""
-    found = {}
+    found: dict[str, set[str]] = {}
     for crate in stood_on():
         for file in files_of(crate, "src", "rt"):
             for name, kind in re.findall(r"(?m)^    (?:pub(?:\([^)]*\))? )?(\w+): ([^,\n{]+),", bare(text_of(file))):
@@ -154,7 +174,7 @@ def fields():
 
 
 @functools.cache
-def traits():
+def traits() -> set[str]:
     """The traits of the repository, by their names."""
     return {it.owner for it in functions() if re.search(rf"trait {it.owner}\b", text_of(it.file))} - {""}
 
@@ -162,12 +182,14 @@ def traits():
 class Calls:
     """Which functions a body can call, by names, numbers of arguments, and types where the text tells them."""
 
-    def __init__(self):
+    by_name: dict[str, list[Function]]
+
+    def __init__(self) -> None:
         self.by_name = {}
         for it in functions():
             self.by_name.setdefault(it.name, []).append(it)
 
-    def of(self, caller):
+    def of(self, caller: Function) -> set[Function]:
         """The functions that a function can call."""
         found, below = set(), stood_on()[caller.crate]
         for match in re.finditer(r"(\w+)(?=\s*(?:::<[^;(]*?>)?\()|(?<=::)(\w+)\b|\b([a-z_]\w*)\b", caller.body):
@@ -176,12 +198,16 @@ class Calls:
                 found.update(self.chosen(caller, below, name, match))
         return found
 
-    def chosen(self, caller, below, name, match):
+    def chosen(self, caller: Function, below: set[str], name: str, match: re.Match[str]) -> list[Function]:
         """The functions of a name that may be meant where it stands."""
         body, at = caller.body, match.start()
         behind = body[match.end() :].lstrip()
         is_call = behind.startswith(("(", "::<"))
-        arity = len([it for it in split_at_commas(inside(behind, behind.index("("))) if it.strip()]) if is_call and "(" in behind else None
+        arity = (
+            len([it for it in split_at_commas(inside(behind, behind.index("("))) if it.strip()])
+            if is_call and "(" in behind
+            else None
+        )
         front = body[:at].rstrip()
         several = [it for it in self.by_name[name] if it.crate in below or it.trait in traits()]
         if front.endswith("."):
@@ -189,8 +215,8 @@ class Calls:
             owners = self.receivers(caller, front[:-1].rstrip())
             return self.narrowed(several, owners)
         if front.endswith("::"):
-            owner = re.search(r"(\w+)(?:::<[^;]*>)?::$", front)
-            owner = owner.group(1) if owner else ""
+            named = re.search(r"(\w+)(?:::<[^;]*>)?::$", front)
+            owner = named.group(1) if named else ""
             owner = caller.owner if owner == "Self" else owner
             if len(owner) == 1:
                 return [it for it in several if it.owner in traits()]
@@ -201,7 +227,7 @@ class Calls:
         same = [it for it in several if not it.owner and arity in (None, it.arity)]
         return [it for it in same if it.file == caller.file] or same
 
-    def receivers(self, caller, front):
+    def receivers(self, caller: Function, front: str) -> set[str]:
         """The types that the receiver of a call may have, or none where the text does not tell."""
         if re.search(r"(?<![\w.])self$", front):
             return {caller.owner}
@@ -217,20 +243,30 @@ class Calls:
         field = re.search(r"\.(\w+)(?:\[[^\]]*\])?$", front)
         return fields().get(field.group(1), set()) if field else set()
 
-    def narrowed(self, several, owners):
+    def narrowed(self, several: list[Function], owners: set[str]) -> list[Function]:
         """Of several methods those of these types, or all where none is."""
         fit = [it for it in several if it.owner in owners or it.trait in owners]
         return fit or several
 
 
 @functools.cache
-def reached():
-    """The functions that `run` of cell_replay and of mend_program, and `main` of a program, can come to. What implements a trait of the
-    standard library is called in ways that no name tells, so of a crate of the program it counts as reached.
-    """
+def reached() -> set[Function]:
+    """The functions that `run` of cell_replay and of mend_program, and `main` of a program, can come to. What
+    implements a trait of the standard library is called in ways that no name tells, so of a crate of the program it
+    counts as reached."""
     calls, known = Calls(), set()
     theirs = [it for it in functions() if it.crate not in TESTS]
-    roots = (("cell_replay", "run"), ("cdsreplay", "main"), ("mend_program", "run"), ("cdsmend", "main"), ("house_program", "run"), ("cdshouse", "main"), ("cdsexplain", "main"), ("cds_c", "cds_run"), ("cds_c", "cds_abi"))
+    roots = (
+        ("cell_replay", "run"),
+        ("cdsreplay", "main"),
+        ("mend_program", "run"),
+        ("cdsmend", "main"),
+        ("house_program", "run"),
+        ("cdshouse", "main"),
+        ("cdsexplain", "main"),
+        ("cds_c", "cds_run"),
+        ("cds_c", "cds_abi"),
+    )
     begin = [it for it in theirs if (it.crate, it.name) in roots]
     begin += [it for it in theirs if it.trait and it.trait not in traits()]
     while begin:
@@ -245,19 +281,22 @@ def reached():
 
 
 @functools.cache
-def bugs():
+def bugs() -> dict[tuple[str, str], tuple[list[str], list[str]]]:
     """The planted bugs, each with its file and the texts that it changes."""
     found = {}
     for crate in stood_on():
         for folder in ("must-fail", "plants"):
             for file in files_of(crate, folder, "edit"):
                 text = text_of(file)
-                found[crate, os.path.basename(file)[:-5]] = (re.findall(r"(?m)^file: (\S+)", text), re.findall(r"(?m)^old: (.*)", text))
+                found[crate, os.path.basename(file)[:-5]] = (
+                    re.findall(r"(?m)^file: (\S+)", text),
+                    re.findall(r"(?m)^old: (.*)", text),
+                )
     return found
 
 
 @functools.cache
-def cases():
+def cases() -> list[str]:
     """The names of the cases."""
     return sorted(os.path.basename(it)[:-5] for folder in CASES for it in glob.glob(f"{ROOT}/{folder}/*.case"))
 
@@ -266,10 +305,10 @@ def cases():
 def house_tests() -> set[str]:
     """The names of the tests of houses, and of the file of their cases."""
     texts = (text_of(os.path.relpath(it, ROOT)) for it in glob.glob(f"{ROOT}/tools/housing/*.py"))
-    return {"house.case", *(name for text in texts for name in re.findall(r"(?m)^def (test_\w+)", text))}
+    return {"house.case", *(name for text in texts for name in re.findall(r"(?m)^ +def (test_\w+)", text))}
 
 
 @functools.cache
-def tests():
+def tests() -> set[str]:
     """The names of the test functions."""
     return {it.name for it in functions() if it.is_test}

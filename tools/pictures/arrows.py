@@ -1,6 +1,10 @@
 """The messages of a picture in time, as arrows."""
+
+from __future__ import annotations
+
+from .facts import Message
 from .marks import Marks
-from .rows import LANE, MARK
+from .rows import LANE, MARK, Row
 from .shapes import circle, cross, dots, head, path, text, titled
 from .titles import MOST_LINES, name_of, told
 
@@ -8,19 +12,9 @@ from .titles import MOST_LINES, name_of, told
 class Arrows(Marks):
     """A picture's messages."""
 
-    def messages(self):
-        """The messages that are drawn: those of known houses that are posted, delivered or lost in the picture."""
-        for message in self.replay.messages.values():
-            if message.posted > self.steps[-1].at:
-                break
-            # (what is lost in the step that posted it has no way)
-            is_known = message.sender in self.lane and message.receiver in self.lane and message.lost != message.posted
-            if is_known and self.is_drawn(message.dir):
-                if any(map(self.in_view, (message.posted, *message.deliveries, message.lost))):
-                    yield message
-
-    def draw_message(self, message):
-        """The arrows of a message: to each delivery, to where it was lost, and out of the row where it goes on elsewhere."""
+    def draw_message(self, message: Message) -> None:
+        """The arrows of a message: to each delivery, to where it was lost, and out of the row where it goes on
+        elsewhere."""
         title = self.message_title(message)
         self.used.add(message.kind)
         home = self.row_of(self.column[message.posted]) if self.in_view(message.posted) else None
@@ -41,32 +35,34 @@ class Arrows(Marks):
         if home and (elsewhere or not message.deliveries and message.lost is None):
             self.draw_exit(message, home, title, elsewhere)
 
-    def is_folded(self, at):
+    def is_folded(self, at: int) -> bool:
         """Whether a step shares its column with others, so that its arrow is that of the column."""
         return self.columns[self.column[at]].kind != "one"
 
-    def sign(self, message):
-        """Which way a message goes: 1 down, or -1 up."""
-        return 1 if self.lane_for(message.receiver, message.dir) > self.lane_for(message.sender, message.dir) else -1
-
-    def gap(self, message):
+    def gap(self, message: Message) -> int:
         """How far from its end a message from elsewhere comes in, or to elsewhere goes: more where it goes farther."""
-        return min(18 + 8 * abs(self.lane_for(message.receiver, message.dir) - self.lane_for(message.sender, message.dir)), LANE - 14)
+        return min(
+            18 + 8 * abs(self.lane_for(message.receiver, message.dir) - self.lane_for(message.sender, message.dir)),
+            LANE - 14,
+        )
 
-    def break_y(self, row, message):
-        """Where a message is lost: before it comes to its receiver."""
-        return row.y(self.lane_for(message.receiver, message.dir)) - self.sign(message) * LANE / 2
-
-    def start(self, message, row):
+    def start(self, message: Message, row: Row) -> tuple[float, float]:
         """The place at which a message leaves its sender."""
-        lane, is_mark = self.lane_for(message.sender, message.dir), self.replay.steps[message.posted].house == message.sender
+        lane, is_mark = (
+            self.lane_for(message.sender, message.dir),
+            self.replay.steps[message.posted].house == message.sender,
+        )
         return row.x(self.column[message.posted]), row.y(lane) + self.sign(message) * (MARK / 2 if is_mark else 0)
 
-    def draw_delivery(self, message, at, row, is_home, title):
+    def draw_delivery(self, message: Message, at: int, row: Row, is_home: bool, title: str) -> None:
         """The arrow to a delivery, from where it was posted, or from elsewhere."""
         sign, step = self.sign(message), self.replay.steps[at]
         x, y = row.x(self.column[at]), row.y(self.lane_for(message.receiver, message.dir)) - sign * (MARK / 2 + 1)
-        begin = self.start(message, row) if is_home else (max(row.left - 8, x - self.pitch * 1.1), y - sign * self.gap(message))
+        begin = (
+            self.start(message, row)
+            if is_home
+            else (max(row.left - 8, x - self.pitch * 1.1), y - sign * self.gap(message))
+        )
         points = self.route(row, begin, (x, y))
         shapes = [path(points, "hit"), path(points, "line"), head(points, not step.has_changed)]
         if not is_home:
@@ -74,8 +70,9 @@ class Arrows(Marks):
             self.used.add("elsewhere")
         self.add("arrow", titled(message.kind, title, *shapes))
 
-    def draw_loss(self, message, row, is_home, title):
+    def draw_loss(self, message: Message, row: Row, is_home: bool, title: str) -> None:
         """The way of a message to the cross where it was lost; pale, where it had been taken before."""
+        assert message.lost is not None
         x, y = row.x(self.column[message.lost]) - self.mark_width / 2 - 6, self.break_y(row, message)
         near = (max(row.left - 8, x - self.pitch * 0.8), y - self.sign(message) * 14)
         points = self.route(row, self.start(message, row) if is_home else near, (x, y))
@@ -87,7 +84,7 @@ class Arrows(Marks):
         was_taken = any(self.replay.steps[it].has_changed for it in message.deliveries)
         self.add("arrow", titled(message.kind + (" pale" if was_taken else ""), title, *shapes))
 
-    def draw_exit(self, message, row, title, is_elsewhere):
+    def draw_exit(self, message: Message, row: Row, title: str, is_elsewhere: bool) -> None:
         """The beginning of a message's way that ends in no step of its row: elsewhere, or nowhere."""
         x, y = self.start(message, row)
         # It is flat, so that it is not taken for the way to the next column.
@@ -101,18 +98,18 @@ class Arrows(Marks):
         self.used.add("elsewhere" if is_elsewhere else "pale")
         self.add("arrow", titled(message.kind + ("" if is_elsewhere else " pale"), title, *shapes))
 
-    def is_in(self, row, at):
+    def is_in(self, row: Row, at: int) -> bool:
         """Whether a step is in a row."""
         return self.in_view(at) and self.row_of(self.column[at]) is row
 
-    def stub(self, place, at, sign, way):
+    def stub(self, place: tuple[float, float], at: int, sign: str, way: int) -> str:
         """The line at which a way goes on, as a link to its mark."""
         line = self.replay.steps[at].line
         x, y = place[0] + (4 if sign == ">" else -4), place[1] + (13 if (way > 0) == (sign == ">") else -5)
         words = text(x, y, f"{sign}{line}", "stub" + (" end" if sign == "<" else ""))
         return f'<a href="#line-{line}">{words}</a>' if self.in_view(at) else words
 
-    def route(self, row, begin, end):
+    def route(self, row: Row, begin: tuple[float, float], end: tuple[float, float]) -> list[tuple[float, float]]:
         """The points of a way that passes the marks of the houses between: straight, where that can be."""
         (x, y), (to_x, to_y) = begin, end
         points, sign, slope = [begin], 1 if to_y > y else -1, abs((to_x - x) / (to_y - y)) if to_y != y else 0
@@ -128,7 +125,7 @@ class Arrows(Marks):
                     points += [(free[0] - 3, row.y(lane) - sign * 11), (free[0] + 3, row.y(lane) + sign * 11)]
         return [*points, end]
 
-    def message_title(self, message):
+    def message_title(self, message: Message) -> str:
         """The hover text of a message: where it was posted, and each delivery."""
         lines = [name_of(message), "posted:", *told(self.replay.steps[message.posted])]
         for at in message.deliveries[:MOST_LINES]:

@@ -1,18 +1,41 @@
-"""Draws what happened in a replay as one SVG: houses as lines from left to right, steps as marks on them, messages as arrows."""
+"""Draws what happened in a replay as one SVG: houses as lines from left to right, steps as marks on them, messages as
+arrows."""
+
+from __future__ import annotations
+
 import math
 
-from . import commands
 from .clerks import Clerked
 from .facts import plural
-from .rows import EDGE, LEAST, MARK, OVERHANG, SLOPE
-from .shapes import KINDS, badge, bolt, circle, cross, dots, escaped, head, line, number, path, rect, short, styles, text, width_of
+from .rows import EDGE, LEAST, MARK, OVERHANG, SLOPE, Row
+from cds import records
+from .shapes import (
+    KINDS,
+    badge,
+    bolt,
+    circle,
+    cross,
+    dots,
+    escaped,
+    head,
+    line,
+    number,
+    path,
+    rect,
+    short,
+    styles,
+    text,
+    width_of,
+)
+from .cell import Replay
+from .choice import Choice
 
 HIGHEST = 32_767  # pixels: more many programs don't show
 ROOM = 1_500  # for a heading, and for what is another place where a part begins
 # What the legend says, by groups; the messages begin with their kinds.
 LEGEND = {
     "messages": {
-        **{kind: kind for kind in commands.KINDS},
+        **{kind: kind for kind in records.KINDS},
         "lost": "lost",
         "pale": "never delivered",
         "elsewhere": "goes on elsewhere",
@@ -44,7 +67,7 @@ LEGEND = {
 class Picture(Clerked):
     """The picture of a replay."""
 
-    def draw(self):
+    def draw(self) -> str:
         """The whole picture."""
         self.lay_out(0)
         for row in self.rows:
@@ -62,12 +85,15 @@ class Picture(Clerked):
         self.draw_clerk()
         return self.whole()
 
-    def end_of_words(self, row):
+    def end_of_words(self, row: Row) -> float:
         """Where a row ends, with the words above its last columns."""
-        ends = [row.x(at) + width_of(self.label_of(self.columns[at])) * math.cos(math.radians(SLOPE)) for at in range(row.first, row.end)]
+        ends = [
+            row.x(at) + width_of(self.label_of(self.columns[at])) * math.cos(math.radians(SLOPE))
+            for at in range(row.first, row.end)
+        ]
         return max(row.right + OVERHANG, *ends)
 
-    def whole(self):
+    def whole(self) -> str:
         """The SVG, with its heading and its legend above the rows."""
         width = max(LEAST, *(self.end_of_words(row) for row in self.rows))
         heading, height = self.heading(width)
@@ -82,26 +108,27 @@ class Picture(Clerked):
             f'<g transform="translate(0 {number(height)})">\n{inner}\n</g>\n</svg>\n'
         )
 
-    def parts(self):
+    def parts(self) -> list[tuple[int, int]]:
         """The first and the last line of each part that is not too high."""
-        parts, top = [], 0
+        parts: list[tuple[int, int]] = []
+        top = 0.0
         for row in self.rows:
             first, last = self.columns[row.first].first.line, self.columns[row.end - 1].last.line
             bottom = row.bottom()
             if parts and bottom - top <= HIGHEST - ROOM:
-                parts[-1][1] = last
+                parts[-1] = parts[-1][0], last
             else:
-                parts, top = [*parts, [first, last]], row.lanes
+                parts, top = [*parts, (first, last)], row.lanes
         return parts
 
-    def heading(self, width):
+    def heading(self, width: float) -> tuple[str, float]:
         """The heading, what there is to count, and the legend; and how high they are."""
         first, last = self.steps[0].line, self.steps[-1].line
         lines = f"line {first}" if first == last else f"lines {first} to {last}"
         shapes = [text(EDGE, 24, f"{short(self.name, 60)}: {lines}{self.choice.words()}", "title ink")]
         shapes.append(text(EDGE, 43, self.counts(), "dim"))
-        message = next((it for it in commands.KINDS if it in self.used), "Update")
-        y = 46
+        message = next((it for it in records.KINDS if it in self.used), "Update")
+        x, y = EDGE + 70.0, 46
         if any(it.command in ("import", "lookup") for it in self.steps):
             shapes.append(text(EDGE, 60, "--names draws the tree of its names", "dim"))
             y += 17
@@ -118,24 +145,31 @@ class Picture(Clerked):
                 x += room
         return "\n".join(shapes), y + 22
 
-    def counts(self):
+    def counts(self) -> str:
         """What there is to count in the picture."""
         posted = [it for it in self.replay.messages.values() if self.in_view(it.posted) and self.is_drawn(it.dir)]
         took = {it.serial for it in posted if any(self.replay.steps[at].has_changed for at in it.deliveries)}
         left = [it for it in posted if it.serial not in took]
         lost = sum(it.lost is not None for it in left)
         idle = sum(it.lost is None and bool(it.deliveries) for it in left)
-        parts = [f"{len(took)} taken", f"{lost} lost", f"{idle} refused or late", f"{len(left) - lost - idle} never delivered"]
+        parts = [
+            f"{len(took)} taken",
+            f"{lost} lost",
+            f"{idle} refused or late",
+            f"{len(left) - lost - idle} never delivered",
+        ]
         said = [plural(len(self.steps), "step"), plural(len(self.houses), "house")]
         if posted:
-            said.append(plural(len(posted), "message") + ": " + ", ".join(it for it in parts if not it.startswith("0 ")))
+            said.append(
+                plural(len(posted), "message") + ": " + ", ".join(it for it in parts if not it.startswith("0 "))
+            )
         skulks = self.skulks()
         if skulks:
             said.append(plural(len(skulks), "skulk") + f", {sum(it.is_complete for it in skulks)} complete")
         return "; ".join(said)
 
 
-def sample(kind, x, y, message):
+def sample(kind: str, x: float, y: float, message: str) -> str:
     """What the legend shows of a kind, 28 wide; where it may be any message, in the colour of this kind of them."""
     if kind in KINDS:
         points = [(x, y), (x + 28, y)]
@@ -166,10 +200,9 @@ def sample(kind, x, y, message):
     return f'<g class="{message}{" pale" if kind == "pale" else ""}">{path(points, "line")}{end}</g>'
 
 
-def draw(replay, name, choice, room=None):
-    """The SVG of a replay; or several, each of a part of the script, where one is too high for programs that show it. `room` is how many
-    answers its clerk keeps, if there is one.
-    """
+def draw(replay: Replay, name: str, choice: Choice, room: int | None = None) -> list[str]:
+    """The SVG of a replay; or several, each of a part of the script, where one is too high for programs that show it.
+    `room` is how many answers its clerk keeps, if there is one."""
     picture = Picture(replay, name, choice, room)
     drawn = picture.draw()
     if picture.height <= HIGHEST:

@@ -1,11 +1,14 @@
 """What values mean: names, pointers, towers, elements of profiles, objects, and text. docs/FORMATS.md lays them out."""
+
+from __future__ import annotations
+
 import uuid
 
 NDR = "8a885d04-1ceb-11c9-9fe8-08002b104860"
 PROTOCOLS = {(0x0B, 0x07): "ncacn_ip_tcp", (0x0A, 0x08): "ncadg_ip_udp"}
 
 
-def of(attribute, digits):
+def of(attribute: str, digits: str) -> str:
     """What a value means, in a few words, or nothing."""
     octets = bytes.fromhex(digits)
     known = {"CDS_Replicas": pointer, "CDS_Towers": tower, "RPC_ObjectUUIDs": an_object, "RPC_Profile": element}
@@ -16,23 +19,25 @@ def of(attribute, digits):
     return meaning or text(octets)
 
 
-def text(octets):
+def text(octets: bytes) -> str:
     """A text in quotes, if all octets are of one."""
     return f'"{octets.decode("ascii")}"' if all(0x20 <= it <= 0x7E for it in octets) else ""
 
 
-def pointer(octets):
+def pointer(octets: bytes) -> str:
     """Where a child leads."""
     others = ", ".join(map(str, octets[6 : 5 + octets[4]]))
-    return f"directory {int.from_bytes(octets[:4], 'big')} at house {octets[5]}" + (f", and at {others}" if others else "")
+    return f"directory {int.from_bytes(octets[:4], 'big')} at house {octets[5]}" + (
+        f", and at {others}" if others else ""
+    )
 
 
-def an_object(octets):
+def an_object(octets: bytes) -> str:
     """An object's UUID."""
     return str(uuid.UUID(bytes=octets))
 
 
-def element(octets):
+def element(octets: bytes) -> str:
     """An element of a profile."""
     length = int.from_bytes(octets[21:23], "big")
     major, minor = int.from_bytes(octets[17:19], "big"), int.from_bytes(octets[19:21], "big")
@@ -41,7 +46,7 @@ def element(octets):
     return f"priority {octets[0]}, {interface}, {member}" + (f', "{note}"' if note else "")
 
 
-def tower(octets):
+def tower(octets: bytes) -> str:
     """The interface and the binding of an RPC tower."""
     floors = floors_of(octets)
     if len(floors) != 5:
@@ -52,7 +57,7 @@ def tower(octets):
     return f"{protocol}:{address}[{port}], interface {interface}" if protocol and address else ""
 
 
-def floors_of(octets):
+def floors_of(octets: bytes) -> list[list[bytes]]:
     """The floors of a tower, each with its left and its right part."""
     floors, at = [], 2
     for _ in range(little(octets[:2])):
@@ -65,6 +70,6 @@ def floors_of(octets):
     return floors
 
 
-def little(octets):
+def little(octets: bytes) -> int:
     """A little-endian number."""
     return int.from_bytes(octets, "little")

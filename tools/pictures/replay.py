@@ -1,12 +1,21 @@
-"""Reads what happened in a replay from a script and its answers. Nothing is replayed here: `cell` follows what the words tell."""
+"""Reads what happened in a replay from a script and its answers. Nothing is replayed here: `cell` follows what the
+words tell."""
+
+from __future__ import annotations
+
 import re
+from collections.abc import Iterator
 
 from .cell import STEPS, Replay
-from .commands import ANSWERS, COMMANDS, FAULT, FORMS, LONG, NEED_NO_HOUSE, PLACES, QUESTIONS, REASONS, REFUSED, SERVICES, STOP, STOPPED, STOPS
 from .facts import Fault, Step, numbers
+from cds.answers import ANSWERS, FAULT, LONG, REASONS, REFUSED, STOPS
+from cds.commands import COMMANDS, LINES, NEED_NO_HOUSE, PLACES, QUESTIONS, SERVICES, STOP, STOPPED
+
+# The number of a line, its command, its groups of words, its text, and the house that is stopped inside it.
+Command = tuple[int, str, tuple[str, ...], str, int | None]
 
 
-def lines_of(source, octets):
+def lines_of(source: str, octets: bytes) -> list[str]:
     """The lines of an input, which are all ended and have no octets but those from 20 to 7E."""
     strange = re.search(rb"[^\n\x20-\x7e]", octets)
     if strange:
@@ -18,7 +27,7 @@ def lines_of(source, octets):
     return lines
 
 
-def steps_of(script, first=1):
+def steps_of(script: list[str], first: int = 1) -> Iterator[Command]:
     """The commands of a script's lines, of which the first has this number, with their groups of words."""
     for number, line in enumerate(script, first):
         front = line.split(None, 1)
@@ -33,19 +42,19 @@ def steps_of(script, first=1):
             if command not in COMMANDS:
                 raise Fault("script", number, f"there is no command `{command[:40]}`")
             # Most lines have one space between words, and no other.
-            found = FORMS[command].fullmatch(line) or FORMS[command].fullmatch(" ".join(line.split()))
+            found = LINES[command].fullmatch(line) or LINES[command].fullmatch(" ".join(line.split()))
             if not found:
                 raise Fault("script", number, f"it has not the form `{command} {COMMANDS[command]}`")
             yield number, command, found.groups(), found.string if stop is None else " ".join(text.split()), stop
 
 
-def place(replay, step):
+def place(replay: Replay, step: Step) -> None:
     """Where a step stands, as its words say: its house, its directory and its message."""
     command, words = step.command, step.words
     if command in ("deliver", "lose"):
         message = step.message = replay.messages.get(int(words[0]))
         if message:
-            step.house = message.receiver if command == "deliver" else None
+            step.house = message.receiver if command == "deliver" else 0
             step.dirs = (message.dir,)
     elif words[0] == "house":
         step.house = known(replay, words[1])
@@ -59,12 +68,12 @@ def place(replay, step):
             step.dirs = (1,)
 
 
-def known(replay, word):
-    """The house of this number, where it was made."""
-    return int(word) if int(word) in replay.nodes else None
+def known(replay: Replay, word: str) -> int:
+    """The house of this number, or 0 where it was not made."""
+    return int(word) if int(word) in replay.nodes else 0
 
 
-def answer(replay, step, said):
+def answer(replay: Replay, step: Step, said: str) -> None:
     """Takes the answer of a step, without its line's number."""
     command = step.command
     if " posted " in said:
@@ -72,7 +81,7 @@ def answer(replay, step, said):
     found = ANSWERS[command].fullmatch(said)
     if not found:
         refuse(replay, step, said)
-    elif step.house is None and command not in NEED_NO_HOUSE:
+    elif not step.house and command not in NEED_NO_HOUSE:
         raise replay.fault("its house was not made")
     else:
         step.has_changed = command not in QUESTIONS
@@ -81,7 +90,7 @@ def answer(replay, step, said):
         raise replay.fault("it posts more messages than its command does")
 
 
-def refuse(replay, step, said):
+def refuse(replay: Replay, step: Step, said: str) -> None:
     """Takes a refusal. Some updates of a command of the name service may have been made before it."""
     found = REFUSED.fullmatch(said)
     if not found or found.group(1) not in REASONS:
@@ -95,7 +104,7 @@ def refuse(replay, step, said):
         step.message.deliveries += (step.at,)
 
 
-def long_answer(replay, step, said, answers):
+def long_answer(replay: Replay, step: Step, said: str, answers: list[str]) -> None:
     """Takes an answer of several lines, of which `said` is the first."""
     middle, last = LONG[step.command]
     while not last.fullmatch(said):
@@ -104,14 +113,14 @@ def long_answer(replay, step, said, answers):
         said = next_answer(replay, step, answers)
 
 
-def tell_fault(text, last):
+def tell_fault(text: str, last: int) -> None:
     """Tells the fault of the script that an answer tells, in a line of it up to the last."""
     told = FAULT.fullmatch(text)
     if told and int(told.group(1)) <= last:
         raise Fault("script", told.group(1), f"the program found the fault {told.group(2)} {told.group(3)}")
 
 
-def next_answer(replay, step, answers):
+def next_answer(replay: Replay, step: Step, answers: list[str]) -> str:
     """The next line of the answer to a step, without its line's number."""
     if replay.line == len(answers):
         replay.line += 1
@@ -128,10 +137,12 @@ def next_answer(replay, step, answers):
 class Reader:
     """What happened so far, as the lines of a script and the program's answers to them come."""
 
-    def __init__(self):
+    answers: list[str]
+
+    def __init__(self) -> None:
         self.replay, self.count, self.answers = Replay(), 0, []
 
-    def take(self, script, answers):
+    def take(self, script: list[str], answers: list[str]) -> None:
         """Takes more lines, and the answers to them."""
         self.answers += answers
         for line, command, words, text, stop in steps_of(script, self.count + 1):
@@ -141,7 +152,7 @@ class Reader:
             if stop is not None and said in STOPS:
                 self.replay.stop(step, STOPS[said])
             elif command in LONG and not said.startswith("refused"):
-                if step.house is None:
+                if not step.house:
                     raise self.replay.fault("its house was not made")
                 long_answer(self.replay, step, said, self.answers)
             else:
@@ -154,7 +165,7 @@ class Reader:
             raise self.replay.fault("no command of the script is left for it")
 
 
-def read(script, answers):
+def read(script: bytes, answers: bytes) -> Replay:
     """What happened, from the octets of a script and of the program's answers."""
     reader = Reader()
     reader.take(lines_of("script", script), lines_of("answers", answers))

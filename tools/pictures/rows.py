@@ -1,5 +1,9 @@
 """Rows of a picture in time, and the labels below them."""
+
+from __future__ import annotations
+
 import bisect
+from collections.abc import Sequence
 
 from .shapes import width_of
 
@@ -21,18 +25,21 @@ MOST_LEVELS = 8
 class Label:
     """A label below the houses: where its line comes down, its words, and the place that was found for it."""
 
-    level, begin = 0, 0
+    level: int = 0
+    begin: float = 0
+    end: float
+    is_left: bool
 
-    def __init__(self, x, words, title):
+    def __init__(self, x: float, words: str, title: str) -> None:
         self.x, self.words, self.title, self.width = x, words, title, width_of(words)
 
-    def put(self, level, right):
+    def put(self, level: int, right: float) -> None:
         """Puts it at a level, to the right of its line, or to the left of it where it would come out of the picture."""
         self.level, self.is_left = level, self.x + 5 + self.width > right
         self.begin = self.x - 5 - self.width if self.is_left else self.x + 5
         self.end = self.begin + self.width
 
-    def fits(self, other):
+    def fits(self, other: Label) -> bool:
         """Whether neither its words nor its line run into another label."""
         if self.level == other.level and self.begin < other.end + 8 and other.begin < self.end + 8:
             return False
@@ -41,16 +48,27 @@ class Label:
 
 
 class Row:
-    """A row of the picture: the columns from `first` up to `end`, their places, and where its parts begin: from above the words of
-    its columns, the lines of the houses at `tops`, and the labels of skulks and epochs from `strip` on.
+    """A row of the picture: the columns from `first` up to `end`, their places, and where its parts begin: from above
+    the words of its columns, the lines of the houses at `tops`, and the labels of skulks and epochs from `strip` on.
     """
 
-    def __init__(self, first, left):
-        self.first, self.end, self.xs, self.left, self.right, self.tops, self.height = first, first, [], left, left, {}, 0
-        self.labels, self.marks, self.strip, self.lanes, self.lane = [], {}, 0, 0, LANE
+    xs: list[float]
+    tops: dict[int, float]
+    labels: list[Label]
+    marks: dict[int | None, list[float]]
+    right: float
+    height: float
+    strip: float
+    lanes: float
 
-    def lay(self, lanes, shown):
-        """Gives the lines that are shown their heights, and last the one of no house. Many lines are nearer to each other."""
+    def __init__(self, first: int, left: int) -> None:
+        self.first, self.end, self.left, self.right = first, first, left, left
+        self.xs, self.tops, self.labels, self.marks = [], {}, [], {}
+        self.height, self.strip, self.lanes, self.lane = 0, 0, 0, LANE
+
+    def lay(self, lanes: list[tuple[int, int]], shown: Sequence[int]) -> None:
+        """Gives the lines that are shown their heights, and last the one of no house. Many lines are nearer to each
+        other."""
         is_many = len(shown) > MANY_LANES
         self.lane, sublane = (NEAR, NEAR) if is_many else (LANE, SUBLANE)
         y, before = 0, None
@@ -62,22 +80,22 @@ class Row:
         self.height = y + LANE
         self.tops[len(lanes)] = self.height + LANE / 2
 
-    def x(self, column):
+    def x(self, column: int) -> float:
         """The place of a column, or the nearer side of the row."""
         if column < self.first:
             return self.left
         return self.xs[column - self.first] if column < self.end else self.right
 
-    def y(self, lane):
+    def y(self, lane: int) -> float:
         """The place of a line that is shown, by its number from above."""
         return self.lanes + self.tops[lane]
 
-    def bottom(self):
+    def bottom(self) -> float:
         """Where the lines of the houses end."""
         return self.lanes + self.height
 
-    def is_free(self, lane, x, margin):
+    def is_free(self, lane: int, x: float, margin: float) -> bool:
         """Whether no mark of the line is so near."""
-        marks = self.marks.get(lane, ())
+        marks = self.marks.get(lane, [])
         at = bisect.bisect(marks, x - margin)
         return at == len(marks) or marks[at] > x + margin

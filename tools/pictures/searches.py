@@ -1,10 +1,17 @@
 """The entries that a question of the name service comes to, in their order, for the tree of names on a page."""
+
+from __future__ import annotations
+
+from collections.abc import Iterator
+
+from .cell import Replay
 from .entries import State
+from .facts import Step
 
 QUESTIONS = ("import", "lookup", "grouplist", "entrylist", "proflist", "read", "readlink")
 
 
-def searches(replay, steps):
+def searches(replay: Replay, steps: list[Step]) -> dict[int, list[tuple[int, str]]]:
     """For each such question of these steps, by its place, the directory and the simple name of each entry."""
     found, states = {}, State(replay, 0)
     waiting = iter(replay.steps)
@@ -17,7 +24,7 @@ def searches(replay, steps):
     return found
 
 
-def take_up_to(state, waiting, last):
+def take_up_to(state: State, waiting: Iterator[Step], last: Step) -> None:
     """Takes the steps before this one."""
     for step in waiting:
         if step is last:
@@ -26,7 +33,7 @@ def take_up_to(state, waiting, last):
             state.take(step)
 
 
-def searched(state, step):
+def searched(state: State, step: Step) -> list[tuple[int, str]]:
     """The places that a question comes to."""
     name = step.words[2]
     if step.command in ("import", "lookup"):

@@ -1,10 +1,14 @@
 """Shapes of a picture, as SVG, and its colours."""
+
+from __future__ import annotations
+
 import html
 import math
 
 SIZE = 11  # of letters: as great in a column of 830, which is as wide as a narrow picture
 
-# Colours after Okabe and Ito on light ground, some of them darker; those of words on them; and lighter ones on dark ground.
+# Colours after Okabe and Ito on light ground, some of them darker; those of words on them; and lighter ones on dark
+# ground.
 KINDS = {
     "Update": ("#0072b2", "#fff", "#5aa9ea"),
     "Gather": ("#d98e00", "#000", "#e69f00"),
@@ -43,43 +47,46 @@ FIXED = """text{font-family:Helvetica,Arial,'Liberation Sans','DejaVu Sans',sans
 .hit{fill:none;stroke:#000;stroke-opacity:0;stroke-width:9px}
 .head{fill:currentColor;stroke:currentColor;stroke-linejoin:round}.full{fill:currentColor}
 .hollow{stroke:currentColor;stroke-width:1.4px}
-.refused{stroke-dasharray:2.5 2}.cross{fill:none;stroke:currentColor;stroke-width:2.4px}.lane{fill:none;stroke-width:1.3px}
-.master{stroke-width:3.4px}.secondary{stroke-width:3.4px;stroke-dasharray:11 3}.without{stroke-dasharray:1.5 4}.guide{stroke-width:1px}
+.refused{stroke-dasharray:2.5 2}.cross{fill:none;stroke:currentColor;stroke-width:2.4px}\
+.lane{fill:none;stroke-width:1.3px}
+.master{stroke-width:3.4px}.secondary{stroke-width:3.4px;stroke-dasharray:11 3}.without{stroke-dasharray:1.5 4}\
+.guide{stroke-width:1px}
 .bar{fill:currentColor;fill-opacity:.16}.stub{font-size:10px;font-weight:bold}svg text.stub{fill:currentColor}
 .upright{stroke-width:1.2px;stroke-dasharray:5 3}.leader{stroke-width:1px}
-.open{fill:none;stroke-width:1.2px;stroke-dasharray:6 4}.tag{stroke-width:1px}.bolt{stroke-width:.8px}.pale{opacity:.42}"""
+.open{fill:none;stroke-width:1.2px;stroke-dasharray:6 4}.tag{stroke-width:1px}.bolt{stroke-width:.8px}\
+.pale{opacity:.42}"""
 
 
 class Undrawable(Exception):
     """There is nothing to draw, or too much for one picture."""
 
 
-def number(value):
+def number(value: float) -> str:
     """A coordinate, of at most one digit behind the point."""
     return f"{value:.1f}".removesuffix(".0")
 
 
-def escaped(text):
+def escaped(text: str) -> str:
     """A text as it may stand in an SVG."""
     return html.escape(text, quote=False)
 
 
-def short(text, most):
+def short(text: str, most: int) -> str:
     """A text, or its front."""
     return text if len(text) <= most else text[: most - 1] + "…"
 
 
-def width_of(text, size=SIZE):
+def width_of(text: str, size: float = SIZE) -> float:
     """How wide a text is, at most, in a font of usual width."""
     return len(text) * size * 0.6
 
 
-def end_of(text, most):
+def end_of(text: str, most: int) -> str:
     """A text, or its end."""
     return text if len(text) <= most else "…" + text[2 - most :]
 
 
-def styles():
+def styles() -> str:
     """The style sheet, with the colours of dark ground for who prefers it."""
     light = [f".{kind}{{color:{colour}}}.{kind} text{{fill:{word}}}" for kind, (colour, word, _) in KINDS.items()]
     dark = [f".{kind}{{color:{colour}}}.{kind} text{{fill:#0d1117}}" for kind, (_, _, colour) in KINDS.items()]
@@ -90,51 +97,51 @@ def styles():
     return "\n".join(["<style>", FIXED, *light, *dashes, media, "</style>"])
 
 
-def titled(kind, title, *shapes, name=None):
+def titled(kind: str, title: str, *shapes: str, name: str | None = None) -> str:
     """A group of shapes with a hover text, and with a name to which links lead."""
     named = (f' id="{name}"' if name else "") + (f' class="{kind}"' if kind else "")
     return f'<g{named}><title>{escaped(title)}</title>{"".join(shapes)}</g>'
 
 
-def text(x, y, words, kind, extra=""):
+def text(x: float, y: float, words: str, kind: str, extra: str = "") -> str:
     """A text at a place."""
     return f'<text x="{number(x)}" y="{number(y)}" class="{kind}"{extra}>{escaped(words)}</text>'
 
 
-def rect(x, y, width, height, kind, radius=0):
+def rect(x: float, y: float, width: float, height: float, kind: str, radius: float = 0) -> str:
     """A rectangle."""
     size = f'width="{number(width)}" height="{number(height)}"'
     return f'<rect x="{number(x)}" y="{number(y)}" {size} rx="{number(radius)}" class="{kind}"/>'
 
 
-def circle(x, y, radius, kind):
+def circle(x: float, y: float, radius: float, kind: str) -> str:
     """A circle."""
     return f'<circle cx="{number(x)}" cy="{number(y)}" r="{number(radius)}" class="{kind}"/>'
 
 
-def badge(x, y, letter):
+def badge(x: float, y: float, letter: str) -> str:
     """The sign of a master, or of a secondary member."""
     return circle(x, y, 8, "ink") + text(x, y + 4, letter, "number onink")
 
 
-def line(x, y, to_x, to_y, kind):
+def line(x: float, y: float, to_x: float, to_y: float, kind: str) -> str:
     """A straight line."""
     return f'<path d="M{number(x)} {number(y)}L{number(to_x)} {number(to_y)}" class="{kind}"/>'
 
 
-def bolt(x, y):
+def bolt(x: float, y: float) -> str:
     """The sign of a house that loses its power, with this corner below it."""
     return f'<path d="M{number(x)} {number(y)}m-3 5l1.5-6h-4l5-8l-.5 5h4z" class="bolt"/>'
 
 
-def toward(point, other, most):
+def toward(point: tuple[float, float], other: tuple[float, float], most: int) -> str:
     """A place on the way from one point to another, not farther than half of it."""
     (x, y), (to_x, to_y) = point, other
     share = min(0.5, most / (math.hypot(to_x - x, to_y - y) or 1))
     return f"{number(x + (to_x - x) * share)} {number(y + (to_y - y) * share)}"
 
 
-def path(points, kind):
+def path(points: list[tuple[float, float]], kind: str) -> str:
     """A line through points, with round corners."""
     shape = f"M{number(points[0][0])} {number(points[0][1])}"
     for before, point, behind in zip(points, points[1:], points[2:]):
@@ -143,7 +150,7 @@ def path(points, kind):
     return f'<path d="{shape}L{number(points[-1][0])} {number(points[-1][1])}" class="{kind}"/>'
 
 
-def head(points, is_hollow):
+def head(points: list[tuple[float, float]], is_hollow: bool) -> str:
     """The head of an arrow along points: of a message that is not taken it is hollow."""
     (from_x, from_y), (x, y) = points[-2:]
     angle = math.atan2(y - from_y, x - from_x)
@@ -152,13 +159,12 @@ def head(points, is_hollow):
     return f'<path d="M{shape}Z" class="{"hollow" if is_hollow else "head"}"/>'
 
 
-def cross(x, y):
+def cross(x: float, y: float) -> str:
     """The cross where a message is lost."""
-    x, y = number(x), number(y)
-    return f'<path d="M{x} {y}m-4.5-4.5l9 9m0-9l-9 9" class="cross"/>'
+    return f'<path d="M{number(x)} {number(y)}m-4.5-4.5l9 9m0-9l-9 9" class="cross"/>'
 
 
-def dots(begin, end):
+def dots(begin: tuple[float, float], end: tuple[float, float]) -> str:
     """Three dots behind the end of a line that goes on elsewhere."""
     (x, y), (to_x, to_y) = begin, end
     length = math.hypot(to_x - x, to_y - y) or 1

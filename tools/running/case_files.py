@@ -1,5 +1,7 @@
 """Reads the files `NAME.case`, whose form the head of tools/cases has."""
 
+from __future__ import annotations
+
 import os
 import re
 
@@ -9,7 +11,7 @@ CASES = f"{ROOT}/crates/cdsreplay/cases"
 MENDER_CASES = f"{ROOT}/crates/cdsmend/cases"
 
 
-def of_hex(text):
+def of_hex(text: str) -> bytes:
     """Returns the octets of words in hexadecimal, each of which may mean more of its kind."""
     octets = b""
     for word in text.split():
@@ -18,7 +20,7 @@ def of_hex(text):
     return octets
 
 
-def cases_of(path, kind=Run):
+def cases_of(path: str, kind: type[Run] = Run) -> list[Run]:
     """Returns the runs of a case, of this kind."""
     name = os.path.basename(path)[: -len(".case")]
     with open(path, encoding="utf-8", newline="\n") as it:
@@ -28,7 +30,7 @@ def cases_of(path, kind=Run):
         raise ValueError("it is no list of runs after comments")
     for number in range(0, len(heads), 2):
         words, status = heads[number].split(), heads[number + 1].split()
-        streams = []
+        streams: list[tuple[str, str]] = []
         while len(words) > 1 and words[-2] in "<>":
             streams, words = [*streams, (words[-2], words[-1])], words[:-2]
         octets, output = (text.encode() for text in texts[number : number + 2])
@@ -37,13 +39,16 @@ def cases_of(path, kind=Run):
         if status[1:] == [">", "hex"]:
             output = of_hex(texts[number + 1])
         place = f"{name}, run {number // 2 + 1}"
-        runs.append(kind(place, words, octets, output, int(status[0]), ("<", "folder") in streams, (">", "full") in streams))
+        runs.append(
+            kind(place, words, octets, output, int(status[0]), ("<", "folder") in streams, (">", "full") in streams)
+        )
     return runs
 
 
-def all_cases():
+def all_cases() -> tuple[list[tuple[str, Run]], list[str]]:
     """Returns the runs of all cases, each with its file's name, and what is wrong with the files."""
-    runs, faults = [], []
+    runs: list[tuple[str, Run]] = []
+    faults: list[str] = []
     for folder, kind in ((CASES, Run), (MENDER_CASES, Mending)):
         for name in sorted(os.listdir(folder)):
             if name.endswith(".case"):

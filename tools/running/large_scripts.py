@@ -1,9 +1,13 @@
-"""Scripts of thousands of lines for the forms `clerk N`, `inquire` and `journal`, with the answers that docs/SCRIPT.md says."""
+"""Scripts of thousands of lines for the forms `clerk N`, `inquire` and `journal`, with the answers that docs/SCRIPT.md
+says."""
+
+from __future__ import annotations
 
 import random
 from collections import OrderedDict
+from collections.abc import Callable, Iterator
 
-from running import records
+from cds import records
 from running.lone_house import LoneHouse
 from running.runs import Limited, Run
 
@@ -11,7 +15,7 @@ UUID = "a0000000-0000-0000-0000-000000000001"
 OTHER_UUID = "01020304-0506-0708-090a-0b0c0d0e0f10"
 
 
-def run_of(name, words, house):
+def run_of(name: str, words: list[str], house: LoneHouse) -> Run:
     """Returns the run of a script that was made so."""
     return Run(f"large, {name}", words, house.script(), house.output(), 0)
 
@@ -19,10 +23,13 @@ def run_of(name, words, house):
 class Clerk:
     """A clerk, as the page says: it keeps so many answers, and of these the one that was not used for longest goes."""
 
-    def __init__(self, room):
+    # (the names that are there, by the word "there", and the values of attributes)
+    kept: OrderedDict[tuple[int | str, ...], str]
+
+    def __init__(self, room: int) -> None:
         self.room, self.kept = room, OrderedDict()
 
-    def ask(self, query, fresh):
+    def ask(self, query: tuple[int | str, ...], fresh: str) -> str:
         """Returns the answer that is kept, or the one that is given now and kept from now on."""
         if query not in self.kept and len(self.kept) == self.room:
             self.kept.popitem(last=False)
@@ -30,16 +37,17 @@ class Clerk:
         self.kept.move_to_end(query)
         return self.kept[query]
 
-    def read(self, house, asking, name, attribute):
+    def read(self, house: LoneHouse, asking: int, name: str, attribute: str) -> str:
         """Returns what a read at low confidence is answered."""
-        if not self.ask((asking, name), name.encode() in house.directories[1]):
+        if not self.ask((asking, name), "there" if name.encode() in house.directories[1] else ""):
             return "refused NoSuchName 0"
         return self.ask((asking, name, attribute), house.values(name, attribute))
 
 
-def full_clerk(room):
-    """A clerk of this room is full with answers that names are not there; one of them is used again, and one more answer comes. Then
-    all names are made, which the clerk has not heard: it drops the second answer, and not the first."""
+def full_clerk(room: int) -> Run:
+    """A clerk of this room is full with answers that names are not there; one of them is used again, and one more
+    answer comes. Then all names are made, which the clerk has not heard: it drops the second answer, and not the
+    first."""
     house, name = LoneHouse(), "name{}".format
     for i in [*range(room), 0, room]:
         house.say(f"read 1 low /.:/{name(i)} A", "refused NoSuchName 0")
@@ -54,7 +62,7 @@ def full_clerk(room):
     return run_of(f"a clerk of room {room} drops what was not used for longest", ["clerk", str(room)], house)
 
 
-def busy_clerk(room, names, lines):
+def busy_clerk(room: int, names: int, lines: int) -> Run:
     """Reads of many entries by two houses, in no order, among updates. One attribute has more than 100 values."""
     house, clerk, chance = LoneHouse(), Clerk(room), random.Random(room)
     house.say("house 2 00000000000b", "ok")
@@ -77,7 +85,7 @@ def busy_clerk(room, names, lines):
     return run_of(f"{lines} lines at a clerk of room {room}", ["clerk", str(room)], house)
 
 
-def groups():
+def groups() -> Run:
     """2,000 lines that change a group, and a list of its members each hundred lines."""
     house, members, chance = LoneHouse(), set(), random.Random(1)
     house.say("groupadd /.:/all /.:/first", "ok 2")
@@ -95,7 +103,7 @@ def groups():
     return run_of("2,000 lines about a group", ["inquire"], house)
 
 
-def is_listed(option, asked, interface):
+def is_listed(option: str, asked: tuple[str, int, int], interface: tuple[str, int, int] | None) -> bool:
     """Whether `proflist` lists an element of this interface by this option of the versions."""
     if not interface or interface[0] != asked[0]:
         return False
@@ -109,7 +117,7 @@ def is_listed(option, asked, interface):
     }[option]
 
 
-def elements():
+def elements() -> Iterator[tuple[int, tuple[str, int, int] | None, str, str]]:
     """Returns 5,000 elements of a profile, each once, in no order."""
     for i in range(5000):
         interface = None if i % 50 == 0 else ((UUID, OTHER_UUID)[i % 3 == 0], i * 7 % 5, i * 37 % 300)
@@ -117,7 +125,7 @@ def elements():
         yield i * 11 % 8 if interface else 8, interface, f"/.:/member-{i % 1250}", note
 
 
-def questions():
+def questions() -> Iterator[tuple[str, Callable[..., object]]]:
     """Returns the words of each question of `proflist` about a profile, and what says whether it lists an element."""
     yield "all - all -", lambda it: True
     yield "default - all -", lambda it: not it[1]
@@ -129,7 +137,7 @@ def questions():
         yield f"byboth {words} {member}", lambda it, option=option: is_listed(option, asked, it[1]) and it[2] == member
 
 
-def profile():
+def profile() -> Run:
     """A profile of 5,000 elements, which are listed by each kind of question and option."""
     house = LoneHouse()
     for i, (priority, interface, member, note) in enumerate(elements()):
@@ -142,7 +150,7 @@ def profile():
     return run_of("5,000 elements of a profile", ["inquire"], house)
 
 
-def batches(bindings, most):
+def batches(bindings: list[str], most: int) -> list[str]:
     """Returns the lines of a lookup that finds these bindings."""
     found = []
     for at in range(0, len(bindings), most):
@@ -151,7 +159,7 @@ def batches(bindings, most):
     return [*found, f"end {len(bindings)}"]
 
 
-def exported(house):
+def exported(house: LoneHouse) -> tuple[str, list[str]]:
     """Exports a server of 200 bindings, and returns what begins a lookup of it, and the bindings in their order."""
     interface, chance = (UUID, 1, 2), random.Random(2)
     every = [(chance.choice([*records.PROTOCOLS]), i * 331 % 65536, (10, i % 3, 0, i)) for i in range(200)]
@@ -162,7 +170,7 @@ def exported(house):
     return f"lookup 1 low /.:/server {records.interface_text(interface)} -", [records.binding(*it) for it in every]
 
 
-def bindings():
+def bindings() -> Run:
     """A server of 200 bindings, which are looked up at once and in batches."""
     house = LoneHouse()
     question, every = exported(house)
@@ -174,7 +182,7 @@ def bindings():
     return run_of("200 bindings", ["inquire"], house)
 
 
-def widest_batch():
+def widest_batch() -> Limited:
     """A lookup takes memory for what it finds, and not for the most that a batch may have."""
     house = LoneHouse()
     question, every = exported(house)
@@ -182,7 +190,7 @@ def widest_batch():
     return Limited("starved, a batch of 65,535 bindings at most", ["inquire"], house.script(), house.output(), 0)
 
 
-def interfaces():
+def interfaces() -> Run:
     """A server of 300 interfaces. Their versions are little-endian in towers, so 256 comes before 1."""
     house = LoneHouse()
     offered = [(UUID if i % 2 else OTHER_UUID, i % 3, i * 7) for i in range(300)]
@@ -193,7 +201,7 @@ def interfaces():
     return run_of("300 interfaces", ["inquire"], house)
 
 
-def stop_inside(house, call, what, value):
+def stop_inside(house: LoneHouse, call: int, what: str, value: bytes) -> None:
     """Stops the house inside an update, and starts it again."""
     is_done = call > 2 and what == "keep"
     time, marks = house.time, dict(house.directories[1][b"entry"][2][b"A"])
@@ -204,9 +212,9 @@ def stop_inside(house, call, what, value):
     house.say("start 1", "ok")
 
 
-def journal():
-    """20 directories, and 1,000 updates of a house, whose image then has more than 64 KiB. Each hundredth is stopped, and by twos the
-    house is taken down and started again. The image is printed now and then."""
+def journal() -> Run:
+    """20 directories, and 1,000 updates of a house, whose image then has more than 64 KiB. Each hundredth is stopped,
+    and by twos the house is taken down and started again. The image is printed now and then."""
     house, chance = LoneHouse(), random.Random(3)
     for i in range(20):
         house.mkdir(f"child-{i}-" + "x" * (254 - len(f"child-{i}-")))
@@ -228,7 +236,7 @@ def journal():
     return run_of("1,000 puts into a journal", ["journal"], house)
 
 
-def runs():
+def runs() -> list[Run]:
     """Returns all of these."""
     clerks = [full_clerk(100), full_clerk(1000), busy_clerk(100, 80, 2000), busy_clerk(1000, 700, 4000)]
     return [*clerks, groups(), profile(), bindings(), interfaces(), journal()]

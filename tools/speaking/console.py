@@ -1,10 +1,16 @@
 """The console: what each line that is typed does."""
+
+from __future__ import annotations
+
 import os
 import re
 import subprocess
 import textwrap
+from collections.abc import Callable
 
-from pictures import replay as replays
+from building.sources import ROOT
+from cds.commands import COMMANDS, FORMS
+from pictures import facts
 from speaking import desk, language, pages, program, show, texts, tokens, writing
 
 OWN = {
@@ -26,29 +32,32 @@ OWN = {
 class Console:
     """A console over a cell. `say` prints a line."""
 
-    def __init__(self, asked, say, width=100):
+    def __init__(self, asked: program.Program, say: Callable[[str], object], width: int = 100) -> None:
         self.cell, self.say, self.width = desk.Desk(asked), say, width
         self.saved, self.is_warned, self.is_over = 0, False, False
 
-    def prompt(self):
+    def prompt(self) -> str:
         """The prompt: the number that the next line gets."""
         return f"{len(self.cell.lines) + 1}> "
 
-    def completions(self, text, line):
+    def completions(self, text: str, line: str) -> list[str]:
         """What a word may be."""
         if not line.strip() or line.strip() == text:
-            known = [*language.FORMS[self.cell.program.form[0]], *(it.split()[0] for it in OWN)]
+            known = [*FORMS[self.cell.program.form[0]], *(it.split()[0] for it in OWN)]
         else:
             known = [*self.cell.names.houses, *self.cell.names.directories]
-            known += language.COMMANDS if line.split()[0] == "help" else ["all", "through", "but", "to", "low", "high"]
+            known += COMMANDS if line.split()[0] == "help" else ["all", "through", "but", "to", "low", "high"]
         return sorted({f"{it} " for it in known if it.startswith(text)})
 
-    def take(self, line):
+    def take(self, line: str) -> None:
         """Takes a line that was typed. Nothing that was there is lost, whatever it says."""
         words = line.split()
         self.is_warned = self.is_warned and words[:1] in (["quit"], ["exit"])
-        own = {"?": self.help, "help": self.help, "undo": self.undo, "show": self.show, "messages": self.messages, "script": self.script,
-               "picture": self.picture, "save": self.save, "load": self.load, "quit": self.quit, "exit": self.quit}  # fmt: skip
+        own: dict[str, Callable[[list[str]], None]] = {
+            "?": self.help, "help": self.help, "undo": self.undo, "show": self.show, "messages": self.messages,
+            "script": self.script, "picture": self.picture, "save": self.save, "load": self.load, "quit": self.quit,
+            "exit": self.quit,
+        }  # fmt: skip
         if not words or words[0].startswith("#"):
             return
         try:
@@ -58,12 +67,12 @@ class Console:
                 self.do(line)
         except (tokens.Fault, program.Failed) as fault:
             self.say(str(fault))
-        except replays.Fault as fault:
+        except facts.Fault as fault:
             self.say(f"The answers are not understood: {fault}")
         except OSError as error:
             self.say(f"{error.filename}: {error.strerror}")
 
-    def do(self, line):
+    def do(self, line: str) -> None:
         """Does a line of the cell, and says the answers."""
         done = self.cell.do(line)
         if len(done.lines) > 1 or done.lines and done.lines[0] != " ".join(line.split()):
@@ -78,55 +87,58 @@ class Console:
             self.say(f"   {note}")
         self.say_names(done)
 
-    def say_names(self, done):
+    def say_names(self, done: desk.Done) -> None:
         """Says what new houses and directories are called."""
         for line in done.lines:
             found = re.match(r"house (\d+) ", line)
             if found and not self.cell.names.called(int(found.group(1))).startswith("house "):
                 self.say(f"   house {found.group(1)} is {self.cell.names.called(int(found.group(1)))}")
 
-    def help(self, words):
+    def help(self, words: list[str]) -> None:
         """Says what there is, or what a command does."""
         if not words:
-            known = " ".join(language.FORMS[self.cell.program.form[0]])
+            known = " ".join(FORMS[self.cell.program.form[0]])
             self.say(f"Commands of the cell: {known}. `help COMMAND` explains one.")
             for name, what in OWN.items():
                 self.say(f"  {name:<24}{what}")
-            self.say("Houses may have names (`house a_ch b_ch`), and values may be texts in quotes: `tools/write --help` has it all.")
+            self.say(
+                "Houses may have names (`house a_ch b_ch`), and values may be texts in quotes: `tools/write --help` has"
+                " it all."
+            )
             return
         command = tokens.command_of(words[0])
-        if command not in language.COMMANDS:
-            known = next((f"{name}: {what}" for name, what in OWN.items() if name.split()[0] == words[0]), None)
-            self.say(known or f"There is no command `{words[0]}`. `help` lists all.")
+        if command not in COMMANDS:
+            meant = next((f"{name}: {what}" for name, what in OWN.items() if name.split()[0] == words[0]), "")
+            self.say(meant or f"There is no command `{words[0]}`. `help` lists all.")
             return
         self.say(f"{language.pattern(command)}: {pages.commands().get(command, '')}")
-        for kind in dict.fromkeys(language.COMMANDS[command].split()):
+        for kind in dict.fromkeys(COMMANDS[command].split()):
             what, form = pages.words().get(kind, ("", ""))
             self.say(f"  {kind}: {what}: {form}")
         for line in textwrap.wrap(pages.paragraph(command), self.width):
             self.say(line)
 
-    def undo(self, _):
+    def undo(self, _: list[str]) -> None:
         """Takes the last line back."""
         line = self.cell.undo()
         self.say(f"taken back: {line}" if line else "There is nothing to take back.")
 
-    def show(self, words):
+    def show(self, words: list[str]) -> None:
         """Shows what each house holds of a directory."""
         for line in show.table(self.cell, int(self.cell.names.directory(words[0])) if words else 1, self.width):
             self.say(line)
 
-    def messages(self, _):
+    def messages(self, _: list[str]) -> None:
         """Says which messages are under way."""
         for line in show.messages(self.cell):
             self.say(line)
 
-    def script(self, _):
+    def script(self, _: list[str]) -> None:
         """Says the lines so far."""
         for number, line in enumerate(self.cell.lines, 1):
             self.say(f"{number:>4}  {line}")
 
-    def picture(self, words):
+    def picture(self, words: list[str]) -> None:
         """Draws the cell."""
         file = words[0] if words else "cell.svg"
         answers = "".join(f"{it}\n" for it in self.cell.answers)
@@ -134,13 +146,16 @@ class Console:
             it.write(self.cell.script())
         try:
             drawn = subprocess.run(
-                [f"{program.ROOT}/tools/picture", f"{file}.script", "-", file], input=answers.encode(), stderr=subprocess.PIPE, check=False
+                [f"{ROOT}/tools/picture", f"{file}.script", "-", file],
+                input=answers.encode(),
+                stderr=subprocess.PIPE,
+                check=False,
             )
         finally:
             os.remove(f"{file}.script")
         self.say(f"{file} is drawn: open it in a browser." if drawn.returncode == 0 else drawn.stderr.decode().strip())
 
-    def save(self, words):
+    def save(self, words: list[str]) -> None:
         """Writes the lines into a file, with the names as comments."""
         if not words:
             self.say("Name the file: `save FILE`.")
@@ -149,7 +164,7 @@ class Console:
         else:
             self.write(words[0])
 
-    def write(self, file):
+    def write(self, file: str) -> None:
         """Writes the lines into a file."""
         form, named = self.cell.program.form, self.cell.names
         # The names go to the end, so that lines keep their numbers.
@@ -161,7 +176,7 @@ class Console:
         self.saved = len(self.cell.lines)
         self.say(f"{file} has {texts.plural(self.saved, 'line')}. Replay it by ./cdsreplay {' '.join(form)} <{file}")
 
-    def load(self, words):
+    def load(self, words: list[str]) -> None:
         """Takes the lines of a file. A faulty one ends that; those before it stay."""
         if not words:
             self.say("Name the file: `load FILE`.")
@@ -175,7 +190,7 @@ class Console:
         for number, line in enumerate(lines[first:], first + 1):
             try:
                 self.cell.do(line)
-            except (tokens.Fault, replays.Fault) as fault:
+            except (tokens.Fault, facts.Fault) as fault:
                 self.say(f"{words[0]}, line {number}: {line.strip()}")
                 self.say(str(fault))
                 self.say(f"The lines before it are loaded; the next one is {len(self.cell.lines) + 1}.")
@@ -183,10 +198,13 @@ class Console:
         self.saved = len(self.cell.lines)
         self.say(f"{words[0]} is loaded; the next line is {self.saved + 1}.")
 
-    def quit(self, _):
+    def quit(self, _: list[str]) -> None:
         """Ends, and warns once where lines would be lost."""
         if len(self.cell.lines) != self.saved and not self.is_warned:
             self.is_warned = True
-            self.say(f"{texts.plural(len(self.cell.lines), 'line')} would be lost: `save FILE`, or `quit` (or Ctrl-D) once more.")
+            self.say(
+                f"{texts.plural(len(self.cell.lines), 'line')} would be lost: `save FILE`, or `quit` (or Ctrl-D) once"
+                " more."
+            )
         else:
             self.is_over = True

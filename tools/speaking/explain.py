@@ -1,4 +1,10 @@
 """A fault in words: the line, the word, what it should be, and the usual slip."""
+
+from __future__ import annotations
+
+from collections.abc import Iterator
+
+from cds.commands import COMMANDS, STOPPED
 from speaking import language, lines, pages, slips
 
 WIDEST = 160
@@ -7,12 +13,15 @@ WIDEST = 160
 class Explained:
     """A fault that is explained. `slip` says what to do, and `better` are lines to write in place of the faulty one."""
 
-    def __init__(self, number, reason, place, line):
+    should: list[str]
+    better: list[str]
+
+    def __init__(self, number: int, reason: str, place: int, line: bytes) -> None:
         self.number, self.reason, self.place, self.line = number, reason, place, line
         self.text = line.decode("utf-8", "replace")
         self.begin, self.end, self.should, self.slip, self.better = 0, len(self.text), [], "", []
 
-    def marked(self):
+    def marked(self) -> tuple[str, str]:
         """The line, and marks under what is meant."""
         text, begin, end = self.text.replace("\t", " ").replace("\r", " "), self.begin, max(self.end, self.begin + 1)
         if len(text) > WIDEST:
@@ -21,7 +30,7 @@ class Explained:
             begin, end = (it - cut + (2 if cut else 0) for it in (begin, end))
         return f"    {text}", "    " + " " * begin + "^" * min(end - begin, WIDEST)
 
-    def lines(self):
+    def lines(self) -> Iterator[str]:
         """All that there is to say, line by line."""
         yield f"line {self.number}: {self.reason} {self.place}: {language.FAULTS[self.reason]}"
         yield from self.marked()
@@ -31,7 +40,7 @@ class Explained:
             yield f"    {line}"
 
 
-def spans(text):
+def spans(text: str) -> list[tuple[str, int, int]]:
     """The words of a line, each with its begin and end."""
     found, at = [], 0
     for word in text.split(" "):
@@ -41,13 +50,13 @@ def spans(text):
     return found
 
 
-def should_be(kind):
+def should_be(kind: str) -> list[str]:
     """The row of the words of SCRIPT.md for a kind."""
     what, form = pages.words().get(kind, ("", ""))
     return [f"{kind.rstrip('.')}: {what}: {form}"] if form else []
 
 
-def explain(line, number, reason, place, form="run"):
+def explain(line: bytes, number: int, reason: str, place: int, form: str = "run") -> Explained:
     """Explains a fault of a line, which is given without its end."""
     it = Explained(number, reason, place, line)
     if reason in ("LineTooLong", "NotAscii", "NoLineEnd", "TooManyLines"):
@@ -70,7 +79,7 @@ def explain(line, number, reason, place, form="run"):
     return it
 
 
-def octets(it):
+def octets(it: Explained) -> None:
     """A fault of the octets of a line."""
     it.begin, it.end = it.place - 1, it.place
     if it.reason == "NotAscii":
@@ -85,16 +94,16 @@ def octets(it):
         it.slip = "Cut the script into several."
 
 
-def count(it, found, words):
+def count(it: Explained, found: list[tuple[str, int, int]], words: list[str]) -> None:
     """A line with too few or too many words: marks the surplus, or the end."""
-    inner = words[4:] if words[0] == "stop" and len(words) > 4 and words[4] in language.STOPPED else words
+    inner = words[4:] if words[0] == "stop" and len(words) > 4 and words[4] in STOPPED else words
     least, most = language.expects(inner[0])
     first = len(words) - len(inner) + (most or least) + 1
     if len(words) > first:
         it.begin, it.end = found[first][1], found[-1][2]
     else:
         it.begin, it.end = len(it.text.rstrip()) + 1, len(it.text.rstrip()) + 2
-    kinds = dict.fromkeys(language.COMMANDS[inner[0]].split())
+    kinds = dict.fromkeys(COMMANDS[inner[0]].split())
     it.should = [language.pattern(inner[0]), *(f"  {row}" for kind in kinds for row in should_be(kind))]
     it.slip, better = lines.miscounted(inner)
     it.better = [" ".join([*words[: len(words) - len(inner)], line]) for line in better]

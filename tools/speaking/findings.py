@@ -1,5 +1,9 @@
 """What is to be said of a script: its first fault, or its refusals."""
+
+from __future__ import annotations
+
 import re
+from collections.abc import Callable, Iterator
 
 from speaking import explain, language, program, reasons, refusals
 
@@ -7,14 +11,18 @@ from speaking import explain, language, program, reasons, refusals
 MOST = 40
 # Files that are no scripts, by their first octets.
 STRANGE = {
-    b"\x89PNG": "a picture", b"\xff\xd8\xff": "a picture", b"<svg": "a picture", b"<?xml": "a picture, or another XML file",
-    b"%PDF": "a page", b"\x7fELF": "a program", b"\x1f\x8b": "a compressed file: `gzip -d` first", b"PK\x03\x04": "a compressed file",
-    b"\x02\x09": "the image of a house, for ./cdsreplay audit", b"\x01\x09": "the image of a house, for ./cdsreplay migrate",
-    b"#!": "a program", b"\xff\xfe": "a text in UTF-16: `iconv -f UTF-16 -t ASCII` makes it one of ASCII",
+    b"\x89PNG": "a picture", b"\xff\xd8\xff": "a picture", b"<svg": "a picture",
+    b"<?xml": "a picture, or another XML file", b"%PDF": "a page", b"\x7fELF": "a program",
+    b"\x1f\x8b": "a compressed file: `gzip -d` first", b"PK\x03\x04": "a compressed file",
+    b"\x02\x09": "the image of a house, for ./cdsreplay audit",
+    b"\x01\x09": "the image of a house, for ./cdsreplay migrate", b"#!": "a program",
+    b"\xff\xfe": "a text in UTF-16: `iconv -f UTF-16 -t ASCII` makes it one of ASCII",
 }  # fmt: skip
 
 
-def report(script, form, line, given, say):
+def report(
+    script: bytes, form: tuple[str, ...], line: int | None, given: str | None, say: Callable[[str], object]
+) -> int:
     """Says what there is to say of a script, and returns the exit status."""
     strange = next((what for front, what in STRANGE.items() if script.startswith(front)), None)
     if strange:
@@ -37,30 +45,36 @@ def report(script, form, line, given, say):
     return 0
 
 
-def other_form(script, asked, fault, say):
-    """The program in the form that knows a command which the first fault is at, where there is one, and the first fault then."""
+def other_form(
+    script: bytes, asked: program.Program, fault: tuple[int, str, int], say: Callable[[str], object]
+) -> tuple[program.Program, tuple[int, str, int] | None]:
+    """The program in the form that knows a command which the first fault is at, where there is one, and the first fault
+    then."""
     word = line_of(script, fault[0]).split()[0].decode("ascii", "replace")
     other = language.form_of(word)
-    if other in (None, "run"):
+    if other is None or other == "run":
         return asked, fault
-    say(f"line {fault[0]}: `{word}` is a command of the form {other}: replay this by ./cdsreplay {other}; `check` does not know it.")
+    say(
+        f"line {fault[0]}: `{word}` is a command of the form {other}: replay this by ./cdsreplay {other}; `check` does"
+        " not know it."
+    )
     better = program.Program(asked.path, (other,))
     return better, better.fault(script)
 
 
-def line_of(script, number):
+def line_of(script: bytes, number: int) -> bytes:
     """The octets of a line."""
     return script.split(b"\n", number)[number - 1]
 
 
-def say_fault(script, form, fault, say):
+def say_fault(script: bytes, form: tuple[str, ...], fault: tuple[int, str, int], say: Callable[[str], object]) -> None:
     """Says a fault."""
     number, reason, place = fault
     for text in explain.explain(line_of(script, number), number, reason, place, form[0]).lines():
         say(text)
 
 
-def refused(answers):
+def refused(answers: list[str]) -> Iterator[tuple[int, str, list[int], str]]:
     """The refusals among answers: their lines, reasons and numbers."""
     for answer in answers:
         found = re.match(r"(\d+) refused ([A-Za-z]+)((?: \d+)*)", answer)
@@ -68,7 +82,7 @@ def refused(answers):
             yield int(found.group(1)), found.group(2), [int(it) for it in found.group(3).split()], answer
 
 
-def say_refusals(script, answers, say):
+def say_refusals(script: bytes, answers: list[str], say: Callable[[str], object]) -> None:
     """Says each refusal; what a reason means in general is said once."""
     found, known = list(refused(answers)), set()
     count = {0: "no command was", 1: "1 command was"}.get(len(found), f"{len(found)} commands were")
@@ -84,7 +98,9 @@ def say_refusals(script, answers, say):
         say(f"\n{len(found) - MOST} more are refused, the next one in line {found[MOST][0]}: --line explains any one.")
 
 
-def explained(script, answers, number, reason, numbers, in_full=True):
+def explained(
+    script: bytes, answers: list[str], number: int, reason: str, numbers: list[int], in_full: bool = True
+) -> Iterator[str]:
     """What a refusal means here, and what helps."""
     if in_full:
         yield f"{reason}: {refusals.meaning(reason)}."
@@ -94,7 +110,7 @@ def explained(script, answers, number, reason, numbers, in_full=True):
         yield refusals.HELP.get(reason, "")
 
 
-def say_line(script, answers, line, say):
+def say_line(script: bytes, answers: list[str], line: int, say: Callable[[str], object]) -> int:
     """Says what the answer to one line means."""
     found = [it for it in answers if it.startswith(f"{line} ")]
     if not found:

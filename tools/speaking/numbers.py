@@ -1,14 +1,20 @@
-"""The usual slips where a number is wanted. Each answers what to do, and the word to write, or None where that is not known."""
+"""The usual slips where a number is wanted. Each answers what to do, and the word to write, or None where that is not
+known."""
+
+from __future__ import annotations
+
 import re
 
 from speaking import texts
 from speaking.language import GREATEST
 
+# What to do, and the word to write, or None where that is not known.
+Slip = tuple[str, str | None]
 LEAST = {"TIME": 0, "PRI": 0}
 NAMES = {"H": "house", "M": "house", "R..": "house", "H..": "house", "D": "directory", "N": "message", "TIME": "time"}
 
 
-def slip(kind, word, words):
+def slip(kind: str, word: str, words: list[str]) -> Slip:
     """What is wrong with a word where a number of a kind is wanted."""
     for look in (date_or_time, listed, secondary, spelled, out_of_range, named):
         found = look(kind, word, words)
@@ -17,7 +23,7 @@ def slip(kind, word, words):
     return f"Write a number here, from {LEAST.get(kind, 1)} to {GREATEST[kind]:,}.", None
 
 
-def date_or_time(kind, word, _):
+def date_or_time(kind: str, word: str, _: list[str]) -> Slip | None:
     """A time of day, or a date, where a time is wanted."""
     if kind != "TIME":
         return None
@@ -29,7 +35,7 @@ def date_or_time(kind, word, _):
     return None
 
 
-def listed(kind, word, words):
+def listed(kind: str, word: str, words: list[str]) -> Slip | None:
     """Several numbers with commas in between, or a comma after one."""
     parts = [part for part in re.split("[,;]", word) if part]
     if len(parts) > 1 and kind in ("M", "R..", "H.."):
@@ -41,26 +47,34 @@ def listed(kind, word, words):
     return None
 
 
-def secondary(kind, word, words):
+def secondary(kind: str, word: str, words: list[str]) -> Slip | None:
     """A mark of a house's kind where it does not go."""
     digits = re.fullmatch(r"[sS]+:?(\d{1,3})|(\d{1,3}):?[sS]", word)
     if digits and kind in ("M", "H..", "H"):
         number = digits.group(1) or digits.group(2)
-        why = {"M": "The first house is the master, and has no `s`.", "H..": f"`{words[0]}` names houses without their kinds."}
-        return why.get(kind, "A house is its number alone; `s` marks a secondary member of `root`, `mkdir` and `epoch`."), number
+        why = {
+            "M": "The first house is the master, and has no `s`.",
+            "H..": f"`{words[0]}` names houses without their kinds.",
+        }
+        return (
+            why.get(kind, "A house is its number alone; `s` marks a secondary member of `root`, `mkdir` and `epoch`."),
+            number,
+        )
     if digits and kind == "R..":
         return "A secondary house is one small `s` and its number.", f"s{int(digits.group(1) or digits.group(2))}"
     found = re.fullmatch(r"(\d{1,3})(?::\d+)?:([msr])", word)
     if found and kind in ("M", "R..", "H..", "H"):
         mark = "s" if found.group(2) == "s" and kind == "R.." else ""
-        said = "That is how a dump prints a member. A script has its number alone, with `s` in front of a secondary one."
+        said = (
+            "That is how a dump prints a member. A script has its number alone, with `s` in front of a secondary one."
+        )
         return said, mark + found.group(1)
     if word in ("s", "S") and kind == "R..":
         return "No space goes between `s` and the number of a secondary house, as in `s3`.", None
     return None
 
 
-def spelled(kind, word, _):
+def spelled(kind: str, word: str, _: list[str]) -> Slip | None:
     """A number in another spelling."""
     bare = word.strip("\"'").removeprefix("#")
     least = LEAST.get(kind, 1)
@@ -84,21 +98,27 @@ def spelled(kind, word, _):
     return None
 
 
-def out_of_range(kind, word, words):
+def out_of_range(kind: str, word: str, words: list[str]) -> Slip | None:
     """A number that is too small or too great."""
     if not word.isdecimal():
         return None
     if kind == "D" and int(word) == 0:
         return "Directories are counted from 1; the root is 1.", "1"
     if kind == "N" and int(word) == 0:
-        return "Messages are counted from 1. The answer to the command that posted it names its number, after `posted`.", None
+        return (
+            "Messages are counted from 1. The answer to the command that posted it names its number, after `posted`.",
+            None,
+        )
     if int(word) == 0:
-        return f"The least number here is {LEAST.get(kind, 1)}; give each {NAMES.get(kind, 'thing')} one from there on.", None
+        return (
+            f"The least number here is {LEAST.get(kind, 1)}; give each {NAMES.get(kind, 'thing')} one from there on.",
+            None,
+        )
     more = "; a cell has at most 255 houses" if kind in ("H", "M", "R..", "H..") else ""
     return f"The greatest number here is {GREATEST[kind]:,}{more}.", None
 
 
-def named(kind, word, words):
+def named(kind: str, word: str, words: list[str]) -> Slip | None:
     """A name where a number is wanted."""
     if kind == "N":
         return named_message(word, words)
@@ -109,21 +129,30 @@ def named(kind, word, words):
         if digits:
             return "A house is its number alone.", digits.group(1)
         shown = f"`{word}`" if len(word) <= 40 else "it"
-        return f"A house is a number in a script: write the one that `house H NODE` gave {shown}. tools/write takes names.", None
+        return (
+            (
+                f"A house is a number in a script: write the one that `house H NODE` gave {shown}. tools/write takes"
+                " names."
+            ),
+            None,
+        )
     return None
 
 
-def named_message(word, words):
+def named_message(word: str, words: list[str]) -> Slip:
     """A name where the number of a message is wanted."""
     if word == "all":
-        return f"`{words[0]}` takes the number of one message. tools/write and tools/console know `{words[0]} all`.", None
+        return (
+            f"`{words[0]}` takes the number of one message. tools/write and tools/console know `{words[0]} all`.",
+            None,
+        )
     if word in ("to", "msg", "message", "but"):
         said = f"`{words[0]}` takes the number of one message and no more, as `{words[0]} 1`."
         return f"{said} tools/write knows `{words[0]} to HOUSE`.", None
     return "Write the number of the message: the answer to the command that posted it names it, after `posted`.", None
 
 
-def named_directory(word):
+def named_directory(word: str) -> Slip:
     """A name where the number of a directory is wanted."""
     if word in ("/.:", "/.:/", "/", "root", "."):
         return "A directory is a number; the root is 1.", "1"

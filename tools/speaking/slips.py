@@ -1,21 +1,41 @@
-"""The usual slips at each kind of word. Each answers what to do, and the word to write, or None where that is not known."""
+"""The usual slips at each kind of word. Each answers what to do, and the word to write, or None where that is not
+known."""
+
+from __future__ import annotations
+
 import difflib
 import re
+from collections.abc import Callable
 
+from cds.commands import STOPPED
 from speaking import numbers, texts
-from speaking.language import GREATEST, STOPPED
+from speaking.language import GREATEST
+from speaking.numbers import Slip
 from speaking.texts import UUID
 
-PROTOCOLS = {"tcp": "ncacn_ip_tcp", "udp": "ncadg_ip_udp", "ncacn_ip_udp": "ncadg_ip_udp", "ncadg_ip_tcp": "ncacn_ip_tcp"}
+PROTOCOLS = {
+    "tcp": "ncacn_ip_tcp",
+    "udp": "ncadg_ip_udp",
+    "ncacn_ip_udp": "ncadg_ip_udp",
+    "ncadg_ip_tcp": "ncacn_ip_tcp",
+}
 CHOICES = {
     "C": ("low", "high"), "WHAT": ("msg", "house"), "W": ("keep", "drop", "torn"),
     "KIND": ("all", "default", "byif", "bymbr", "byboth"), "VERS": ("all", "compatible", "exact", "major_only", "upto"),
     "COMMAND": STOPPED,
 }  # fmt: skip
-LIKE = {"message": "msg", "messages": "msg", "image": "house", "medium": "high", "any": "low", "all": "low", "major": "major_only"}
+LIKE = {
+    "message": "msg",
+    "messages": "msg",
+    "image": "house",
+    "medium": "high",
+    "any": "low",
+    "all": "low",
+    "major": "major_only",
+}
 
 
-def node(word, words):
+def node(word: str, words: list[str]) -> Slip:
     """A node identifier."""
     digits = texts.node(word)
     if digits:
@@ -32,7 +52,7 @@ def node(word, words):
     return f"{said}, if each house has its own.", None
 
 
-def simple(word, words):
+def simple(word: str, words: list[str]) -> Slip:
     """A simple name."""
     name = texts.full_name(word)
     if len(word) > 254:
@@ -42,11 +62,17 @@ def simple(word, words):
         return "Here goes the entry's own name, without the path; its directory is the number before it.", parts[0]
     if len(parts) > 1:
         above = "/".join(["/.:", *parts[:-1]])
-        return f"Here goes the entry's own name, `{parts[-1]}`. The number before it is that of its directory, {above[:80]}.", None
+        return (
+            (
+                f"Here goes the entry's own name, `{parts[-1]}`. The number before it is that of its directory,"
+                f" {above[:80]}."
+            ),
+            None,
+        )
     return "A simple name has no `/`.", None
 
 
-def name(word, words):
+def name(word: str, words: list[str]) -> Slip:
     """A full name."""
     better = texts.full_name(word)
     if len(word) > 1023:
@@ -62,7 +88,7 @@ def name(word, words):
     return "Here goes a full name, which begins with `/.:/`.", better
 
 
-def attribute(word, words):
+def attribute(word: str, words: list[str]) -> Slip:
     """The name of an attribute."""
     if re.fullmatch(r"[\d.]+", word):
         return "Write the attribute's name, as CDS_Class, and not its object identifier.", None
@@ -74,13 +100,16 @@ def attribute(word, words):
     return "The name of an attribute has letters, digits and `_` alone.", better if better.strip("_") else None
 
 
-def value(word, words):
+def value(word: str, words: list[str]) -> Slip:
     """A value."""
     if len(word) > 2048:
         return "A value has at most 1,024 octets, which are 2,048 digits.", None
     bare = word.strip("\"'")
     if bare != word:
-        said = "A value is hexadecimal in a script, two digits an octet. tools/write and tools/console take text in quotes."
+        said = (
+            "A value is hexadecimal in a script, two digits an octet. tools/write and tools/console take text in"
+            " quotes."
+        )
         return said, texts.value(bare)
     if re.fullmatch(r"0[xX]([0-9A-Fa-f]{2})+", word):
         return "Hexadecimal digits have no `0x` in front.", word[2:].lower()
@@ -90,10 +119,16 @@ def value(word, words):
         return f"Each octet has two digits, and here are {len(word)}.", "0" + word if len(word) == 1 else None
     if not bare:
         return "A value has at least one octet.", None
-    return f"A value is hexadecimal, two digits an octet. If the text {bare[:40]} is meant (`printf {bare[:40]} | xxd -p`):", texts.value(bare)
+    return (
+        (
+            f"A value is hexadecimal, two digits an octet. If the text {bare[:40]} is meant (`printf {bare[:40]} | xxd"
+            " -p`):"
+        ),
+        texts.value(bare),
+    )
 
 
-def octets(word, words):
+def octets(word: str, words: list[str]) -> Slip:
     """Octets of a message."""
     if re.fullmatch(r"0[xX]([0-9A-Fa-f]{2})+", word):
         return "Hexadecimal digits have no `0x` in front.", word[2:].lower()
@@ -102,23 +137,23 @@ def octets(word, words):
     return "Octets are hexadecimal digits, two an octet, as `octets msg N` prints them.", None
 
 
-def chosen(kind):
+def chosen(kind: str) -> Callable[[str, list[str]], Slip]:
     """The slips at a word out of a few."""
 
-    def choice(word, words):
+    def choice(word: str, words: list[str]) -> Slip:
         few = CHOICES[kind]
         said = "Write " + ", ".join(few[:-1]) + f" or {few[-1]} here, in small letters."
         if kind == "C" and word.startswith("/"):
             return "The confidence comes before the name: `low` asks the house, `high` the master.", f"low {word}"
-        better = word.lower().strip("\"',")
-        better = better if better in few else LIKE.get(better) if LIKE.get(better) in few else None
+        bare = word.lower().strip("\"',")
+        better = bare if bare in few else LIKE.get(bare) if LIKE.get(bare) in few else None
         near = difflib.get_close_matches(word.lower(), few, 1, 0.7)
         return said, better or (near[0] if near and kind != "COMMAND" else None)
 
     return choice
 
 
-def interface(word, words):
+def interface(word: str, words: list[str]) -> Slip:
     """An interface."""
     found = re.fullmatch(rf"\{{?({UUID})\}}?(?:[:,vV ]+[vV]?(\d+)(?:[.,](\d+))?)?", word)
     if found and found.group(2) is None:
@@ -137,7 +172,7 @@ def interface(word, words):
     return "An interface is its UUID with hyphens, a colon, and its version, as `:1.0`.", None
 
 
-def bindings(word, words):
+def bindings(word: str, words: list[str]) -> Slip:
     """String bindings."""
     if re.match(rf"{UUID}@", word):
         return "A binding has no object here: objects go into the next word.", word.partition("@")[2]
@@ -145,15 +180,28 @@ def bindings(word, words):
         return "Commas go between two bindings, and nowhere else.", ",".join(part for part in word.split(",") if part)
     parts = word.split(",")
     known = [part.partition(":") for part in parts]
-    better = ",".join(PROTOCOLS.get(sequence.lower(), sequence.lower()) + colon + rest for sequence, colon, rest in known)
+    better = ",".join(
+        PROTOCOLS.get(sequence.lower(), sequence.lower()) + colon + rest for sequence, colon, rest in known
+    )
     if any(not re.fullmatch(r"ncacn_ip_tcp|ncadg_ip_udp", it[0]) for it in known) and re.match("ncac|ncad", better):
-        return "The protocol sequences are `ncacn_ip_tcp` and `ncadg_ip_udp`, in small letters.", better if ":" in better else None
+        return "The protocol sequences are `ncacn_ip_tcp` and `ncadg_ip_udp`, in small letters.", (
+            better if ":" in better else None
+        )
     if any(not rest for _, _, rest in known):
-        return "A binding is the protocol sequence, a colon and the host's address, as `ncacn_ip_tcp:10.0.0.1[1025]`.", None
-    return "A binding is as `ncacn_ip_tcp:10.0.0.1[1025]`: an IP address in four numbers, and a port in brackets, or none.", None
+        return (
+            "A binding is the protocol sequence, a colon and the host's address, as `ncacn_ip_tcp:10.0.0.1[1025]`.",
+            None,
+        )
+    return (
+        (
+            "A binding is as `ncacn_ip_tcp:10.0.0.1[1025]`: an IP address in four numbers, and a port in brackets, or"
+            " none."
+        ),
+        None,
+    )
 
 
-def objects(word, words):
+def objects(word: str, words: list[str]) -> Slip:
     """UUIDs of objects."""
     if re.fullmatch("[0-]+", word):
         return "The nil UUID is no object; `-` means none.", "-"
@@ -166,7 +214,7 @@ def objects(word, words):
     return "An object is a UUID with hyphens; `-` means none.", None
 
 
-def protocols(word, words):
+def protocols(word: str, words: list[str]) -> Slip:
     """Protocol sequences."""
     parts = [PROTOCOLS.get(part.lower(), part.lower()) for part in word.split(",") if part]
     good = [part for at, part in enumerate(parts) if part in PROTOCOLS.values() and part not in parts[:at]]
@@ -174,14 +222,16 @@ def protocols(word, words):
     return said, ",".join(good) or "ncacn_ip_tcp,ncadg_ip_udp"
 
 
-def member(word, words):
+def member(word: str, words: list[str]) -> Slip:
     """The member of the elements that `proflist` lists."""
     if words[4] in ("bymbr", "byboth"):
-        return f"With `{words[4]}` the full name of the member goes here.", texts.full_name(word) if word != "-" else None
+        return f"With `{words[4]}` the full name of the member goes here.", (
+            texts.full_name(word) if word != "-" else None
+        )
     return f"With `{words[4]}` no member is named: write `-`.", "-"
 
 
-def interface_or_none(word, words):
+def interface_or_none(word: str, words: list[str]) -> Slip:
     """IFN, of `unexport` and `proflist`."""
     if words[0] == "proflist" and words[4] not in ("byif", "byboth"):
         return f"With `{words[4]}` no interface is named: write `-`.", "-"
@@ -192,7 +242,7 @@ def interface_or_none(word, words):
     return interface(word, words)
 
 
-def versions(word, words):
+def versions(word: str, words: list[str]) -> Slip:
     """VERS of `proflist`."""
     if words[4] not in ("byif", "byboth"):
         return f"With `{words[4]}` no versions are compared: write `all`.", "all"
@@ -200,13 +250,15 @@ def versions(word, words):
 
 
 KINDS = {
-    "NODE": node, "S": simple, "NAME": name, "ATTR": attribute, "VALUE": value, "OCTETS": octets, "IF": interface, "IFD": interface,
-    "IFN": interface_or_none, "BS": bindings, "OS": objects, "OBJ": objects, "PS": protocols, "MBR": member, "VERS": versions,
+    "NODE": node, "S": simple, "NAME": name, "ATTR": attribute, "VALUE": value, "OCTETS": octets, "IF": interface,
+    "IFD": interface, "IFN": interface_or_none, "BS": bindings, "OS": objects, "OBJ": objects, "PS": protocols,
+    "MBR": member, "VERS": versions,
 }  # fmt: skip
 
 
-def word_slip(kind, at, words):
-    """What to do about the word at a place, counted from 0, where a kind is wanted; and the words of the line, mended, or None."""
+def word_slip(kind: str, at: int, words: list[str]) -> tuple[str, list[str] | None]:
+    """What to do about the word at a place, counted from 0, where a kind is wanted; and the words of the line, mended,
+    or None."""
     word = words[at]
     if word.startswith("#"):
         said = "A remark needs a line of its own: a `#` further on begins no comment."

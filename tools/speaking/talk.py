@@ -5,7 +5,8 @@ import subprocess
 import threading
 from collections.abc import Sequence
 
-# A question of one line that is never a fault, and no message has this serial: once it is answered, so is all before it.
+# A question of one line that is never a fault, and no message has this serial: once it is answered, so is all before
+# it.
 MARK = "octets msg 16777216"
 # How many octets each pipe of Linux holds.
 AT_ONCE = 4096
@@ -33,12 +34,20 @@ class Talk:
         self.close()
         self.kept, self.count = [], 0
         pipe = subprocess.PIPE
-        self.process = subprocess.Popen(self.words, stdin=pipe, stdout=pipe, stderr=subprocess.DEVNULL, text=True, encoding="ascii", errors="replace")
+        self.process = subprocess.Popen(
+            self.words,
+            stdin=pipe,
+            stdout=pipe,
+            stderr=subprocess.DEVNULL,
+            text=True,
+            encoding="ascii",
+            errors="replace",
+        )
         return self.process
 
     def ask(self, script: Sequence[str], lines: Sequence[str], is_kept: bool) -> list[str] | None:
-        """The answers to lines that follow a script; None if the process ended otherwise than by a fault of one of them. Unless
-        they are kept, the lines have to be questions."""
+        """The answers to lines that follow a script; None if the process ended otherwise than by a fault of one of
+        them. Unless they are kept, the lines have to be questions."""
         process = self.process
         if process is None or len(self.kept) > len(script):
             process = self.begin()

@@ -55,7 +55,9 @@ class TalkTest(unittest.TestCase):
 
     def test_a_text_that_fills_pipes_is_written_beside_the_reading(self) -> None:
         lines = [f"{'x' * 100}{number}" for number in range(5000)]
-        self.assertEqual(self.talk.ask([], lines, True), [f"{number + 1} ok {line}" for number, line in enumerate(lines)])
+        self.assertEqual(
+            self.talk.ask([], lines, True), [f"{number + 1} ok {line}" for number, line in enumerate(lines)]
+        )
 
 
 if __name__ == "__main__":

@@ -1,7 +1,11 @@
 """A script from the words of an operator."""
-import re
 
-from pictures import replay as replays
+from __future__ import annotations
+
+import re
+from typing import IO
+
+from pictures import facts
 from speaking import desk, program, texts
 from speaking.tokens import Fault
 
@@ -10,21 +14,27 @@ class Faulty(Exception):
     """A faulty line of the operator."""
 
 
-def form_line(text):
-    """The form that the first line of the words names, or None, and the place of the line."""
+def form_line(text: str) -> tuple[tuple[str, ...], int]:
+    """The form that the first line of the words names, and the place of the line; or none, and -1."""
     for at, line in enumerate(text.splitlines()):
         if line.strip() and not line.strip().startswith("#"):
             found = re.fullmatch(r"\s*form\s+(.*?)\s*", line)
-            if found and not program.form_words(found.group(1)):
-                raise Faulty(f"line {at + 1}: `{found.group(1)}` is no form that replays a script: run, journal, inquire, or clerk N")
-            return (program.form_words(found.group(1)), at) if found else (None, None)
-    return None, None
+            words = program.form_words(found.group(1)) if found else ()
+            if found and not words:
+                raise Faulty(
+                    f"line {at + 1}: `{found.group(1)}` is no form that replays a script: run, journal, inquire, or"
+                    " clerk N"
+                )
+            return (words, at) if words else ((), -1)
+    return (), -1
 
 
-def write(text, form, given, has_answers, sink, errors):
+def write(
+    text: str, wanted: tuple[str, ...], given: str | None, has_answers: bool, sink: IO[str], errors: IO[str]
+) -> None:
     """Writes the script, or the answers, that words make."""
     named, at = form_line(text)
-    form = program.form_words(form) if form else named or ("run",)
+    form = wanted or named or ("run",)
     cell = desk.Desk(program.Program(given, form), has_comments=True)
     if form != ("run",):
         cell.lines.append(f"# ./cdsreplay {' '.join(form)} <FILE")
@@ -44,18 +54,18 @@ def write(text, form, given, has_answers, sink, errors):
                 cell.lines.append("")
 
 
-def one(cell, number, line):
+def one(cell: desk.Desk, number: int, line: str) -> desk.Done:
     """Does one line."""
     try:
         return cell.do(line)
     except Fault as fault:
         lines = str(fault).splitlines()
         raise Faulty("\n".join([f"line {number}: {line.strip()}", *lines])) from fault
-    except replays.Fault as fault:
+    except facts.Fault as fault:
         raise Faulty(f"line {number}: {line.strip()}: the answers are not understood: {fault}") from fault
 
 
-def answered(line, done, sink):
+def answered(line: str, done: desk.Done, sink: IO[str]) -> None:
     """Writes a line with the answers that tell something: all but those to deliveries and clocks that went well."""
     print(line, file=sink)
     for answer in done.answers:
@@ -63,7 +73,7 @@ def answered(line, done, sink):
             print(f"    {spoken(answer)}", file=sink)
 
 
-def spoken(answer):
+def spoken(answer: str) -> str:
     """An answer with values as text."""
     found = re.fullmatch(r"(\d+ ok \d+)((?: (?:[0-9a-f]{2})+)+)", answer)
     if found:

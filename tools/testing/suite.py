@@ -6,7 +6,6 @@ import dataclasses
 import os
 import re
 import shutil
-import sys
 import tempfile
 import threading
 import time
@@ -36,7 +35,8 @@ class Result:
 
 
 def counted(status: int, said: str) -> tuple[int, int]:
-    """How many things passed and failed, by the status and the words of a command: it is one thing if it does not count them itself."""
+    """How many things passed and failed, by the status and the words of a command: it is one thing if it does not count
+    them itself."""
     found = SUM.search(said.rstrip("\n")) or OF_CRATE.search(said)
     passed, failed = (int(found[1]), int(found[2])) if found else (int(status == 0), 0)
     return passed, failed or int(status != 0)
@@ -74,11 +74,14 @@ class Suite:
             self.paths[part.name] = said.rstrip("\n").rpartition("\n")[2]
         passed, failed = counted(status, said)
         found = self.results[part.name] = Result(passed, failed, time.monotonic() - began, worked)
-        self.print(f"== {part.name} ({part.what}): {found.seconds:.0f} seconds, {worked:.0f} of a processor\n{said.rstrip()}")
+        self.print(
+            f"== {part.name} ({part.what}): {found.seconds:.0f} seconds, {worked:.0f} of a processor\n{said.rstrip()}"
+        )
         return status == 0
 
     def ended(self, part: Part) -> tuple[int, str, float]:
-        """Runs the command of a part, and returns its status, what it said, and the seconds of processors that it took."""
+        """Runs the command of a part, and returns its status, what it said, and the seconds of processors that it
+        took."""
         with tempfile.TemporaryFile("w+", encoding="utf-8", errors="replace") as out:
             try:
                 with self.children.started(with_programs(part.words, self.paths), f"{ROOT}/{part.folder}", out) as ran:
@@ -119,11 +122,8 @@ def passed_over(kind: str) -> str:
 
 def table(parts: Iterable[Part]) -> str:
     """Lists parts, and the minutes of a processor that each takes."""
-    rows = [f"    {it.name:14}{it.minutes:5.1f}  {it.what}{f' (if {it.needs} is there)' if it.needs else ''}" for it in parts]
+    rows = [
+        f"    {it.name:14}{it.minutes:5.1f}  {it.what}{f' (if {it.needs} is there)' if it.needs else ''}"
+        for it in parts
+    ]
     return "\n".join(["The parts, and the minutes that each takes a processor of 2.5 GHz:", "", *rows])
-
-
-def fail(command: str, text: str) -> int:
-    """Says why nothing is tested, and returns the exit status."""
-    print(f"{command}: {text}", file=sys.stderr)
-    return 2

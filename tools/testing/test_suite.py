@@ -47,7 +47,9 @@ class OfSuites(unittest.TestCase):
     """Parts that run."""
 
     def test_sums_are_added(self) -> None:
-        self.assertEqual(ran(shell("a", "echo 3 passed, 0 failed"), shell("b", "exit 1"), shell("c", "exit 0"))[0], (4, 1))
+        self.assertEqual(
+            ran(shell("a", "echo 3 passed, 0 failed"), shell("b", "exit 1"), shell("c", "exit 0"))[0], (4, 1)
+        )
 
     def test_a_program_is_found_before_what_runs_it(self) -> None:
         found, said = ran(shell("cdsmend", "echo /a/path"), Part("after", "", ("echo", "{cdsmend}"), ("cdsmend",)))

@@ -116,7 +116,7 @@ digests_size number before [] size = size
 digests_size number before (s ∷ ss) size =
     digests_size (number + 1) (last_digest before (bodies_in_file number before s)) ss (last_size before (bodies_in_file number before s) size)
 
-pub zeros_size : length (replicate 32 0) ≡ 32
+pub zeros_size : length {A = ℕ} (replicate 32 0) ≡ 32
 zeros_size = refl
 
 -- the last of files that are segments, if there is one

@@ -21,7 +21,7 @@ use Rattle.house_program.proofs.FolderLemmas.{LastOf, bodies_of_chain, last_bodi
 -- a house goes on from records after a head, or does other than they say
 no_house : (records bodies : List (List ℕ)) (status : Status) → map body_in records ≡ bodies → LastBegan bodies → NoHouseOf records status
     → status ≡ statuses.OtherDeeds
-no_house records bodies _ are b (HeadAlone none) = absurd (cc (none_of records (are ∙ b.split) none))
+no_house records bodies _ are b (HeadAlone none) = absurd (none_of records (are ∙ b.split) none)
   where
     none_of : (rs : List (List ℕ)) → map body_in rs ≡ b.first ∷ b.others → rs ≡ [] → ⊥
     none_of [] split none = absurd (cc (split))
@@ -63,7 +63,7 @@ taken_up files h file last never status refused = by_segments h.gone h.segments 
   where
     by_segments : (gone segments : List FolderSegment) → IsFolder (gone ++ segments)
         → AreFiles (length gone + 1) (digest_after_all 1 (replicate 32 0) gone) segments files → status ≡ statuses.OtherDeeds
-    by_segments gone [] folder are = absurd (cc (last, ap last_file are))
+    by_segments gone [] folder are = let none : last_file files ≡ None = ap last_file are in absurd (cc (last, none))
     by_segments gone (s ∷ ss) folder are =
         let zeros = replicate 32 0 in
         let l = last_of (length gone + 1) (digest_after_all 1 zeros gone) s ss (last_bodies None gone) files are in

@@ -95,6 +95,7 @@ fn not_begun<F: Folder>(folder: &mut F, segment: NotBegun<F::File>) -> Status
     requires locked { F.locked folder.old ≡ true }
     requires cause { HasFaultCause 0 (F.File.faults segment.disk) segment.fault }
     ensures status { result ≡ status_not_begun segment.fault }
+    ensures locked { F.locked folder.new ≡ true }
     ensures quiet { Quiet F.kept F.left_ever F.named_at folder.old folder.new }
     ensures cause { CountsFile (is_disk_fault segment.fault) (F.faults folder.old)
         (F.faults folder.new) }

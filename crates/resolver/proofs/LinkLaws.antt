@@ -1,8 +1,7 @@
 -- Links: whether the name to which one leads came up before.
 use Rattle.std.proofs.Common.{◌≡◌, ◌∙◌, ℕ, suc, ◌-◌, Bool, true, false, List, [], ◌∷◌, ◌++◌, length, take, drop, refl, sym, ap, subst}
 use Rattle.std.proofs.Common.{append-nil, arith}
-use Rattle.std.specs.Prelude.{Option, Some, None, nat_eq, slice_get, option_copied}
-use Rattle.std.specs.Borrow.{Bor}
+use Rattle.std.specs.Prelude.{Option, Some, None, nat_eq, slice_get}
 use Rattle.std.specs.Option.{option_eq}
 use Rattle.std.specs.Cmp.Lexicographic.{pointwise}
 use Rattle.std.proofs.Math.Seq.{take-append_seam}
@@ -42,22 +41,12 @@ begins_otherwise name front rest begins = by_test (is_name name (front ++ rest))
 
 -- ---- the last component
 
--- equal names end alike
-pub end_alike : (all other : List (List ℕ)) (own last : List ℕ) → is_name all other ≡ true → Some own ≡ slice_get all (length all - 1)
-    → Some last ≡ slice_get other (length other - 1) → own ≡ last
-end_alike all other own last same has_own has_last =
-    let is : all ≡ other = (is_name-Decides all other).0 same in
-    some_alike own last (has_own ∙ ap (λ (n : List (List ℕ)). slice_get n (length n - 1)) is ∙ sym has_last)
-  where
-    some_alike : (a b : List ℕ) → Some a ≡ Some b → a ≡ b
-    some_alike a b e = cc (e)
-
--- with the same octet, if with any
-pub last_octets : (a b : Option (Bor ℕ)) → option_copied a ≡ option_copied b → option_eq (λ x y. nat_eq x.now y.now) a b ≡ true
-last_octets None None is = refl
-last_octets None (Some y) is = absurd (cc is)
-last_octets (Some x) None is = absurd (cc is)
-last_octets (Some x) (Some y) is = nat_alike x.now y.now is
+-- octets that are equal, if there are any
+pub octets_alike : (a b : Option ℕ) → a ≡ b → option_eq nat_eq a b ≡ true
+octets_alike None None is = refl
+octets_alike None (Some y) is = absurd (cc is)
+octets_alike (Some x) None is = absurd (cc is)
+octets_alike (Some x) (Some y) is = nat_alike x y is
   where
     nat_alike : (m n : ℕ) → ◌≡◌ {A = Option ℕ} (Some m) (Some n) → nat_eq m n ≡ true
     nat_alike m n e = let same : m ≡ n = cc (e) in grind (arith, nat_tests, same)

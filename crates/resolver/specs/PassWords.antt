@@ -1,5 +1,6 @@
 -- Words of contracts of the walk's parts: one component, and a walk between two of its look-ups.
 use Rattle.std.specs.Prelude.{◌≡◌, ◌≢◌, ℕ, ◌+◌, ◌-◌, ◌*◌, ◌<◌, ◌≤◌, Bool, List, [], ◌∷◌, ◌++◌, length, slice_get, Option, Some, None, unwrap_or, IfSome}
+use Rattle.std.specs.Option.{option_and_then}
 use Rattle.cell_names.specs.ChildPointers.{Pointer, pointer_in}
 use Rattle.cell_names.specs.declared.pointer.ChildPointer.{ChildPointer}
 use Rattle.resolver.specs.declared.refusal.Refusal.{Refusal}
@@ -30,6 +31,14 @@ present_name first later = unwrap_or (slice_get later (length later - 1)) first
 -- the directory that was entered last, or else the root directory
 abbrev pub current_dir : Option ChildPointer → ChildPointer → ChildPointer
 current_dir entered root = unwrap_or entered root
+
+-- the last of some octets (own)
+abbrev pub last_of_octets : List ℕ → Option ℕ
+last_of_octets octets = slice_get octets (length octets - 1)
+
+-- the octet at the end of a name: the last one of its last component (own)
+abbrev pub last_octet : List (List ℕ) → Option ℕ
+last_octet name = option_and_then last_of_octets (slice_get name (length name - 1))
 
 -- where a walk is
 abbrev pub walker_of : Walk → Walker

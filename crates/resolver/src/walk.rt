@@ -1,10 +1,10 @@
 //! The walk of a full name: between two of its look-ups, and to its end. A walk between look-ups
 //! knows no reader, so whoever looks up may have one of its own.
-ghost use Rattle.std.specs.Prelude.{◌≡◌, ◌+◌, ◌-◌, ◌<◌, ◌≤◌, [], ◌∷◌, ◌++◌, true, Some, Ok, Err, length, drop};
+ghost use Rattle.std.specs.Prelude.{◌≡◌, ◌+◌, ◌-◌, ◌<◌, ◌≤◌, List, ℕ, Option, [], ◌∷◌, ◌++◌, true, Some, Ok, Err, length, drop};
 ghost use Rattle.std.specs.Prelude.{option_copied, slice_get};
 ghost use Rattle.std.specs.Prelude.{IfOk, IfNone, IfSome, OnErr};
 ghost use Rattle.std.specs.List.{list_any};
-ghost use Rattle.std.specs.Option.{option_map};
+ghost use Rattle.std.specs.Option.{option_and_then, option_map};
 ghost use Rattle.cds_stamps.specs.Outcomes.{Answers, ok_unless};
 ghost use Rattle.cds_stamps.specs.declared.alloc_or.AllocOr.TheVariants.{Fault};
 ghost use Rattle.cell_names.specs.FullNames.{is_name, splice_fault};
@@ -16,6 +16,7 @@ ghost use Rattle.resolver.specs.Walks.{Ends, EndsFrom, link_refusal, step};
 ghost use Rattle.resolver.specs.Walks as walks;
 ghost use Rattle.resolver.specs.ChangingReaders.{look_of};
 ghost use Rattle.resolver.specs.PassWords.{IsAtComponent, IsBehindAll, IsNoRefusal, Saw, come_to, current_dir};
+ghost use Rattle.resolver.specs.PassWords.{last_octet, last_of_octets};
 ghost use Rattle.resolver.specs.PassWords.{first_walker, present_name, step_of, steps_ahead, walker_of};
 
 use crate::component::Component;
@@ -248,31 +249,30 @@ fn present<'a>(first: &'a FullName, later: &'a [FullName]) -> &'a FullName
 }
 
 // Whether a full name is this target with these components after it. If it is, they are no more
-// octets than a full name has. Most names differ in their number of components, or in their last
-// octet.
+// octets than a full name has.
 fn is_spliced(name: &FullName, target: &FullName, rest: &[SimpleName]) -> bool
     ensures value { result ≡ is_name name.now (target.now ++ rest.now) }
     ensures short { result ≡ true → splice_fault (target.now ++ rest.now) ≡ None }
 {
-    let all = name.components();
-    let front = target.components();
-    if all.len() != front.len() + rest.len() {
-        return false;
-    }
-    if !ends_so(all, front, rest) {
-        return false;
-    }
-    begins_so(all, front, rest)
+    begins_so(name.components(), target.components(), rest)
 }
 
-// Whether names end with the octet with which these and those after them do, if there are any of
-// both.
-fn ends_so(all: &[SimpleName], front: &[SimpleName], rest: &[SimpleName]) -> bool
-    ensures { is_name all.now (front.now ++ rest.now) ≡ true → result ≡ true }
+// Whether a name has so many components, and this octet at its end. Most names differ in these.
+fn may_be(name: &FullName, count: usize, last: Option<u8>) -> bool
+    ensures { (other : List (List ℕ)) → is_name name.now other ≡ true
+        → count ≡ length other → last ≡ last_octet other → result ≡ true }
 {
-    match (all.last(), last_of(front, rest)) {
-        (Some(own), Some(last)) => own.octets().last() == last.octets().last(),
-        (_, _) => true,
+    let own = name.components();
+    own.len() == count && octet_at_end(own.last()) == last
+}
+
+// The last octet of a component. None where it has none, or there is no component.
+fn octet_at_end(component: Option<&SimpleName>) -> Option<u8>
+    ensures { result ≡ option_and_then last_of_octets (option_copied component.entry) }
+{
+    match component {
+        Some(name) => name.octets().last().copied(),
+        None => None,
     }
 }
 
@@ -298,17 +298,20 @@ fn begins_so(all: &[SimpleName], front: &[SimpleName], rest: &[SimpleName]) -> b
 }
 
 // Whether a target with these components after it came up before. It is compared with each earlier
-// name once.
+// name once, and octet by octet only where the name may be the same.
 fn has_come_up(first: &FullName, later: &[FullName], target: &FullName, rest: &[SimpleName]) -> bool
     ensures value { result
         ≡ list_any (λ earlier. is_name earlier (target.now ++ rest.now)) (first.now ∷ later.now) }
     ensures short { result ≡ true → splice_fault (target.now ++ rest.now) ≡ None }
 {
-    if is_spliced(first, target, rest) {
+    let front = target.components();
+    let count = front.len() + rest.len();
+    let last = octet_at_end(last_of(front, rest));
+    if may_be(first, count, last) && is_spliced(first, target, rest) {
         return true;
     }
     for name in later {
-        if is_spliced(name, target, rest) {
+        if may_be(name, count, last) && is_spliced(name, target, rest) {
             return true;
         }
     }

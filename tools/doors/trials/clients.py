@@ -8,7 +8,7 @@ import threading
 import time
 from typing import NamedTuple, TextIO
 
-from housing.processes import ENDS
+from cds.processes import ENDS
 
 INTERFACE = "a0000000-0000-0000-0000-000000000001"
 # So long a client waits for a line of an answer, in seconds.

@@ -13,8 +13,9 @@ from collections.abc import Iterator
 from typing import Any
 
 from doors.trials.clients import Told
-from housing import explaining, journals
-from housing.replaying import answers_of
+from cds import journals
+from cds.answers import answers_of
+from housing import explaining
 
 # A place in the journals: the house, and the number of the entry before.
 Place = tuple[int, int]
@@ -34,7 +35,8 @@ class Explainer(explaining.Explainer):
         words = item.words
         if words[0] in WHOLE:
             # (a clerk knows where the root directory is by a house, the replay by its console)
-            self.due(f"dump {house} 1", ("root", str(self.directories[1][0] if 1 in self.directories else 0), []))
+            epoch, _ = self.console.directories.get(1, (0, {}))
+            self.due(f"dump {house} 1", ("root", str(epoch), []))
             self.due(" ".join(words), (f"whole {words[0]}", " ".join(words), item.answer))
         elif words[0] in ("dump", "status"):
             self.due(f"dump {house} {words[1]}", (words[0], " ".join(words), item.answer))
@@ -187,7 +189,9 @@ class Comparison:
             if found and each.answer[-1].startswith("ok"):
                 self.count("exports that were answered ok", not is_kept, f"{each.line}: it is in no journal")
             elif found and each.answer[-1].startswith("refused") and not each.answer[-1].endswith("doubt"):
-                self.count("exports that were refused", is_kept, f"{each.line}: {each.answer[-1]}, and it is in a journal")
+                self.count(
+                    "exports that were refused", is_kept, f"{each.line}: {each.answer[-1]}, and it is in a journal"
+                )
 
 
 def tower_end(host: str, port: int) -> str:

@@ -18,10 +18,24 @@ MACHINES = [1, 2, 3]
 CONSOLE = 1
 
 
-class Machines:
-    """`folder` gets a folder mN of each machine, and a folder hN of its house. `kind` is what carries lines between them."""
+def end(carrier: subprocess.Popen[bytes]) -> None:
+    """Ends a command and what it started."""
+    for number in (signal.SIGTERM, signal.SIGCONT):
+        os.killpg(carrier.pid, number)
+    try:
+        carrier.wait(2)
+    except subprocess.TimeoutExpired:
+        os.killpg(carrier.pid, signal.SIGKILL)
+        carrier.wait()
 
-    def __init__(self, folder: str, house: str, clerk: str, skulk_every: float, is_local: bool, kind: type[Tcp] = Tcp) -> None:
+
+class Machines:
+    """`folder` gets a folder mN of each machine, and a folder hN of its house. `kind` is what carries lines between
+    them."""
+
+    def __init__(
+        self, folder: str, house: str, clerk: str, skulk_every: float, is_local: bool, kind: type[Tcp] = Tcp
+    ) -> None:
         self.folder, self.house, self.clerk, self.skulk_every = folder, house, clerk, skulk_every
         self.doors: dict[int, subprocess.Popen[bytes]] = {}
         self.carriers: Carriers = {machine: [] for machine in MACHINES}
@@ -31,6 +45,8 @@ class Machines:
     def begin(self) -> None:
         self.net.begin()
         self.transport.prepare()
+        for words in self.transport.servers(self.place(CONSOLE, MACHINES[-1])):
+            self.carry(CONSOLE, words)
         for machine in MACHINES:
             self.begin_machine(machine)
 
@@ -38,8 +54,7 @@ class Machines:
         for door in self.doors.values():
             door.send_signal(signal.SIGTERM)
         for carrier in (carrier for each in self.carriers.values() for carrier in each):
-            carrier.kill()
-            carrier.wait()
+            end(carrier)
         for door in self.doors.values():
             door.wait()
         self.net.close()
@@ -52,10 +67,14 @@ class Machines:
         self.begin_door(machine)
         for other in MACHINES:
             if other != machine:
-                listens = self.transport.listener(machine, other, self.place(machine, other), f"{folder}/peer{other}")
-                with open(f"{folder}/listener{other}", "ab") as errors:
-                    words = [*self.net.inside(machine), *listens]
-                    self.carriers[machine].append(subprocess.Popen(words, start_new_session=True, stderr=errors))
+                place = self.place(machine, other)
+                self.carry(machine, self.transport.listener(machine, other, place, f"{folder}/peer{other}"))
+
+    def carry(self, machine: int, words: list[str]) -> None:
+        """Starts a command that carries lines, at a machine."""
+        with open(f"{self.folder}/carriers", "ab") as errors:
+            words = [*self.net.inside(machine), *words]
+            self.carriers[machine].append(subprocess.Popen(words, start_new_session=True, stderr=errors))
 
     def place(self, machine: int, other: int) -> Place:
         """Where a machine listens to the door of another one."""

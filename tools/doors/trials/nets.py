@@ -94,4 +94,4 @@ class Loopback(Namespaces):
 
     def signal(self, machine: int, number: signal.Signals) -> None:
         for carrier in self.carriers.get(machine, []):
-            carrier.send_signal(number)
+            os.killpg(carrier.pid, number)

@@ -16,7 +16,7 @@ sys.dont_write_bytecode = True
 sys.path.insert(0, os.path.dirname(os.path.dirname(os.path.dirname(os.path.realpath(__file__)))))
 from doors import executables
 from doors.trials.clients import INTERFACE
-from housing.processes import ENDS
+from cds.processes import ENDS
 
 NAMES = ["/.:", "/.:/a", "/.:/a/b", "/.:/a/b/c", "/.:/l", "/.:/" + "x" * 254, "/.:" + "/yy" * 340]
 ATTRIBUTES = ["CDS_Towers", "RPC_Group", "RPC_Profile", "RPC_ObjectUUIDs", "CDS_LinkTarget", "CDS_Replicas", "A-", ""]

@@ -1,9 +1,11 @@
-"""What carries the lines of one door to another one: TCP alone, `ssh` with a key and a forced command for each machine, or TLS (`socat`)
-with a certificate for each machine. Nothing of it is ours but the words of the commands (docs/LIVE.md)."""
+"""What carries the lines of one door to another one: TCP alone, `ssh` with a key and a forced command for each machine,
+TLS (`socat`) with a certificate for each machine, or a broker (`mosquitto`) with such certificates. Nothing of it is
+ours but the words of the commands (docs/LIVE.md)."""
 from __future__ import annotations
 
 import getpass
 import os
+import shlex
 import shutil
 import subprocess
 import sys
@@ -12,6 +14,9 @@ from typing import NamedTuple
 HERE = os.path.dirname(os.path.realpath(__file__))
 CARRY, PEER = f"{HERE}/carry.py", os.path.realpath(f"{HERE}/../../door-peer")
 SSHD = "/usr/sbin/sshd"
+BROKER = shutil.which("mosquitto", path=f"{os.environ.get('PATH', '')}:/usr/sbin")
+NEW = ["openssl", "req", "-newkey", "ec", "-pkeyopt", "ec_paramgen_curve:prime256v1", "-nodes", "-days", "365"]
+EXAMPLES = os.path.realpath(f"{HERE}/../../../examples/live")
 
 
 class Place(NamedTuple):
@@ -41,6 +46,10 @@ class Tcp:
 
     def prepare(self) -> None:
         """Makes what the machines have to have before they listen."""
+
+    def servers(self, place: Place) -> list[list[str]]:
+        """The commands that run at one machine for all of them, which may listen there."""
+        return []
 
     def listener(self, machine: int, other: int, place: Place, socket: str) -> list[str]:
         """The command that listens at a machine for another one, and leads it to this socket."""
@@ -82,8 +91,9 @@ class Ssh(Tcp):
             file.write(f'restrict,command="{sys.executable} {PEER} {socket}" {self.public(f"door{other}")}\n')
         settings = {
             "Port": place.port, "ListenAddress": place.host, "HostKey": self.key(f"host{machine}"), "PidFile": "none",
-            "AuthorizedKeysFile": f"{own}.authorized", "PasswordAuthentication": "no", "KbdInteractiveAuthentication": "no",
-            "PermitRootLogin": "forced-commands-only", "StrictModes": "no", "UsePAM": "no", "LogLevel": "ERROR",
+            "AuthorizedKeysFile": f"{own}.authorized", "PasswordAuthentication": "no",
+            "KbdInteractiveAuthentication": "no", "PermitRootLogin": "forced-commands-only", "StrictModes": "no",
+            "UsePAM": "no", "LogLevel": "ERROR",
         }  # fmt: skip
         with open(f"{own}.config", "w", encoding="ascii") as file:
             file.writelines(f"{word} {value}\n" for word, value in settings.items())
@@ -94,14 +104,21 @@ class Ssh(Tcp):
         known = self.key(f"known{machine}to{other}")
         with open(known, "w", encoding="ascii") as file:
             file.write(f"[{place.host}]:{place.port} {self.public(f'host{other}')}\n")
-        options = ["BatchMode=yes", "ConnectTimeout=2", "ServerAliveInterval=1", "ServerAliveCountMax=2", "IdentitiesOnly=yes"]
+        options = [
+            "BatchMode=yes",
+            "ConnectTimeout=2",
+            "ServerAliveInterval=1",
+            "ServerAliveCountMax=2",
+            "IdentitiesOnly=yes",
+        ]
         options += [f"UserKnownHostsFile={known}", "StrictHostKeyChecking=yes", "LogLevel=ERROR"]
         words = ["ssh", "-F", "none", "-i", self.key(f"door{machine}"), "-p", place.port]
         return [*words, *(word for it in options for word in ("-o", it)), f"{getpass.getuser()}@{place.host}"]
 
 
 class Tls(Tcp):
-    """TLS by `socat`: a certificate for each machine, which one authority signed. Each listener takes the one of its machine alone."""
+    """TLS by `socat`: a certificate for each machine, which one authority signed. Each listener takes the one of its
+    machine alone."""
 
     name = "tls"
 
@@ -116,17 +133,29 @@ class Tls(Tcp):
         os.makedirs(f"{self.folder}/certificates", exist_ok=True)
         if os.path.exists(self.file("authority.pem")):
             return
-        new = ["openssl", "req", "-newkey", "ec", "-pkeyopt", "ec_paramgen_curve:prime256v1", "-nodes", "-days", "365"]
         authority = ["-keyout", self.file("authority.key"), "-out", self.file("authority.pem")]
-        made(*new, "-x509", "-subj", "/CN=authority", *authority)
+        made(*NEW, "-x509", "-subj", "/CN=authority", *authority)
         for name in (f"host{machine}" for machine in self.machines):
-            made(*new, "-subj", f"/CN={name}", "-keyout", self.file(f"{name}.key"), "-out", self.file(f"{name}.request"))
-            signed = ["-CA", self.file("authority.pem"), "-CAkey", self.file("authority.key"), "-CAcreateserial", "-days", "365"]
-            made("openssl", "x509", "-req", "-in", self.file(f"{name}.request"), *signed, "-out", self.file(f"{name}.crt"))
-            with open(self.file(f"{name}.pem"), "w", encoding="ascii") as both:
-                for part in ("key", "crt"):
-                    with open(self.file(f"{name}.{part}"), encoding="ascii") as one:
-                        both.write(one.read())
+            self.certificate(name)
+
+    def certificate(self, name: str, more: str = "") -> None:
+        """Makes a key and a certificate of this name, which the authority signs, with an extension if there is more."""
+        key, request, signed = (self.file(f"{name}.{it}") for it in ("key", "request", "crt"))
+        made(*NEW, "-subj", f"/CN={name}", "-keyout", key, "-out", request, *(["-addext", more] if more else []))
+        by = [
+            "-CA",
+            self.file("authority.pem"),
+            "-CAkey",
+            self.file("authority.key"),
+            "-CAcreateserial",
+            "-days",
+            "365",
+        ]
+        made("openssl", "x509", "-req", "-in", request, *by, "-copy_extensions", "copy", "-out", signed)
+        with open(self.file(f"{name}.pem"), "w", encoding="ascii") as both:
+            for part in (key, signed):
+                with open(part, encoding="ascii") as one:
+                    both.write(one.read())
 
     def options(self, own: int, other: int) -> str:
         return f"cert={self.file(f'host{own}.pem')},cafile={self.file('authority.pem')},verify=1,commonname=host{other}"
@@ -140,4 +169,43 @@ class Tls(Tcp):
         return ["socat", "-", reaches]
 
 
-TRANSPORTS: dict[str, type[Tcp]] = {it.name: it for it in (Tcp, Ssh, Tls)}
+class Mqtt(Tls):
+    """A broker, `mosquitto`, to which each machine comes with its certificate. Its list says which topics are whose."""
+
+    name = "mqtt"
+
+    @staticmethod
+    def is_there() -> bool:
+        return BROKER is not None and all(map(shutil.which, ("mosquitto_pub", "mosquitto_sub", "openssl")))
+
+    def servers(self, place: Place) -> list[list[str]]:
+        self.place = place
+        self.certificate("broker", f"subjectAltName=IP:{place.host}")
+        with open(f"{EXAMPLES}/mosquitto.conf", encoding="ascii") as file:
+            text = file.read().replace("listener 8883", f"listener {place.port} {place.host}")
+        for name in ("authority.pem", "broker.crt", "broker.key"):
+            text = text.replace(f"/etc/cds/{name}", self.file(name))
+        text = text.replace("/etc/cds/mosquitto.acl", f"{EXAMPLES}/mosquitto.acl")
+        with open(self.file("mosquitto.conf"), "w", encoding="ascii") as file:
+            # (else it becomes another user, who may not read these files)
+            file.write(f"{text}user {getpass.getuser()}\n")
+        return [[BROKER or "mosquitto", "-c", self.file("mosquitto.conf")]]
+
+    def broker(self, own: int) -> list[str]:
+        """The words by which a machine comes to the broker."""
+        files = ["--cafile", self.file("authority.pem"), "--cert", self.file(f"host{own}.crt")]
+        return ["-h", self.place.host, "-p", self.place.port, *files, "--key", self.file(f"host{own}.key")]
+
+    def stream(self, own: int, *words: str) -> list[str]:
+        """The stream of a machine to another one."""
+        return ["env", f"CDS_BROKER={' '.join(self.broker(own))}", f"{EXAMPLES}/mqtt.sh", f"host{own}", *words]
+
+    def listener(self, machine: int, other: int, place: Place, socket: str) -> list[str]:
+        answers = shlex.join([sys.executable, PEER, socket, *self.stream(machine, f"host{other}")])
+        return ["sh", "-c", f"while sleep 0.2; do {answers}; done"]
+
+    def via(self, machine: int, other: int, place: Place) -> list[str]:
+        return self.stream(machine, f"host{other}", str(other))
+
+
+TRANSPORTS: dict[str, type[Tcp]] = {it.name: it for it in (Tcp, Ssh, Tls, Mqtt)}

@@ -1,9 +1,14 @@
 """Scripts on which pages are tried: a long one, one of hostile words, and one of nothing."""
 
+from __future__ import annotations
+
+from collections.abc import Iterable
+
+
 HOUSES = 60
 
 # Words that are HTML, or the parts of a page, wherever a script takes them.
-HOSTILE = """# </script><script>document.title = "caught"</script> <!-- %%DATA%% ]]> &amp; 
+HOSTILE = """# </script><script>document.title = "caught"</script> <!-- %%DATA%% ]]> &amp;\x20
 house 1 00000000000a
 house 2 00000000000b
 root 1 2
@@ -53,22 +58,22 @@ epoch 1 1 2 s3
 class Long:
     """A long script as it grows; it counts the messages that it posts."""
 
-    def __init__(self):
+    def __init__(self) -> None:
         others = " ".join(f"{'s' if it == 2 else ''}{it}" for it in range(2, HOUSES + 1))
         self.lines = [f"house {it} {it:012x}" for it in range(1, HOUSES + 1)] + [f"root 1 {others}"]
         self.serial = 0
         self.deliver(it for it in self.post() if it != 12)
 
-    def post(self, count=HOUSES - 1):
+    def post(self, count: int = HOUSES - 1) -> range:
         """The serials of so many messages."""
         self.serial += count
         return range(self.serial - count + 1, self.serial + 1)
 
-    def deliver(self, serials):
+    def deliver(self, serials: Iterable[int]) -> None:
         """Delivers messages."""
         self.lines += [f"deliver {it}" for it in serials]
 
-    def update(self, number):
+    def update(self, number: int) -> None:
         """An entry and its value at one of two houses, of which some hear; each ninth is deleted again."""
         house = 1 + number % 2
         self.lines.append(f"create {house} 1 e{number}")
@@ -79,14 +84,14 @@ class Long:
             self.lines.append(f"delete {house} 1 e{number}")
             self.lines.append(f"lose {self.post()[0]}")
 
-    def skulk(self):
+    def skulk(self) -> None:
         """A skulk that is not complete."""
         self.lines.append("skulk 1 1")
         self.deliver(self.post()[:10])
         self.post(10)
 
 
-def long_script(lines=2000):
+def long_script(lines: int = 2000) -> str:
     """A script of so many lines, of sixty houses."""
     script, number = Long(), 0
     while len(script.lines) < lines - 200:

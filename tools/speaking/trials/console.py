@@ -1,10 +1,14 @@
 """Trials of tools/console: lines from a pipe, and keys in a terminal, which tmux plays."""
+
+from __future__ import annotations
+
 import os
 import shutil
 import subprocess
 import sys
 import tempfile
 import time
+from collections.abc import Iterator
 
 from speaking import console, program
 
@@ -33,7 +37,10 @@ TYPED = (
     (CELL + "mkdir a_ch /.:/print b_ch\nshow /.:/print\n", ["master"]),
     (CELL + "show /.:/print\n", ["No directory /.:/print was made here"]),
     ("help\n", ["help COMMAND", "undo", "save FILE"]),
-    ("help create\n", ["create H D S: makes an object", "a number from 1 to 255", "makes an entry with the simple name S"]),
+    (
+        "help create\n",
+        ["create H D S: makes an object", "a number from 1 to 255", "makes an entry with the simple name S"],
+    ),
     ("help deliver\n", ["gives the message N to its receiver"]),
     ("help nonsense\n", ["There is no command `nonsense`"]),
     ("help undo\n", ["takes the last line back"]),
@@ -41,20 +48,23 @@ TYPED = (
     ("stop 1 4 keep skulk 1 1\n", ["a command of the form `journal`"]),
     ("quit\nhouse a_ch\n", ["!house 1 is a_ch"]),
     ("house a_ch\nquit\nquit\nhouse b_ch\n", ["1 line would be lost", "!house 2 is b_ch"]),
-    ("load /nowhere\nsave\nload\n", ["/nowhere: No such file", "Name the file: `save FILE`.", "Name the file: `load FILE`."]),
+    (
+        "load /nowhere\nsave\nload\n",
+        ["/nowhere: No such file", "Name the file: `save FILE`.", "Name the file: `load FILE`."],
+    ),
     ("house 1 00000000000a\nscript\n", ["   1  house 1 00000000000a"]),
     ("house 1 00000000000a \u00e9\n", ["is no name of a house"]),
 )  # fmt: skip
 
 
-def piped(path, text, *form, folder=None):
+def piped(path: str, text: str, *form: str, folder: str | None = None) -> tuple[str, int]:
     """What the console says to lines from a pipe, and its exit status."""
     words = [sys.executable, CONSOLE, "--program", path, *form]
     ran = subprocess.run(words, input=text.encode(), capture_output=True, check=False, timeout=PATIENCE, cwd=folder)
     return ran.stdout.decode() + ran.stderr.decode(), ran.returncode
 
 
-def said_problem(said, wanted):
+def said_problem(said: str, wanted: list[str]) -> str | None:
     """The first thing that was not said, or that was and must not be; or None."""
     for it in wanted:
         if it.startswith("!") == (it.removeprefix("!") in said):
@@ -62,9 +72,9 @@ def said_problem(said, wanted):
     return None
 
 
-def typed(path, text):
+def typed(path: str, text: str) -> str:
     """What the console says to lines."""
-    said = []
+    said: list[str] = []
     at = console.Console(program.Program(path), said.append)
     for line in text.splitlines():
         if not at.is_over:
@@ -72,7 +82,7 @@ def typed(path, text):
     return "\n".join(said)
 
 
-def from_a_pipe(path):
+def from_a_pipe(path: str) -> Iterator[tuple[str, str | None]]:
     """Lines that are typed."""
     for text, wanted in TYPED:
         yield repr(text), said_problem(typed(path, text), wanted)
@@ -80,7 +90,9 @@ def from_a_pipe(path):
     yield "lines from a pipe", said_problem(said, ["1 ok", "3  Update from a_ch to b_ch"]) if status == 0 else said
     said, _ = piped(path, "house 1 00000000000a\nroot 1\nimage 1\n", "journal")
     yield "the form journal", said_problem(said, ["3 ok "])
-    said, _ = piped(path, CELL + 'add a_ch lpr A "1"\nread a_ch lpr A\nput a_ch lpr A "2"\nread a_ch lpr A\n', "clerk", "4")
+    said, _ = piped(
+        path, CELL + 'add a_ch lpr A "1"\nread a_ch lpr A\nput a_ch lpr A "2"\nread a_ch lpr A\n', "clerk", "4"
+    )
     yield "the form clerk", said_problem(said, ['9 ok 1 "1"', '11 ok 1 "1"'])
     said, status = piped(path, "", "load", "3")
     yield "a form that replays no script", None if status == 2 and "is no form" in said else said
@@ -88,11 +100,13 @@ def from_a_pipe(path):
     yield "a program that is not there", None if status == 1 and "No such file" in said else said
 
 
-def files(path):
+def files(path: str) -> Iterator[tuple[str, str | None]]:
     """Lines that are saved, loaded and drawn."""
     with tempfile.TemporaryDirectory() as folder:
         said, _ = piped(path, CELL + "save cell.cds\nsave cell.cds\nsave cell.cds over\npicture\n", folder=folder)
-        yield "save, and not over", said_problem(said, ["cell.cds has 7 lines", "`save cell.cds over` writes over it", "cell.svg is drawn"])
+        yield "save, and not over", said_problem(
+            said, ["cell.cds has 7 lines", "`save cell.cds over` writes over it", "cell.svg is drawn"]
+        )
         with open(f"{folder}/cell.cds", encoding="ascii") as it:
             script = it.read()
         names = "# house 1 is a_ch\n# house 2 is b_ch\n# house 3 is c_ch\n"
@@ -110,21 +124,28 @@ def files(path):
 class Terminal:
     """A terminal with the console in it, which tmux plays."""
 
-    def __init__(self, path, folder):
+    def __init__(self, path: str, folder: str) -> None:
         self.name = f"console-{os.getpid()}"
-        self.call("new-session", "-d", "-x", "110", "-y", "45", "-c", folder, sys.executable, CONSOLE, "--program", path)
+        self.call(
+            "new-session", "-d", "-x", "110", "-y", "45", "-c", folder, sys.executable, CONSOLE, "--program", path
+        )
 
-    def call(self, *words):
+    def call(self, *words: str) -> str:
         """Calls tmux, with a server of its own."""
-        ran = subprocess.run(["tmux", "-L", self.name, "-f", "/dev/null", *words], capture_output=True, check=False, timeout=PATIENCE)
+        ran = subprocess.run(
+            ["tmux", "-L", self.name, "-f", "/dev/null", *words], capture_output=True, check=False, timeout=PATIENCE
+        )
         return ran.stdout.decode()
 
-    def type(self, *keys):
+    def type(self, *keys: str) -> None:
         """Types keys, each a name of tmux, or a text."""
         for key in keys:
-            self.call("send-keys", *([key] if key in ("Enter", "Up", "Left", "BSpace", "Tab", "C-c", "C-d", "C-a") else ["-l", key]))
+            self.call(
+                "send-keys",
+                *([key] if key in ("Enter", "Up", "Left", "BSpace", "Tab", "C-c", "C-d", "C-a") else ["-l", key]),
+            )
 
-    def problem(self, wanted):
+    def problem(self, wanted: list[str]) -> str | None:
         """What does not come to the screen in time, or None."""
         end, shown = time.monotonic() + PATIENCE, ""
         while time.monotonic() < end:
@@ -134,7 +155,7 @@ class Terminal:
             time.sleep(0.1)
         return f"{wanted} is not on the screen:\n{shown}"
 
-    def is_over(self):
+    def is_over(self) -> bool:
         """Whether the console has ended."""
         end = time.monotonic() + PATIENCE
         while time.monotonic() < end:
@@ -143,16 +164,21 @@ class Terminal:
             time.sleep(0.1)
         return False
 
-    def close(self):
+    def close(self) -> None:
         """Ends the server, which is this terminal's own."""
         self.call("kill-server")
 
 
-# Keys, and what has to come to the screen. (A Ctrl-D that comes before the prompt is lost, so the last two wait for it.)
+# Keys, and what has to come to the screen. (A Ctrl-D that comes before the prompt is lost, so the last two wait for
+# it.)
 KEYS = (
     ("a prompt with the number of the line", ["house 1 00000000000a", "Enter"], ["1> house 1", "1 ok", "2>"]),
     ("a typo is explained, and nothing is lost", ["rot 1", "Enter"], ["Is `root` meant?", "2>"]),
-    ("arrow-up brings the line back, to be mended", ["Up", "Left", "Left", "BSpace", "ot", "Enter"], ["2> root 1", "2 ok", "3>"]),
+    (
+        "arrow-up brings the line back, to be mended",
+        ["Up", "Left", "Left", "BSpace", "ot", "Enter"],
+        ["2> root 1", "2 ok", "3>"],
+    ),
     ("Ctrl-C drops a line", ["create 1 1 wr", "C-c"], ["^C", "3>"]),
     ("Tab completes a command", ["cre", "Tab", "1 1 lpr", "Enter"], ["3> create 1 1 lpr", "3 ok 1@00000000000a", "4>"]),
     ("undo", ["undo", "Enter"], ["4> undo", "taken back: create 1 1 lpr"]),
@@ -163,7 +189,7 @@ KEYS = (
 )
 
 
-def in_a_terminal(path):
+def in_a_terminal(path: str) -> Iterator[tuple[str, str | None]]:
     """Keys in a terminal."""
     if not shutil.which("tmux"):
         print("console: tmux is not there, so no key was typed")
@@ -181,7 +207,7 @@ def in_a_terminal(path):
             terminal.close()
 
 
-def trials(path):
+def trials(path: str) -> Iterator[tuple[str, str | None]]:
     """All trials of tools/console."""
     yield from from_a_pipe(path)
     yield from files(path)

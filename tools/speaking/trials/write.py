@@ -1,14 +1,18 @@
 """Trials of tools/write: five incidents from their logs, lines that are wrong, and each kind of line.
 
-A file of incidents/ has a sentence, the log, the words of the operator, and answers that are known beforehand: `WORDS => ANSWER`, in
-the order of the words, each of which is one line of the answers to that line.
+A file of incidents/ has a sentence, the log, the words of the operator, and answers that are known beforehand: `WORDS
+=> ANSWER`, in the order of the words, each of which is one line of the answers to that line.
 """
+
+from __future__ import annotations
+
 import glob
 import io
 import os
 import re
 import subprocess
 import sys
+from collections.abc import Iterator
 
 from speaking import program, writing
 
@@ -16,28 +20,30 @@ HERE = os.path.dirname(os.path.realpath(__file__))
 WRITE = f"{os.path.dirname(os.path.dirname(HERE))}/write"
 
 
-def write(path, words, has_answers=False):
+def write(path: str, words: str, has_answers: bool = False) -> tuple[str, str, int]:
     """What tools/write writes, what it says beside, and its exit status."""
     sink, errors = io.StringIO(), io.StringIO()
     try:
-        writing.write(words, None, path, has_answers, sink, errors)
+        writing.write(words, (), path, has_answers, sink, errors)
     except writing.Faulty as fault:
         return sink.getvalue(), str(fault), 1
     return sink.getvalue(), errors.getvalue(), 0
 
 
-def called(words, *more):
+def called(words: str, *more: str) -> tuple[str, int]:
     """What tools/write says when it is called, and its exit status."""
-    ran = subprocess.run([sys.executable, WRITE, *more], input=words.encode(), capture_output=True, check=False, timeout=120)
+    ran = subprocess.run(
+        [sys.executable, WRITE, *more], input=words.encode(), capture_output=True, check=False, timeout=120
+    )
     return (ran.stdout + ran.stderr).decode(), ran.returncode
 
 
-def commands(text):
+def commands(text: str) -> list[str]:
     """The lines of a script, or of an operator, that say something."""
     return [line for line in text.splitlines() if line.strip() and not line.strip().startswith("#")]
 
 
-def answer_problem(spoken, expected):
+def answer_problem(spoken: str, expected: str) -> str | None:
     """The first answer that does not come, in the order of the words, or None."""
     blocks = [block.splitlines() for block in re.split(r"(?m)^(?! )", spoken) if block]
     at = 0
@@ -50,13 +56,13 @@ def answer_problem(spoken, expected):
     return None
 
 
-def is_answered(block, words, answer):
+def is_answered(block: list[str], words: str, answer: str) -> bool:
     """Whether a line and its answers are these words and, among others, this answer."""
     said = [re.sub(r"^\d+ ", "", line.strip()).partition(" posted ")[0] for line in block[1:]]
     return block[0].partition("  #")[0].strip() == words and answer in said
 
 
-def incident(path, file):
+def incident(path: str, file: str) -> Iterator[tuple[str, str | None]]:
     """The problems of one incident."""
     with open(file, encoding="ascii") as it:
         _, log, words, expected = re.split(r"(?m)^--- (?:log|words|answers)\n", it.read())
@@ -151,12 +157,15 @@ BESIDE = (
     (CELL + "create b_ch lpr\n", "has not got its Join yet"),
     (CELL + "deliver all\ncreate b_ch lpr\n", "The master is house 1"),
     (CELL + "08:00 a_ch create a\n07:00 a_ch create b\n", "Is it the next day?"),
-    (CELL + "deliver all\ncrash c_ch\nskulk a_ch through\n", "The skulk is not complete: Nothing was delivered: c_ch is down."),
+    (
+        CELL + "deliver all\ncrash c_ch\nskulk a_ch through\n",
+        "The skulk is not complete: Nothing was delivered: c_ch is down.",
+    ),
     (CELL + "deliver all\ndeliver all\n", "No message is under way there."),
 )  # fmt: skip
 
 
-def trials(path):
+def trials(path: str) -> Iterator[tuple[str, str | None]]:
     """All trials of tools/write."""
     for file in sorted(glob.glob(f"{HERE}/incidents/*.incident")):
         yield from incident(path, file)
@@ -169,11 +178,20 @@ def trials(path):
     for words, said in BESIDE:
         _, beside, status = write(path, words)
         yield repr(words), None if status == 0 and said in beside else f"status {status}: {beside}"
-    for words, script, status, phrase in (
-        ([], "", 2, "name a file"), (["/nowhere"], "", 1, "No such file"), (["--form", "towers", "-"], "", 2, "is no form"),
-        (["--program", "/nowhere", "-"], "house a_ch\n", 1, "/nowhere: No such file"), (["--help"], "", 0, "from here deliver all"),
-        (["--program", path, "--answers", "-"], CELL + 'a_ch create lpr Place "hall"\nread a_ch lpr Place\n', 0, 'ok 1 "hall"\n'),
-        (["--program", path, "-"], CELL + "create d_ch lpr\n", 1, "write: line 3: create d_ch lpr\nThere is no house `d_ch`"),
-    ):  # fmt: skip
-        said, ended = called(script, *words)
-        yield f"tools/write {' '.join(words)}", None if ended == status and phrase in said else f"{ended}: {said}"
+    uses: tuple[tuple[list[str], str, int, str], ...] = (
+        ([], "", 2, "name a file"), (["/nowhere"], "", 1, "No such file"),
+        (["--form", "towers", "-"], "", 2, "is no form"),
+        (["--program", "/nowhere", "-"], "house a_ch\n", 1, "/nowhere: No such file"),
+        (["--help"], "", 0, "from here deliver all"),
+        (
+            ["--program", path, "--answers", "-"], CELL + 'a_ch create lpr Place "hall"\nread a_ch lpr Place\n',
+            0, 'ok 1 "hall"\n',
+        ),
+        (
+            ["--program", path, "-"], CELL + "create d_ch lpr\n",
+            1, "write: line 3: create d_ch lpr\nThere is no house `d_ch`",
+        ),
+    )  # fmt: skip
+    for given, script, status, phrase in uses:
+        said, ended = called(script, *given)
+        yield f"tools/write {' '.join(given)}", None if ended == status and phrase in said else f"{ended}: {said}"

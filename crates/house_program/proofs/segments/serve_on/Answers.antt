@@ -1,4 +1,4 @@
-use Rattle.std.proofs.Common.{ℕ, inl, refl, subst, ◌∙◌}
+use Rattle.std.proofs.Common.{◌≡◌, ◌↔◌, ◌≤◌, ℕ, true, inl, refl, subst, sym, ◌∙◌}
 use Rattle.cds_base.proofs.KnownOctets.{appends_none}
 use Rattle.house_segments.specs.Segments.{HasFaultCause}
 use Rattle.house_program.specs.Beginnings.{first_bodies}
@@ -10,7 +10,7 @@ pub name-requires-clause-above : goal.name-requires-clause-above
 name-requires-clause-above g c = λ files kept. c.requires.above files (c.make.ensures.quiet.fewer files kept)
 
 pub speak_and_serve-ending-requires-clause-ready : goal.speak_and_serve-ending-requires-clause-ready
-speak_and_serve-ending-requires-clause-ready g c = (c.args.next.now.before, first_bodies c.args.next.now, c.in_ok-segment.ensures.ok)
+speak_and_serve-ending-requires-clause-ready g c = (c.args.next.now.before, first_bodies c.args.next.now, c.in-Ok.ensures.ok)
 
 pub returns-in_err-file-clause-done : goal.returns-in_err-file-clause-done
 returns-in_err-file-clause-done g c =
@@ -23,7 +23,8 @@ not_begun-requires-clause-cause g c =
 
 pub close-requires-clause-failed : goal.close-requires-clause-failed
 close-requires-clause-failed g c =
-    ends_failed _ _ _ _ _ _ _ _ (c.in_default-segment.ensures.calm ∙ c.in_ok-file.ensures.fresh) c.speak_and_serve-ending.ensures.cause c.is_failed.ensures
+    subst (λ d. (c.is_failed.result ≡ true) ↔ (1 ≤ g.F.File.Disk.faults d)) (sym c.into_disk.ensures)
+    (ends_failed _ _ _ _ _ _ _ _ (c.in-Ok.ensures.calm ∙ c.in_ok-file.ensures.fresh) c.speak_and_serve-ending.ensures.cause c.is_failed.ensures)
 
 pub returns-in-Err-clause-done : goal.returns-in-Err-clause-done
 returns-in-Err-clause-done g c =
@@ -36,19 +37,19 @@ returns-in_err-name-clause-done g c =
     refused (g.F.Folder.kept c.args.folder.now) (g.F.Folder.left_ever c.args.folder.now) _ _ _ _ (g.F.Folder.kept c.name.new.self)
     (g.F.Folder.left_ever c.name.new.self) _ c.from_residual-in_err-name.result c.from_residual-in_err-name.ensures.1 (λ s is. plain_unmade _ s (folder_plain _ s is)) (appends_none _)
     (unnamed _ _ _ c.args.next.now (g.F.Folder.kept c.args.folder.now) (g.F.Folder.kept c.make.new.self) (g.F.Folder.kept c.args.folder.now)
-    (g.F.Folder.kept c.make.new.self) (g.F.Folder.kept c.name.new.self) c.disk.ensures c.in_ok-segment.ensures.ok c.make.ensures.quiet.fewer
+    (g.F.Folder.kept c.make.new.self) (g.F.Folder.kept c.name.new.self) c.disk.ensures c.in-Ok.ensures.ok c.make.ensures.quiet.fewer
     c.make.ensures.quiet.fewer c.in_err-name.ensures.one)
     (unnamed _ _ _ c.args.next.now (g.F.Folder.left_ever c.args.folder.now) (g.F.Folder.left_ever c.make.new.self) (g.F.Folder.kept c.args.folder.now)
-    (g.F.Folder.kept c.make.new.self) (g.F.Folder.left_ever c.name.new.self) c.disk.ensures c.in_ok-segment.ensures.ok c.make.ensures.quiet.calm
+    (g.F.Folder.kept c.make.new.self) (g.F.Folder.left_ever c.name.new.self) c.disk.ensures c.in-Ok.ensures.ok c.make.ensures.quiet.calm
     c.make.ensures.quiet.fewer c.name.ensures.ever)
 
 pub returns-clause-done : goal.returns-clause-done
 returns-clause-done g c =
     named (g.F.Folder.kept c.args.folder.now) (g.F.Folder.left_ever c.args.folder.now) c.args.next.now _ _ _ _ _ _ _ _ _
     (said_as _ _ _ _ _ _ _ _ _ _ _ _ _ c.deref.ensures.value
-    (c.speak_and_serve-ending.ensures.spoken c.args.next.now.before (first_bodies c.args.next.now) c.in_ok-segment.ensures.ok))
+    (c.speak_and_serve-ending.ensures.spoken c.args.next.now.before (first_bodies c.args.next.now) c.in-Ok.ensures.ok))
     (g.F.Folder.kept c.make.new.self) (g.F.Folder.left_ever c.make.new.self) (g.F.Folder.kept c.name.new.self) (g.F.Folder.left_ever c.name.new.self)
-    (g.F.Folder.kept c.close.new.self) (g.F.Folder.left_ever c.close.new.self) _ c.disk.result.now c.into_disk.result refl c.in_ok-segment.ensures.ok
+    (g.F.Folder.kept c.close.new.self) (g.F.Folder.left_ever c.close.new.self) _ c.disk.result.now c.into_disk.result refl c.in-Ok.ensures.ok
     c.digest-digest.ensures c.disk.ensures c.into_disk.ensures
     c.make.ensures.quiet.fewer c.make.ensures.quiet.calm c.in_ok-name.ensures.others c.name.ensures.ever
     (c.close.ensures.kept _ c.in_ok-name.ensures.named) (c.close.ensures.ever _ c.in_ok-name.ensures.named)

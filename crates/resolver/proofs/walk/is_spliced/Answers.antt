@@ -5,6 +5,6 @@ use Rattle.resolver.proofs.walk.is_spliced.Goals as goal
 
 pub returns-clause-short : goal.returns-clause-short
 returns-clause-short c = λ same.
-    let all = c.components-all.result.now in
-    full_has_no_fault all (c.args.target.now ++ c.args.rest.now) c.components-all.ensures.lawful
-    (ap (λ (front : List (List ℕ)). is_name all (front ++ c.args.rest.now)) (sym c.components-front.ensures.value) ∙ sym c.begins_so.ensures ∙ same)
+    let all = c.components.result.now in
+    full_has_no_fault all (c.args.target.now ++ c.args.rest.now) c.components.ensures.lawful
+    (ap (λ (front : List (List ℕ)). is_name all (front ++ c.args.rest.now)) (sym c.components-2.ensures.value) ∙ sym c.begins_so.ensures ∙ same)

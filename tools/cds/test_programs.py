@@ -7,8 +7,8 @@ import tempfile
 import unittest
 from unittest import mock
 
-from building import choosing
-from building.choosing import SAID, NoProgram, chosen, proved
+from cds import programs
+from cds.programs import SAID, NoProgram, chosen, proved
 
 # Notes its words, and prints a path, unless the file `fails` is there.
 BUILD = """#!/bin/sh
@@ -29,9 +29,8 @@ class OfChoices(unittest.TestCase):
         with open(f"{self.tools}/build", "w", encoding="utf-8") as it:
             it.write(BUILD)
         os.chmod(f"{self.tools}/build", 0o755)
-        for patch in (mock.patch.object(choosing, "ROOT", place.name), mock.patch.dict(os.environ)):
-            patch.start()
-            self.addCleanup(patch.stop)
+        self.enterContext(mock.patch.object(programs, "ROOT", place.name))
+        self.enterContext(mock.patch.dict(os.environ))
         os.environ.pop(SAID, None)
 
     def words(self) -> list[str]:
@@ -57,14 +56,19 @@ class OfChoices(unittest.TestCase):
     def test_what_is_asked_for_is_proved_first(self) -> None:
         self.assertEqual(chosen("cdsmend", None, True), "/path/cdsmend--find")
         self.assertEqual(proved("cdsmend", True), "/path/cdsmend--proved")
-        self.assertEqual([it.split()[:2] for it in self.words()], [["cdsmend"], ["cdsmend", "--find"], ["cdsmend", "1"], ["cdsmend", "--proved"]])
+        self.assertEqual(
+            [it.split()[:2] for it in self.words()],
+            [["cdsmend"], ["cdsmend", "--find"], ["cdsmend", "1"], ["cdsmend", "--proved"]],
+        )
 
     def test_a_failure_is_one(self) -> None:
         with open(f"{self.tools}/fails", "w", encoding="utf-8"):
             pass
-        for call in (lambda: chosen("cdsmend"), lambda: chosen("cdsmend", None, True), lambda: proved("cdsmend", False)):
+        for is_to_be_proved in (False, True):
             with self.assertRaises(NoProgram):
-                call()
+                chosen("cdsmend", None, is_to_be_proved)
+        with self.assertRaises(NoProgram):
+            proved("cdsmend", False)
 
 
 if __name__ == "__main__":

@@ -1,9 +1,13 @@
 """A house as a process: lines in, answers out."""
+
+from __future__ import annotations
+
 import os
 import select
 import signal
 import subprocess
 import time
+from collections.abc import Sequence
 
 # So long a house may be silent, in seconds, where something is due.
 LONGEST = 120
@@ -12,7 +16,7 @@ ENDS = ("ok", "refused", "fault", "end", "new")
 
 
 class Silent(Exception):
-    """A house owes an answer, and says nothing."""
+    """A house owes an answer, and says nothing, or ended."""
 
 
 class Process:
@@ -22,7 +26,12 @@ class Process:
         variables = dict(os.environ, **(environment or {}))
         # (a session of its own: Ctrl-C at the prompt is not for houses)
         self.child = subprocess.Popen(
-            [program, folder], stdin=subprocess.PIPE, stdout=subprocess.PIPE, env=variables, bufsize=0, start_new_session=True
+            [program, folder],
+            stdin=subprocess.PIPE,
+            stdout=subprocess.PIPE,
+            env=variables,
+            bufsize=0,
+            start_new_session=True,
         )
         assert self.child.stdin and self.child.stdout
         self.sink, self.source = self.child.stdin, self.child.stdout
@@ -33,9 +42,10 @@ class Process:
 
     @property
     def status(self) -> int | None:
+        """The status with which it ended, or None while it runs."""
         return self.child.returncode
 
-    def send(self, lines: list[str]) -> None:
+    def send(self, lines: Sequence[str]) -> None:
         """Sends lines, as far as it reads them."""
         try:
             self.sink.write("".join(f"{line}\n" for line in lines).encode())
@@ -77,12 +87,20 @@ class Process:
             if words[0] in ENDS:
                 return found
 
+    def due(self) -> list[str]:
+        """The lines of the next answer, which has to come."""
+        answer = self.answer()
+        if answer is None:
+            raise Silent(f"{self.folder}: ended with status {self.child.wait()}, where an answer was due")
+        return answer
+
     def fetched(self) -> list[tuple[int, str]]:
         """The messages that it posted since this was asked last."""
         posts, self.posts = self.posts, []
         return posts
 
     def kill(self) -> None:
+        """Kills it, if it runs."""
         if self.child.poll() is None:
             self.child.send_signal(signal.SIGKILL)
 
@@ -103,6 +121,16 @@ class Process:
         except BrokenPipeError:
             pass
         return self.drained()
+
+
+def given(program: str, folder: str, lines: Sequence[str]) -> list[list[str]]:
+    """What the house of a folder answers to lines, after its first words."""
+    process = Process(program, folder)
+    process.answer()
+    process.send(lines)
+    answers = [process.due() for _ in lines]
+    process.close()
+    return answers
 
 
 # The most octets of a message in one line.

@@ -1,4 +1,5 @@
 """The console of a cell: it numbers directories and epochs, and knows the last list of members of each directory."""
+
 from __future__ import annotations
 
 # The members of an epoch, ascending: {house: (since, kind)}.
@@ -17,15 +18,18 @@ def listing(before: Members, epoch: int, master: int, others: list[str]) -> Memb
 
 
 class Console:
+    """Of each directory its last epoch, and the members."""
+
     def __init__(self) -> None:
-        # {directory: (epoch, members)}
         self.directories: dict[int, tuple[int, Members]] = {}
 
     @property
     def next_directory(self) -> int:
+        """The number of the directory that is made next."""
         return max(self.directories, default=0) + 1
 
-    def mkdir_line(self, directory: str, name: str, others: list[str]) -> str:
+    def mkdir_line(self, directory: int | str, name: str, others: list[str]) -> str:
+        """The line for the master of a new directory with these other houses."""
         return " ".join(["mkdir", str(directory), name, str(self.next_directory), *others])
 
     def epoch_line(self, directory: int, master: int, others: list[str]) -> str:
@@ -46,9 +50,13 @@ class Console:
         elif words[0] == "epoch":
             members = words[3 : words.index("-")] if "-" in words else words[3:]
             parts = [word.split(":") for word in members]
-            self.directories[int(words[1])] = (int(words[2]), {int(at): (int(since), kind) for at, since, kind in parts})
+            self.directories[int(words[1])] = (
+                int(words[2]),
+                {int(at): (int(since), kind) for at, since, kind in parts},
+            )
 
     def master(self, directory: int) -> int:
+        """The master of a directory."""
         return next(house for house, (_, kind) in self.directories[directory][1].items() if kind == "m")
 
     def others(self, directory: int) -> list[str]:
