@@ -56,8 +56,9 @@ use Rattle.cell_runs.specs.Entries.{Post}
 use Rattle.cell_runs.specs.OrderSteps.{IsLetterOf, then_found}
 use Rattle.cds_cell.specs.Scripted.{update_refusal_of}
 use Rattle.cell_runs.specs.LineAnswers.{refused}
+use Rattle.record_fields.proofs.OneDecoding.{answers_decoding}
 use Rattle.house_turns.specs.declared.said.Said.{Said}
-use Rattle.house_turns.specs.LineOutcomes.{ComesTo, HasNoEnd, IsOutcome, Outcome, Posts, StaysAt, Tells}
+use Rattle.house_turns.specs.LineOutcomes.{ComesTo, HasNoEnd, IsMessageOf, IsOutcome, Outcome, Posts, StaysAt, TakesMessageOf, Tells}
 use Rattle.house_turns.specs.HouseAnswers.{ascend_from, early_refusal, epoch_refusal, founding_refusal, is_given, maybe_refused, octets_refusal, restored_refusal, take_refusal}
 use Rattle.house_turns.specs.LineSteps.{CarriesAt, first_members, listed_houses, step_at}
 use Rattle.own_stamps.specs.OwnStamps.{later_own}
@@ -113,12 +114,13 @@ module _ (Answers : command.Answer → Type 0) (said : List ℕ) (c c' : Clearin
     (house : c'.house ≡ c.house) (node : c'.node ≡ c.node) (lawful : IsLawful c → IsLawful c')
     (fits : (now : model.House) (m : model.Message) → Fits (step_at c.house.0 now l m))
     (step : (now : model.House) (m : model.Message) → StandsHouse c now → now.clock ≡ clock → CarriesAt c.house.0 now l m
-    → IsStep Answers (step_at c.house.0 now l m) c c' posted) where
+    → IsStep Answers (step_at c.house.0 now l m) c c' posted) (takes : (o : Outcome) → TakesMessageOf l c c' o) where
   -- a call that is no turn
   pub comes_tells : Reads Answers false said → c' ≡ c → ComesTo c clock l (Tells (said ∷ [])) c'
   comes_tells reads same = record {
     step = λ now m stands ticks carries.
         tells_outcome Answers said c c' posted (step_at c.house.0 now l m) (fits now m) reads (step now m stands ticks carries);
+    takes = takes (Tells (said ∷ []));
     stays = same;
     one_line = tt;
     house = house;
@@ -131,6 +133,7 @@ module _ (Answers : command.Answer → Type 0) (said : List ℕ) (c c' : Clearin
   comes_posts posts reads one_line are = record {
     step = λ now m stands ticks carries.
         posts_outcome Answers said c c' posted (step_at c.house.0 now l m) posts (fits now m) reads are (step now m stands ticks carries);
+    takes = takes (Posts posts said);
     stays = tt;
     one_line = one_line;
     house = house;
@@ -206,6 +209,7 @@ repoint_comes (Ok s) number c c' clock d n h rs houses is does = record {
     step = λ now m stands ticks carries.
         subst (λ (k : Houses). IsOutcome (accept c.house.0 now d.0 (change.Repoint n k.master k.others)) does.outcome c c') is
         (does.comes.step now m stands ticks tt);
+    takes = tt;
     stays = does.comes.stays;
     one_line = does.comes.one_line;
     house = does.comes.house;
@@ -272,6 +276,7 @@ root_comes c c' clock ls ms posted posts house node lawful is are turns = record
       let t : Turn = found_directory c.house.0 now root_dir (first_members c.house.0 ls) in
       let done = subst (λ (ms : List Member). IsTurn (found_directory c.house.0 now root_dir ms) c' posted) is (turns now stands) in
       (posts_stand posts posted t.posts are done.each, λ ns. refl, done.stands);
+  takes = tt;
   stays = tt;
   one_line = done_ends_nowhere;
   house = house;
@@ -294,6 +299,7 @@ child_comes (Ok s) number c c' clock d n made ls u ms child is makes = record {
         (change.MakeChild n (record { dir = made.0; master = c.house.0; others = sorted_houses (listed_houses ls) })))) makes.outcome c c') is
         (subst (λ (u : Change). IsOutcome (then_found c.house.0 made.0 ms (accept c.house.0 now d.0 u)) makes.outcome c c') child
         (makes.step now stands ticks));
+    takes = tt;
     stays = makes.stays;
     one_line = makes.one_line;
     house = makes.house;
@@ -376,13 +382,15 @@ pub message_comes : (r : Result Said AllocError) (number : ℕ) (c c' : Clearing
     → IfOk r (λ s. Says number s (taken_outcome t posts))
     → ((now : model.House) (m : model.Message) → StandsHouse c now → StandsMessage c.house.0 message m → CanTake now m
     → IsOutcome (take now m) (taken_outcome t posts) c c')
-    → StaysAt (taken_outcome t posts) c c' → c'.house ≡ c.house → c'.node ≡ c.node → (IsLawful c → IsLawful c') → IfOk r (TakesMessage number c c' message)
-message_comes (Err e) number c c' message t posts says step stays house node lawful = tt
-message_comes (Ok s) number c c' message t posts says step stays house node lawful =
+    → StaysAt (taken_outcome t posts) c c' → c'.house ≡ c.house → c'.node ≡ c.node → (IsLawful c → IsLawful c')
+    → IsMessageOf message c c' (taken_outcome t posts) → IfOk r (TakesMessage number c c' message)
+message_comes (Err e) number c c' message t posts says step stays house node lawful taken = tt
+message_comes (Ok s) number c c' message t posts says step stays house node lawful taken =
     record {
       outcome = taken_outcome t posts;
       says = says;
       step = step;
+      taken = taken;
       stays = stays;
       one_line = taken_is_one_line t posts;
       house = house;
@@ -403,9 +411,20 @@ take_comes (Err e) number c c' clock octets message used decodes takes = tt
 take_comes (Ok s) number c c' clock octets message used decodes takes = record {
   outcome = takes.outcome;
   says = takes.says;
-  comes = record { step = step; stays = takes.stays; one_line = takes.one_line; house = takes.house; node = takes.node; lawful = takes.lawful };
+  comes = record {
+    step = step;
+    takes = λ m read. subst (λ (k : Message). IsMessageOf k c c' takes.outcome) (same m read) takes.taken;
+    stays = takes.stays;
+    one_line = takes.one_line;
+    house = takes.house;
+    node = takes.node;
+    lawful = takes.lawful;
+  };
 }
   where
+    same : (m : Message) → decode_by records.message octets ≡ Ok (m, length octets) → message ≡ m
+    same m read = ap (message_in m) (sym (answers_decoding records.message octets (Ok (message, used)) decodes) ∙ read)
+
     step : (now : model.House) (m : model.Message) → StandsHouse c now → now.clock ≡ clock → CarriesAt c.house.0 now (line.Take octets) m
         → IsOutcome (take now m) takes.outcome c c'
     step now m stands ticks carries =

@@ -25,7 +25,7 @@ use Rattle.cell_model.specs.Turns.{HouseStep, Stays}
 use Rattle.script_answers.specs.Texts.{parse_fault_text}
 use Rattle.script_answers.specs.declared.answer.ScriptRefusal.TheVariants as why
 use Rattle.house_turns.specs.declared.said.Said.TheVariants.{Told, Turned}
-use Rattle.house_turns.specs.LineOutcomes.{IsOutcome, Outcome, Posts, Tells}
+use Rattle.house_turns.specs.LineOutcomes.{IsOutcome, Outcome, Posts, TakesMessageOf, Tells}
 use Rattle.house_turns.specs.HouseReplies.{IsReply, RepliesAnew, RepliesAt, RepliesBy, RepliesIf, RepliesMore, RepliesMoreIf, RepliesTake, RepliesTakeIf, RepliesTo, Responds}
 use Rattle.house_turns.specs.HouseReplies.{TellsLines, UnlessAsked, UnlessRefused, with_spaces, new_clearinghouse, take_line, tells_alone, turn_text}
 use Rattle.house_turns.specs.HouseAnswers.{early_refusal, question_said}
@@ -86,14 +86,16 @@ told_only (Err e) number lines c says = tt
 -- a line that tells the model nothing
 pub nothing_comes : (r : Result Said AllocError) (number : ℕ) (c : Clearinghouse) (clock : ℕ) (l : HouseLine)
     → ((x : ℕ) (now : model.House) (m : model.Message) → step_at x now l m ≡ Stays command.Done)
+    → TakesMessageOf l c c (Tells (answer_line answer.Done ∷ []))
     → IfOk r (λ s. Says number s (Tells (answer_line answer.Done ∷ []))) → IfOk r (λ s. Comes number c c clock l s)
-nothing_comes (Err e) number c clock l nothing says = tt
-nothing_comes (Ok s) number c clock l nothing says = record {
+nothing_comes (Err e) number c clock l nothing takes says = tt
+nothing_comes (Ok s) number c clock l nothing takes says = record {
   outcome = Tells (answer_line answer.Done ∷ []);
   says = says;
   comes = record {
     step = λ now m stands ticks carries.
         subst (λ (k : HouseStep). IsOutcome k (Tells (answer_line answer.Done ∷ [])) c c) (sym (nothing c.house.0 now m)) (refl, refl);
+    takes = takes;
     stays = refl;
     one_line = tt;
     house = refl;

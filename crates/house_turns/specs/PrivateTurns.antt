@@ -43,7 +43,8 @@ use Rattle.clearinghouse.specs.HouseImages.{start_of_octets, with_skulks}
 use Rattle.clearinghouse.specs.LawfulHouses.{IsLawful}
 use Rattle.clearinghouse.specs.ModelHouses.{StandsHouse}
 use Rattle.house_turns.specs.declared.house.House.{House}
-use Rattle.house_turns.specs.LineOutcomes.{ComesTo, IsOneLine, IsOutcome, Outcome, Posts, StaysAt, Tells}
+use Rattle.house_turns.specs.LineOutcomes.{ComesTo, IsMessageOf, IsOneLine, IsOutcome, Outcome, Posts, StaysAt, Tells}
+pub use Rattle.house_turns.specs.LineOutcomes.{posts_said, taken_line, taken_outcome}
 use Rattle.house_turns.specs.HouseReplies.{new_clearinghouse, turn_lines, turn_text}
 use Rattle.house_turns.specs.Openings.{house_with, is_skulk, segment_line}
 use Rattle.house_turns.specs.RunningSkulks.{AllFit, running_lines}
@@ -71,10 +72,6 @@ letters_text number octets =
 abbrev pub letters_kept : (octets : List ℕ) → List HouseNo → List ℕ
 letters_kept octets = flat_map (λ h. post_line (codes "post ") h.0 octets ++ 10 ∷ [])
 
--- posted messages as octets
-abbrev pub posts_said : List Posted → List Post
-posts_said = map (λ p. record { to = p.to.0; octets = message_octets p.message })
-
 -- the octets of a posted message are the whole of it, if it is valid
 abbrev pub IsWholeIfValid : Posted → Type 0
 IsWholeIfValid p =
@@ -96,20 +93,6 @@ abbrev pub epoch_refusal_of : EpochRefusal → ScriptRefusal
 epoch_refusal_of epoch.NoReplica = why.NoReplica
 epoch_refusal_of (epoch.NotJoined held since) = why.NotJoined held since
 epoch_refusal_of (epoch.StaleEpoch held given) = why.NotAbove held.0
-
--- what is said of a message, taken or not
-abbrev pub taken_line : Taken → List ℕ
-taken_line taken.Taken = answer_line (answer.Taken [])
-taken_line (taken.Late k e) = answer_line (answer.Late k e)
-taken_line (taken.Early k e) = answer_line (answer.Early k e)
-taken_line (taken.Stale t r) = answer_line (answer.Stale t r)
-taken_line taken.NoReplica = answer_line answer.NoReplica
-taken_line taken.Foreign = codes "ok foreign"
-taken_line (taken.Complete t) = answer_line (answer.Complete t [])
-
--- what a message comes to that is taken, or not
-abbrev pub taken_outcome : Taken → List Post → Outcome
-taken_outcome t posts = if is_taken t then Posts posts (taken_line t) else Tells (taken_line t ∷ [])
 
 -- what is said is an outcome: these lines, with the number of theirs; or these posts, and this
 -- answer
@@ -153,6 +136,7 @@ pub record TakesMessage (number : ℕ) (old new : Clearinghouse) (message : Mess
   pub step : (now : model.House) (m : model.Message) → StandsHouse old now
       → StandsMessage old.house.0 message m → CanTake now m
       → IsOutcome (take now m) outcome old new
+  pub taken : IsMessageOf message old new outcome
   pub stays : StaysAt outcome old new
   pub one_line : IsOneLine outcome
   pub house : new.house ≡ old.house

@@ -32,14 +32,14 @@ returns-in-Ask c =
 pub returns-in-House : goal.returns-in-House
 returns-in-House c =
     rw c.in-House.is
-    (nothing_comes c.told.result c.args.number c.args.home.now c.args.clock (line.House c.in-House.field-0 c.in-House.field-1) (λ x now m. refl) c.told.ensures)
+    (nothing_comes c.told.result c.args.number c.args.home.now c.args.clock (line.House c.in-House.field-0 c.in-House.field-1) (λ x now m. refl) tt c.told.ensures)
 
 pub returns-in-Clock : goal.returns-in-Clock
 returns-in-Clock c =
     rw c.in-Clock.is
-    (nothing_comes c.told-in-Clock.result c.args.number c.args.home.now c.args.clock (line.Clock c.in-Clock.field-0) (λ x now m. refl) c.told-in-Clock.ensures)
+    (nothing_comes c.told-in-Clock.result c.args.number c.args.home.now c.args.clock (line.Clock c.in-Clock.field-0) (λ x now m. refl) tt c.told-in-Clock.ensures)
 
 pub returns : goal.returns
 returns c =
     rw c.in-More.is
-    (nothing_comes c.told-in-More.result c.args.number c.args.home.now c.args.clock (line.More c.in-More.field-0) (λ x now m. refl) c.told-in-More.ensures)
+    (nothing_comes c.told-in-More.result c.args.number c.args.home.now c.args.clock (line.More c.in-More.field-0) (λ x now m. refl) tt c.told-in-More.ensures)

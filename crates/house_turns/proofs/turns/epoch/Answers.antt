@@ -66,7 +66,7 @@ returns-in-Err c clock =
     (comes_tells (IsEpochAnswer k.0 (Some r)) (refused (epoch_refusal_of r)) old new [] clock l
     c.enter_epoch.ensures.call.house c.enter_epoch.ensures.call.node c.enter_epoch.ensures.kept
     (λ now m. epoch_fits old.house.0 now dir.0 k.0 (members_of list.members) (numbers_of list.leaving))
-    (λ now m stands ticks carries. rw (c.in-Err.is, good.1) at c.in_ok-refusal.ensures.step now list.leaving stands later)
+    (λ now m stands ticks carries. rw (c.in-Err.is, good.1) at c.in_ok-refusal.ensures.step now list.leaving stands later) (λ o. tt)
     (unentered_reads k.0 r) (rw c.in-Err.is at c.in_ok-refusal.ensures.refused)))
 
 pub returns : goal.returns
@@ -90,6 +90,6 @@ returns c clock =
     (comes_posts (IsEpochAnswer k.0 None) (answer_line (answer.Epoch k [])) old new (epoch_posts_at new dir k list.leaving None) clock l
     c.enter_epoch.ensures.call.house c.enter_epoch.ensures.call.node c.enter_epoch.ensures.kept
     (λ now m. epoch_fits old.house.0 now dir.0 k.0 (members_of list.members) (numbers_of list.leaving))
-    (λ now m stands ticks carries. rw (c.in_default-3.is, good.1) at c.in_ok-refusal.ensures.step now list.leaving stands later)
+    (λ now m stands ticks carries. rw (c.in_default-3.is, good.1) at c.in_ok-refusal.ensures.step now list.leaving stands later) (λ o. tt)
     posts (entered_reads k) (epoch_ends_nowhere k)
     (epoch_letters new dir k list.leaving first second c.in_ok-letters.ensures.posts (rw c.list.ensures at c.in_ok-leaves.ensures.posts))))

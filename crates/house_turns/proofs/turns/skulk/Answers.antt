@@ -28,7 +28,7 @@ returns-in-Ok-Started c =
     (comes_posts (IsBegunAnswer (Ok (begun.Started s))) (answer_line (answer.Stamped s [])) old new (posts_at new c.args.dir c.in_ok-answer.field-0.outgoing) c.args.clock l
     c.begin_skulk.ensures.call.house c.begin_skulk.ensures.call.node c.begin_skulk.ensures.kept
     (λ now m. skulk_fits old.house.0 now c.args.dir.0)
-    (λ now m stands ticks carries. rw (c.in-Ok-Started.is, c.in-Ok-Started.field-0-is) at c.in_ok-answer.ensures.step now stands ticks)
+    (λ now m stands ticks carries. rw (c.in-Ok-Started.is, c.in-Ok-Started.field-0-is) at c.in_ok-answer.ensures.step now stands ticks) (λ o. tt)
     (posts_in c.one-posts.result) (started_reads s) (stamped_ends_nowhere s)
     (same_posts _ _ _ _ c.one-posts.ensures (ap (posts_at new c.args.dir) c.as_ref.ensures.value) c.in_ok-letters.ensures))
 
@@ -43,7 +43,7 @@ returns-in-Ok-Complete c =
     (comes_posts (IsBegunAnswer (Ok (begun.Complete s))) (answer_line (answer.Complete s [])) old new (posts_at new c.args.dir c.in_ok-answer.field-0.outgoing) c.args.clock l
     c.begin_skulk.ensures.call.house c.begin_skulk.ensures.call.node c.begin_skulk.ensures.kept
     (λ now m. skulk_fits old.house.0 now c.args.dir.0)
-    (λ now m stands ticks carries. rw (c.in-Ok-Complete.is, c.in-Ok-Complete.field-0-is) at c.in_ok-answer.ensures.step now stands ticks)
+    (λ now m stands ticks carries. rw (c.in-Ok-Complete.is, c.in-Ok-Complete.field-0-is) at c.in_ok-answer.ensures.step now stands ticks) (λ o. tt)
     (posts_in c.one-posts.result) (complete_reads s) (complete_ends_nowhere s)
     (same_posts _ _ _ _ c.one-posts.ensures (ap (posts_at new c.args.dir) c.as_ref.ensures.value) c.in_ok-letters.ensures))
 
@@ -59,5 +59,5 @@ returns c =
     (comes_tells (IsBegunAnswer (Err r)) (refused (update_refusal_of r)) old new (posts_at new c.args.dir c.in_ok-answer.field-0.outgoing) c.args.clock l
     c.begin_skulk.ensures.call.house c.begin_skulk.ensures.call.node c.begin_skulk.ensures.kept
     (λ now m. skulk_fits old.house.0 now c.args.dir.0)
-    (λ now m stands ticks carries. rw c.in-Err.is at c.in_ok-answer.ensures.step now stands ticks)
+    (λ now m stands ticks carries. rw c.in-Err.is at c.in_ok-answer.ensures.step now stands ticks) (λ o. tt)
     (unskulked_reads r) same)

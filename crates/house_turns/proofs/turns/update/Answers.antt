@@ -28,7 +28,7 @@ returns-in-Ok c =
     (comes_posts (IsStampAnswer (Ok s)) (answer_line (answer.Stamped s [])) old new (posts_at new c.args.dir c.in_ok-answer.field-0.outgoing) c.args.clock l
     c.accept_update.ensures.call.house c.accept_update.ensures.call.node c.accept_update.ensures.kept
     (λ now m. accept_fits old.house.0 now c.args.dir.0 (change_of c.args.update.now))
-    (λ now m stands ticks carries. rw c.in-Ok.is at c.in_ok-answer.ensures.step now stands ticks)
+    (λ now m stands ticks carries. rw c.in-Ok.is at c.in_ok-answer.ensures.step now stands ticks) (λ o. tt)
     (posts_in c.one-posts.result) (stamped_reads s) (stamped_ends_nowhere s)
     (same_posts _ _ _ _ c.one-posts.ensures (ap (posts_at new c.args.dir) c.as_ref.ensures.value) c.in_ok-letters-in-Ok.ensures))
 
@@ -44,5 +44,5 @@ returns c =
     (comes_tells (IsStampAnswer (Err r)) (refused (update_refusal_of r)) old new (posts_at new c.args.dir c.in_ok-answer.field-0.outgoing) c.args.clock l
     c.accept_update.ensures.call.house c.accept_update.ensures.call.node c.accept_update.ensures.kept
     (λ now m. accept_fits old.house.0 now c.args.dir.0 (change_of c.args.update.now))
-    (λ now m stands ticks carries. rw c.in-Err.is at c.in_ok-answer.ensures.step now stands ticks)
+    (λ now m stands ticks carries. rw c.in-Err.is at c.in_ok-answer.ensures.step now stands ticks) (λ o. tt)
     (refused_reads r) same)
