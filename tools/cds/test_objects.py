@@ -63,6 +63,7 @@ class Objects(unittest.TestCase):
             ("4 ok 2 3@00000000000a", {"number": 2, "stamp": stamp}),
             ("12 ok stale 3@00000000000a none", {"result": "stale", "stamp": stamp, "running": None}),
             ("10 refused NotJoined 1 2", {"reason": "NotJoined", "numbers": [1, 2]}),
+            ("5 refused Restored 3@00000000000a", {"reason": "Restored", "stamp": stamp}),
             ("1 fault BadWord 3", {"reason": "BadWord", "place": 3}),
             ("15 binding ncacn_ip_tcp:10.0.0.3", {"binding": "ncacn_ip_tcp:10.0.0.3"}),
             (
