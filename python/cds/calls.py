@@ -6,7 +6,7 @@ import ctypes
 import functools
 import os
 
-ABI = 1
+ABI = 2
 ROOM = 65536
 OK, USAGE, BAD_INPUT, NO_ROOM, NO_MEMORY, JOURNAL_FULL = 0, 2, 3, 5, 6, 7
 
@@ -44,7 +44,7 @@ class Library:
 
     def __init__(self, path: str) -> None:
         self.path = path
-        calls = ctypes.CDLL(path)
+        self.calls = calls = ctypes.CDLL(path)
         calls.cds_abi.restype = ctypes.c_uint32
         calls.cds_abi.argtypes = []
         if calls.cds_abi() != ABI:

@@ -1,6 +1,5 @@
 // Lines of a clerk, and answers of houses, with enough memory.
 use cds_stamps::{AttrName, DirId, EpochNo, HouseNo, SimpleName};
-use cell_names::{ChildPointer, FullName};
 use clerk_lines::{
     ClerkWord, Hearing, Lead, ShownEntry, Told, is_last, push_ask, push_say, push_show,
     read_clerk_line, read_root,
@@ -68,32 +67,6 @@ fn shown(alloc: Global, lines: &[&[u8]]) -> Result<ShownEntry, Fail> {
     }
 }
 
-// The name to which a link leads.
-fn link_of(alloc: Global) -> Result<FullName, Fail> {
-    let lines = [b"link /.:/a/b".as_slice(), b"end"];
-    let ShownEntry {
-        lead,
-        attrs: _attrs,
-    } = shown(alloc, &lines)?;
-    match lead {
-        Lead::Link(target) => Ok(target),
-        _ => Err("a link".into()),
-    }
-}
-
-// The pointer of a child.
-fn child_of(alloc: Global) -> Result<ChildPointer, Fail> {
-    let lines = [b"child 2 1 3 4".as_slice(), b"attr A", b"end"];
-    let ShownEntry {
-        lead,
-        attrs: _attrs,
-    } = shown(alloc, &lines)?;
-    match lead {
-        Lead::Child(child) => Ok(child),
-        _ => Err("a child".into()),
-    }
-}
-
 #[test]
 fn entries_are_heard(rt: HostRuntime) -> Result<(), Fail> {
     let alloc = rt.alloc();
@@ -115,8 +88,22 @@ fn entries_are_heard(rt: HostRuntime) -> Result<(), Fail> {
     assert!(rt; values.list().len() == 2);
     assert!(rt; values.list()[1].octets() == b"\x01\x00".as_slice());
     assert!(rt; entry.attrs.values(&AttrName::parse(alloc, b"C")?).is_none());
-    assert!(rt; link_of(alloc)?.len() == 2);
-    assert!(rt; child_of(alloc)?.houses.others().len() == 2);
+    Ok(())
+}
+
+#[test]
+fn links_and_children_are_heard(rt: HostRuntime) -> Result<(), Fail> {
+    let alloc = rt.alloc();
+    let link = shown(alloc, &[b"link /.:/a/b", b"end"])?;
+    match &link.lead {
+        Lead::Link(target) => assert!(rt; target.len() == 2),
+        _ => return Err("a link".into()),
+    }
+    let child = shown(alloc, &[b"child 2 1 3 4", b"attr A", b"end"])?;
+    match &child.lead {
+        Lead::Child(pointer) => assert!(rt; pointer.houses.others().len() == 2),
+        _ => return Err("a child".into()),
+    }
     Ok(())
 }
 

@@ -51,8 +51,8 @@ pub struct Answer {
     pub code: u32,
 }
 
-// Puts as much of the front of a text as fits into a room.
-fn put(text: &[u8], room: &mut [u8])
+/// Puts as much of the front of a text as fits into a room.
+pub fn put(text: &[u8], room: &mut [u8])
     ensures { room.new ≡ put_into room.old text.now }
 {
     let count = text.len().min(room.len());

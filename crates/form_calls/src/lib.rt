@@ -7,5 +7,5 @@ mod ends;
 pub mod laws;
 mod words;
 
-pub use call::{Answer, Call, say, say_into};
+pub use call::{Answer, Call, put, say, say_into};
 pub use cell_replay::Status;

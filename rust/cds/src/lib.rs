@@ -1,4 +1,4 @@
-//! The forms of `cdsreplay` as a call, by its library for C:
+//! The forms of `cdsreplay` as a call, and a house that its caller steps, by its library for C:
 //!
 //! ```no_run
 //! let answers = cds::run("run", b"house 1 00000000000a\n")?;
@@ -7,10 +7,13 @@
 //!
 //! docs/EMBEDDING.md says how to begin.
 
+mod house;
+
+pub use house::{House, HouseFault, Reply};
 use std::fmt;
 
 /// The number of the calls that this file knows.
-pub const ABI: u32 = 1;
+pub const ABI: u32 = 2;
 
 const ROOM: usize = 65536;
 const NO_ROOM: u32 = 5;
