@@ -187,10 +187,8 @@ def main() -> None:
             for name, program in programs:
                 counts.append(instructions(program, fewer))
                 print(
-                    (
-                        f"{name:<10} {counts[-1]:,} instructions,"
-                        f" {counts[-1] * args.instructions / args.entries:,.0f} an entry"
-                    ),
+                    f"{name:<10} {counts[-1]:,} instructions,"
+                    f" {counts[-1] * args.instructions / args.entries:,.0f} an entry",
                     flush=True,
                 )
     print(f"processor time of the first to the last: {times[0] / max(times[-1], 0.001):.2f}")

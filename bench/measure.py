@@ -129,10 +129,8 @@ def measure(kind: str, size: int, programs: list[tuple[str, str]], runs: int, fo
         peak = max(result[2] for result in results)
         times.append(processor)
         print(
-            (
-                f"{kind:<10}{name:<12}{items:>12,}{seconds:>10.2f}{items / seconds:>14,.0f}"
-                f"{megabytes / seconds:>8,.0f}{processor:>11.2f}{peak:>11,}"
-            ),
+            f"{kind:<10}{name:<12}{items:>12,}{seconds:>10.2f}{items / seconds:>14,.0f}"
+            f"{megabytes / seconds:>8,.0f}{processor:>11.2f}{peak:>11,}",
             flush=True,
         )
         if any(result[3] != 0 for result in results):
@@ -169,10 +167,8 @@ def grow(kind: str, size: int, programs: list[tuple[str, str]], runs: int, folde
         times, peaks = (f"{points[i][0]:.2f}" for i in range(4)), (f"{points[i][1] / 1000:,.1f}" for i in range(4))
         ratio = points[3][0] / max(points[2][0], 0.001)
         print(
-            (
-                f"| `{kind}` | {name} | {size:,} | {', '.join(times)} | {', '.join(peaks)} |"
-                f" {ratio:.1f} |{'' if well else ' a run failed'}"
-            ),
+            f"| `{kind}` | {name} | {size:,} | {', '.join(times)} | {', '.join(peaks)} |"
+            f" {ratio:.1f} |{'' if well else ' a run failed'}",
             flush=True,
         )
     return well

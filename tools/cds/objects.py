@@ -29,6 +29,7 @@ FORMS = (
     "ok {name:NAME}",
     f"ok {{message:{'|'.join(KINDS)}}} {{length:NUMBER}}",
     "refused {reason:WORD}{numbers:NUMBER..}",
+    "refused {reason:Restored} {stamp:STAMP}",
     "fault {reason:WORD} {place:NUMBER}",
     "end",
     "end {number:NUMBER}",

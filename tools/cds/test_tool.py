@@ -8,6 +8,8 @@ import sys
 import tempfile
 import unittest
 
+from cds import tool
+
 TOOLS = os.path.dirname(os.path.dirname(os.path.realpath(__file__)))
 DOC = """Counts.
 
@@ -62,6 +64,13 @@ class OfTools(unittest.TestCase):
         ran = self.ran("a", "--fa")
         self.assertEqual(ran.returncode, 2)
         self.assertEqual(ran.stderr.splitlines()[:2], ["usage: tools/counts [--far] NAME", "       tools/counts --all"])
+
+    def test_options_may_be_between_other_words(self) -> None:
+        words = tool.Words(DOC)
+        words.add_argument("--far")
+        words.add_argument("names", nargs="*")
+        given = words.parse_args(["a", "--far", "1", "b"])
+        self.assertEqual((given.names, given.far), (["a", "b"], "1"))
 
     def test_the_sum_is_last(self) -> None:
         ran = self.ran("a")

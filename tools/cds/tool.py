@@ -24,6 +24,13 @@ class Words(argparse.ArgumentParser):
         ways = [line.strip() for line in doc.split("\n\n")[1].splitlines()]
         super().__init__(ways[0].split()[0], usage="\n       ".join(ways), allow_abbrev=False)
         self.doc = doc
+        setattr(self, "parse_args", self.parsed)
+
+    def parsed(self, words: list[str] | None = None, given: argparse.Namespace | None = None) -> argparse.Namespace:
+        """The words. Options may be between the others, if none of these takes all that is left."""
+        if any(it.nargs == argparse.REMAINDER for it in self._actions):
+            return super().parse_args(words, given)
+        return self.parse_intermixed_args(words, given)
 
     def format_help(self) -> str:
         return f"{self.doc.strip()}\n"

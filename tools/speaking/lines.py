@@ -122,10 +122,8 @@ def missing(words: list[str]) -> tuple[str, list[str]] | None:
         return "The house that is its master is missing, after the name.", [" ".join([*words, rest[0]])]
     if command == "house" and len(rest) == 1:
         return (
-            (
-                "The node is missing: the address of its network card (MAC), 12 hexadecimal digits; any will do that no"
-                " other house has."
-            ),
+            "The node is missing: the address of its network card (MAC), 12 hexadecimal digits; any will do that no"
+            " other house has.",
             [],
         )
     if command in ("read",) and len(rest) == 3 and rest[2].startswith("/"):

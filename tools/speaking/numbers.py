@@ -130,10 +130,8 @@ def named(kind: str, word: str, words: list[str]) -> Slip | None:
             return "A house is its number alone.", digits.group(1)
         shown = f"`{word}`" if len(word) <= 40 else "it"
         return (
-            (
-                f"A house is a number in a script: write the one that `house H NODE` gave {shown}. tools/write takes"
-                " names."
-            ),
+            f"A house is a number in a script: write the one that `house H NODE` gave {shown}. tools/write takes"
+            " names.",
             None,
         )
     return None

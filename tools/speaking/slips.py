@@ -63,10 +63,8 @@ def simple(word: str, words: list[str]) -> Slip:
     if len(parts) > 1:
         above = "/".join(["/.:", *parts[:-1]])
         return (
-            (
-                f"Here goes the entry's own name, `{parts[-1]}`. The number before it is that of its directory,"
-                f" {above[:80]}."
-            ),
+            f"Here goes the entry's own name, `{parts[-1]}`. The number before it is that of its directory,"
+            f" {above[:80]}.",
             None,
         )
     return "A simple name has no `/`.", None
@@ -120,10 +118,8 @@ def value(word: str, words: list[str]) -> Slip:
     if not bare:
         return "A value has at least one octet.", None
     return (
-        (
-            f"A value is hexadecimal, two digits an octet. If the text {bare[:40]} is meant (`printf {bare[:40]} | xxd"
-            " -p`):"
-        ),
+        f"A value is hexadecimal, two digits an octet. If the text {bare[:40]} is meant (`printf {bare[:40]} | xxd"
+        " -p`):",
         texts.value(bare),
     )
 
@@ -193,10 +189,8 @@ def bindings(word: str, words: list[str]) -> Slip:
             None,
         )
     return (
-        (
-            "A binding is as `ncacn_ip_tcp:10.0.0.1[1025]`: an IP address in four numbers, and a port in brackets, or"
-            " none."
-        ),
+        "A binding is as `ncacn_ip_tcp:10.0.0.1[1025]`: an IP address in four numbers, and a port in brackets, or"
+        " none.",
         None,
     )
 

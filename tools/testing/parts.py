@@ -175,11 +175,12 @@ OF_SOURCES = (
     Part("rules", "whether docs/RULES.md is true and whole", ("tools/check-rules",)),
     Part("map", "whether the pages that are made of the sources are theirs", ("tools/map", "--check")),
     Part("style", "wide lines, words to avoid, copies", ("tools/check-style",)),
-    Part("python", "the unit tests of the tools", ("tools/testing/units",)),
+    Part("python", "the unit tests of the tools", ("tools/testing/units",), minutes=0.5),
     Part(
         "linters",
         "shellcheck, ruff (or pyflakes and pycodestyle) and mypy, those that are there",
         ("tools/testing/linters",),
+        minutes=0.4,
     ),
 )
 

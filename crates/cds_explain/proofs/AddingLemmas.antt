@@ -190,7 +190,7 @@ ready_then : (g : Cell) (x time : ℕ) (o : LoggedOrder) (serial : ℕ) → IsRe
 ready_then g x time o serial ready = by (first_refusal (refusals_of g (commands.Clock x time)))
   where
     set : (o : LoggedOrder) → IsReady g x o serial → IsReady (set_clock g x time) x o serial
-    set (order.Root ls) ready = tt
+    set (order.Root ls) ready = ready
     set (order.Mkdir d n made ls) ready = ready
     set (order.Repoint d n m rs) ready = tt
     set (order.Update d u) ready = tt

@@ -1,6 +1,6 @@
 -- What comparisons of the replay and an entry imply.
-use Rattle.std.proofs.Common.{◌≡◌, ℕ, zero, suc, ◌+◌, ◌-◌, Bool, true, false, ◌||◌, ◌==◌, cond, List, [], ◌∷◌, ◌++◌, drop, take, length, map, Option, Some, None, refl, sym, ◌∙◌, ap, arith, rules, add-one}
-use Rattle.std.specs.Prelude.{slice_get}
+use Rattle.std.proofs.Common.{◌≡◌, ◌≢◌, ◌<◌, ◌≤◌, ℕ, zero, suc, ◌+◌, ◌-◌, Bool, true, false, ◌||◌, ◌==◌, cond, List, [], ◌∷◌, ◌++◌, drop, take, length, map, Option, Some, None, refl, sym, subst, ◌∙◌, ap, arith, rules, add-one}
+use Rattle.std.specs.Prelude.{slice_get, slice_index}
 use Rattle.std.specs.Bool.{Decides, OnTrue}
 use Rattle.std.specs.Cmp.Rules.{comparing}
 use Rattle.std.specs.Fmt.{digits}
@@ -10,6 +10,7 @@ use Rattle.cds_stamps.specs.contracts.members.MemberPartialEq.TheImpl.{eq-value}
 use Rattle.cds_stamps.specs.declared.members.Member.{Member}
 use Rattle.cds_stamps.specs.declared.numbers.DirId.{DirId}
 use Rattle.cds_stamps.specs.declared.numbers.EpochNo.{EpochNo}
+use Rattle.cds_stamps.specs.declared.numbers.HouseNo.{HouseNo}
 use Rattle.std.proofs.lemmas.Grind.{common_steps}
 use Rattle.std.specs.Option.{option_and_then, option_map}
 use Rattle.cell_model.specs.Cells.{Cell, Message}
@@ -104,6 +105,61 @@ posted_rest g n (p ∷ ps) all =
     same : views.post_of one.m ≡ post_of p
     same j = record { to = one.receiver j; octets = ap or_none one.octets_are j }
 
+-- a message that is not there
+pub not_received : (g : Cell) (n to : ℕ) (octets : List ℕ) → None ≡ option_map (λ (m : Message). m.receiver) (message_at g n) → ¬ IsPosted g n to octets
+not_received g n to octets none is =
+    let some = none ∙ ap (option_map (λ (m : Message). m.receiver)) is.there in
+    absurd (cc (some))
+
+pub no_message : (g : Cell) (n to : ℕ) (octets : List ℕ) → None ≡ option_and_then octets_of (message_at g n) → ¬ IsPosted g n to octets
+no_message g n to octets none is =
+    let some = none ∙ ap (option_and_then octets_of) is.there ∙ is.octets_are in
+    absurd (cc (some))
+
+-- one that is there has one receiver, and one list of octets
+pub receiver_of : (g : Cell) (n to to' : ℕ) (octets : List ℕ) → Some to' ≡ option_map (λ (m : Message). m.receiver) (message_at g n) → IsPosted g n to octets
+    → to' ≡ to
+receiver_of g n to to' octets some is = own_is (some ∙ ap (option_map (λ (m : Message). m.receiver)) is.there) ∙ is.receiver
+
+pub octets_in : (g : Cell) (n to : ℕ) (octets octets' : List ℕ) → Some octets' ≡ option_and_then octets_of (message_at g n) → IsPosted g n to octets
+    → octets' ≡ octets
+octets_in g n to octets octets' some is = own_is (some ∙ ap (option_and_then octets_of) is.there ∙ is.octets_are)
+
+-- messages are those after the first ones if the rest are those after more
+pub record PostAlike (g : Cell) (first : ℕ) (posts : List PostedOctets) (n : ℕ) (rest : List PostedOctets) : Type 0 where
+  pub to : ArePostedAfter g first posts → ArePostedAfter g n rest
+  pub back : ArePostedAfter g n rest → ArePostedAfter g first posts
+
+pub post_none : (g : Cell) (first : ℕ) (posts : List PostedOctets) → PostAlike g first posts first posts
+post_none g first posts = record { to = λ is. is; back = λ is. is }
+
+pub post_more : (g : Cell) (first : ℕ) (posts rest behind : List PostedOctets) (n next : ℕ) (p : PostedOctets) → PostAlike g first posts n rest
+    → rest ≡ p ∷ behind → next ≡ n + 1 → IsPosted g next p.to.0 p.octets → PostAlike g first posts next behind
+post_more g first posts rest behind n next p so is after one = record {
+  to = λ all. subst (λ (k : ℕ). ArePostedAfter g k behind) (sym after) (subst (λ (l : List PostedOctets). ArePostedAfter g n l) is (so.to all)).1;
+  back = λ all. so.back (subst (λ (l : List PostedOctets). ArePostedAfter g n l) (sym is)
+      (subst (λ (k : ℕ). IsPosted g k p.to.0 p.octets) after one, subst (λ (k : ℕ). ArePostedAfter g k behind) after all));
+}
+
+-- one of them is not there
+pub post_other : (g : Cell) (first : ℕ) (posts rest behind : List PostedOctets) (n next : ℕ) (p : PostedOctets) → PostAlike g first posts n rest
+    → rest ≡ p ∷ behind → next ≡ n + 1 → ¬ IsPosted g next p.to.0 p.octets → ¬ ArePostedAfter g first posts
+post_other g first posts rest behind n next p so is after none all =
+    none (subst (λ (k : ℕ). IsPosted g k p.to.0 p.octets) (sym after) (subst (λ (l : List PostedOctets). ArePostedAfter g n l) is (so.to all)).0)
+
+-- there are no more serial numbers
+past_all : {A : Type 0} (xs : List A) (n : ℕ) (x : A) → slice_get xs n ≡ Some x → n < length xs
+past_all [] n x is = absurd (cc (is))
+past_all (y ∷ ys) zero x is = omega arith
+past_all (y ∷ ys) (suc n) x is = let less = past_all ys n x is in omega (arith, less)
+
+pub post_past : (g : Cell) (first : ℕ) (posts rest behind : List PostedOctets) (n : ℕ) (p : PostedOctets) → PostAlike g first posts n rest
+    → rest ≡ p ∷ behind → length g.bag ≤ n → ¬ ArePostedAfter g first posts
+post_past g first posts rest behind n p so is few all =
+    let one = (subst (λ (l : List PostedOctets). ArePostedAfter g n l) is (so.to all)).0 in
+    let less = past_all g.bag n one.m (in_bag g n one.m one.there) in
+    absurd (omega (arith, few, less))
+
 -- ---- lines
 
 -- the line in the text of an answer of one line
@@ -125,6 +181,55 @@ listed_any x (m ∷ ms) = ap (λ (b : Bool). (m.house.0 == x) || b) (listed_any 
 -- what `==` says of two members
 pub member_is : (a b : Member) → Decides (eq-value.it a b) (a ≡ b)
 member_is a b = search (comparing, rules)
+
+-- those that leave are these if the rest of them are the rest
+pub record LeaveAlike (before : List Member) (left : List HouseNo) (rest : List Member) (leaving : List HouseNo) (now : List Member) : Type 0 where
+  pub to : left_members (members_of before) (members_of now) ≡ numbers_of left → left_members (members_of rest) (members_of now) ≡ numbers_of leaving
+  pub back : left_members (members_of rest) (members_of now) ≡ numbers_of leaving → left_members (members_of before) (members_of now) ≡ numbers_of left
+
+pub leave_none : (before now : List Member) (left : List HouseNo) → LeaveAlike before left before left now
+leave_none before now left = record { to = λ is. is; back = λ is. is }
+
+-- a member stays
+stays_here : (m : Member) (ms now : List Member) → is_listed m.house.0 (members_of now) ≡ true
+    → left_members (members_of (m ∷ ms)) (members_of now) ≡ left_members (members_of ms) (members_of now)
+stays_here m ms now here = rw here refl
+
+leaves_here : (m : Member) (ms now : List Member) → is_listed m.house.0 (members_of now) ≡ false
+    → left_members (members_of (m ∷ ms)) (members_of now) ≡ m.house.0 ∷ left_members (members_of ms) (members_of now)
+leaves_here m ms now gone = rw gone refl
+
+pub leave_stays : (before rest behind now : List Member) (left leaving : List HouseNo) (m : Member) → LeaveAlike before left rest leaving now
+    → rest ≡ m ∷ behind → is_listed m.house.0 (members_of now) ≡ true → LeaveAlike before left behind leaving now
+leave_stays before rest behind now left leaving m so is here =
+    let same : left_members (members_of rest) (members_of now) ≡ left_members (members_of behind) (members_of now) =
+    ap (λ (l : List Member). left_members (members_of l) (members_of now)) is ∙ stays_here m behind now here in
+    record { to = λ all. sym same ∙ so.to all; back = λ all. so.back (same ∙ all) }
+
+pub leave_goes : (before rest behind now : List Member) (left leaving others : List HouseNo) (m : Member) (h : HouseNo) → LeaveAlike before left rest leaving now
+    → rest ≡ m ∷ behind → is_listed m.house.0 (members_of now) ≡ false → leaving ≡ h ∷ others → h.0 ≡ m.house.0 → LeaveAlike before left behind others now
+leave_goes before rest behind now left leaving others m h so is gone first same =
+    let here : left_members (members_of rest) (members_of now) ≡ m.house.0 ∷ left_members (members_of behind) (members_of now) =
+    ap (λ (l : List Member). left_members (members_of l) (members_of now)) is ∙ leaves_here m behind now gone in
+    let there : numbers_of leaving ≡ m.house.0 ∷ numbers_of others = ap numbers_of first ∙ ap (λ (n : ℕ). n ∷ numbers_of others) same in
+    record {
+      to = λ all. ap (λ (l : List ℕ). drop 1 l) (sym here ∙ so.to all ∙ there);
+      back = λ all. so.back (here ∙ ap (λ (l : List ℕ). m.house.0 ∷ l) all ∙ sym there);
+    }
+
+-- another house leaves first, or none
+pub leave_other : (before rest behind now : List Member) (left leaving : List HouseNo) (m : Member) → LeaveAlike before left rest leaving now
+    → rest ≡ m ∷ behind → is_listed m.house.0 (members_of now) ≡ false → ((others : List HouseNo) → leaving ≡ m.house ∷ others → ⊥)
+    → left_members (members_of before) (members_of now) ≢ numbers_of left
+leave_other before rest behind now left leaving m so is gone other all =
+    none_other leaving (sym (ap (λ (l : List Member). left_members (members_of l) (members_of now)) is ∙ leaves_here m behind now gone) ∙ so.to all) other
+  where
+    none_other : (hs : List HouseNo) → m.house.0 ∷ left_members (members_of behind) (members_of now) ≡ numbers_of hs
+        → ((others : List HouseNo) → hs ≡ m.house ∷ others → ⊥) → ⊥
+    none_other [] same other = absurd (cc (same))
+    none_other (h ∷ hs) same other =
+        let first : m.house.0 ≡ h.0 = ap (λ (l : List ℕ). slice_index l 0) same in
+        other hs (λ i. (record { 0 = sym first i }) ∷ hs)
 
 -- the console lists the members of an epoch, and those that leave are the ones that were found
 pub listed_as : (g : Cell) (d : DirId) (k : EpochNo) (list : EpochList) (before ms : List Member) (e : ℕ) (found : Bool) → IsListed g d.0 e (members_of ms)

@@ -1,6 +1,7 @@
 -- Houses that are made, before any of them does anything.
-use Rattle.std.proofs.Common.{◌≡◌, ℕ, ◌<◌, ◌⊎◌, inl, inr, List, [], ◌∷◌, ◌++◌, length, take, Some, None, refl, sym, ◌∙◌, ap, subst, append_assoc}
+use Rattle.std.proofs.Common.{◌≡◌, ℕ, ◌+◌, ◌<◌, ◌≤◌, ◌⊎◌, inl, inr, List, [], ◌∷◌, ◌++◌, length, take, Some, None, refl, sym, ◌∙◌, ap, subst, append_assoc, arith}
 use Rattle.std.specs.Prelude.{IfSome, slice_get, slice_index}
+use Rattle.std.proofs.lemmas.Bool.{cases_lt}
 use Rattle.std.proofs.lemmas.Option.{slice_get_within}
 use Rattle.cell_model.specs.Cells.{Cell, empty_cell}
 use Rattle.cell_model.specs.Commands as commands
@@ -15,8 +16,9 @@ use Rattle.cell_runs.specs.Entries.{Entry}
 use Rattle.cds_explain.specs.Explained.{ExplainsUpTo, Makes, Scripts, view}
 use Rattle.house_logs.specs.declared.log.LogEntry.{LogEntry}
 use Rattle.cds_explain.specs.LoggedEntries.{AreLogged, NoEntry}
-use Rattle.cds_explain.specs.PrivateExplainers.{HasBegun, HasExplained, HasMade, IsFirstOfHouse, MakesOnly}
+use Rattle.cds_explain.specs.PrivateExplainers.{AreTwins, HasBegun, HasExplained, HasMade, HasTwin, IsFirstOfHouse, MakesOnly}
 use Rattle.cds_explain.specs.PrivateReplays.{DoesQuietly, HasDone}
+use Rattle.cds_explain.specs.declared.cause.Cause.{Cause}
 use Rattle.cds_explain.specs.declared.cause.Reason.{Reason}
 use Rattle.cds_explain.specs.declared.explainer.Explainer.{Explainer}
 use Rattle.cds_explain.specs.declared.replay.Replay.{Replay}
@@ -163,3 +165,33 @@ begun_explained e logs places b each = record {
 
     none : {A : Type 0} (i : ℕ) (xs : List A) → [] ≡ take (slice_index e.done.items i) xs
     none i xs = sym (ap (λ (n : ℕ). take n xs) (b.done i))
+
+-- ---- journals of one house or one node
+
+the_same : {A : Type 0} {x y : A} → Some x ≡ Some y → x ≡ y
+the_same is = cc
+
+-- two journals of one house or one node
+pub twin_is : (logs : List HouseLog) (i place : ℕ) (a b : HouseLog) (why : Cause) → i < place → slice_get logs i ≡ Some a → slice_get logs place ≡ Some b
+    → AreTwins a b why → HasTwin logs place why
+twin_is logs i place a b why before there here twins = record { i = i; a = a; b = b; before = before; there = there; here = here; twins = twins }
+
+-- what holds of the journals before a place, and of the one there
+pub first_more : (logs : List HouseLog) (P : HouseLog → Type 0) (k : ℕ) (other : HouseLog) → slice_get logs k ≡ Some other
+    → ((i : ℕ) (a : HouseLog) → i < k → slice_get logs i ≡ Some a → P a) → P other → (i : ℕ) (a : HouseLog) → i < k + 1 → slice_get logs i ≡ Some a → P a
+first_more logs P k other here all one i a less there = by (cases_lt i k)
+  where
+    by : (i < k) ⊎ (k ≤ i) → P a
+    by (inl before) = all i a before there
+    by (inr after) =
+        let place : i ≡ k = omega (arith, less, after) in
+        let same : other ≡ a = the_same (sym here ∙ ap (slice_get logs) (sym place) ∙ there) in
+        subst P same one
+
+-- of all journals before one at a place
+pub first_of_all : (logs : List HouseLog) (P : HouseLog → HouseLog → Type 0) (place k : ℕ) (log : HouseLog) → slice_get logs place ≡ Some log → place ≤ k
+    → ((i : ℕ) (a : HouseLog) → i < k → slice_get logs i ≡ Some a → P a log)
+    → (i : ℕ) (a b : HouseLog) → i < place → slice_get logs i ≡ Some a → slice_get logs place ≡ Some b → P a b
+first_of_all logs P place k log here long all i a b less there at_place =
+    let near : i < k = omega (arith, less, long) in
+    subst (λ (l : HouseLog). P a l) (the_same (sym here ∙ at_place)) (all i a near there)

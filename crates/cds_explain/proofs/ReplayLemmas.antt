@@ -127,7 +127,7 @@ pub ordered : (g : Cell) (h : HouseNo) (o : LoggedOrder) (serial : ℕ) (c : Com
     → is_turn (outcome g (step_of c)).answer ≡ true → HasMembers g o before → IsListedAs (outcome g (step_of c)).cell o before
     → IsOrdered g h.0 o serial (step_of c)
 ordered g h (order.Root ls) serial c before is ready turn has lists = tt
-ordered g h (order.Mkdir d n made ls) serial c before is ready turn has lists = ready
+ordered g h (order.Mkdir d n made ls) serial c before is ready turn has lists = ready.1
 ordered g h (order.Repoint d n m rs) serial c before is ready turn has lists = tt
 ordered g h (order.Update d u) serial c before is ready turn has lists = tt
 ordered g h (order.Skulk d) serial c before is ready turn has lists = tt

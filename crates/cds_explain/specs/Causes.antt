@@ -1,5 +1,5 @@
 -- What has to be so of a cell where an entry cannot be next.
-use Rattle.std.specs.Prelude.{◌≡◌, ℕ, ◌+◌, ◌≤◌, ◌<◌}
+use Rattle.std.specs.Prelude.{◌≡◌, ◌+◌, ◌≤◌, ◌<◌}
 use Rattle.cds_stamps.specs.declared.numbers.DirId.{DirId}
 use Rattle.cds_stamps.specs.declared.numbers.EpochNo.{EpochNo}
 use Rattle.cell_model.specs.Cells.{Cell}

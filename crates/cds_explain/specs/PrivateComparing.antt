@@ -5,12 +5,14 @@ use Rattle.cds_stamps.specs.declared.numbers.DirId.{DirId}
 use Rattle.cds_stamps.specs.declared.numbers.EpochNo.{EpochNo}
 use Rattle.cell_model.specs.Cells.{Cell, Message}
 use Rattle.cell_model.specs.Commands.{Command, Epoch}
+use Rattle.cell_model.specs.Sets.{has}
 use Rattle.cell_model.specs.Steps.{Outcome, message_at}
 use Rattle.cds_cell.specs.Recorded.{octets_of}
 use Rattle.cell_runs.specs.Entries as entries
 use Rattle.cell_runs.specs.LineAnswers.{answer_said}
 use Rattle.cell_runs.specs.Views as views
 use Rattle.cell_runs.specs.Views.{image_in, is_turn}
+use Rattle.script_answers.specs.Texts.{answer_line}
 use Rattle.script_answers.specs.declared.answer.Answer.{Answer}
 use Rattle.script_answers.specs.declared.answer.Answer.TheVariants as answer
 use Rattle.house_logs.specs.declared.log.LoggedTurn.{LoggedTurn}
@@ -31,6 +33,10 @@ own_of (answer.Taken ns) = Some (answer.Taken [])
 own_of (answer.Complete t ns) = Some (answer.Complete t [])
 own_of other = None
 
+-- the line of an answer, as a house has it, is this one
+abbrev pub IsOwnLine : Answer → (line : List ℕ) → Type 0
+IsOwnLine a line = (told : Answer) × (own_of a ≡ Some told) × (answer_line told ≡ line)
+
 -- the message of a serial number goes to this house, and has these octets
 pub record IsPosted (g : Cell) (serial : ℕ) (to : ℕ) (octets : List ℕ) : Type 0 where
   pub m : Message
@@ -42,6 +48,11 @@ pub record IsPosted (g : Cell) (serial : ℕ) (to : ℕ) (octets : List ℕ) : T
 abbrev pub ArePostedAfter : Cell → ℕ → List PostedOctets → Type 0
 ArePostedAfter g n [] = length g.bag ≡ n
 ArePostedAfter g n (p ∷ ps) = IsPosted g (n + 1) p.to.0 p.octets × ArePostedAfter g (n + 1) ps
+
+-- the house x was made, and has this image
+pub record HasImage (g : Cell) (x : ℕ) (image : List ℕ) : Type 0 where
+  pub made : has x g.made ≡ true
+  pub is : image_in g x ≡ image
 
 -- what a command came to at the house x is this turn, but for its order and its clock; with its
 -- image, if the journal has it

@@ -8,10 +8,11 @@ use Rattle.house_logs.specs.declared.order.LoggedOrder.{LoggedOrder}
 use Rattle.house_logs.specs.declared.order.LoggedOrder.TheVariants as order
 use Rattle.cds_explain.specs.PrivateComparing.{IsPosted}
 
--- the order of the house x can be next: the number of a directory or of an epoch is, and the
--- message of this serial number is the one that it takes
+-- the order of the house x can be next: there is no root yet, or one; the number of a directory or
+-- of an epoch is the next; and the message of this serial number is the one that it takes
 abbrev pub IsReady : Cell → (x : ℕ) → LoggedOrder → (serial : ℕ) → Type 0
-IsReady g x (order.Mkdir d n made ls) serial = g.next_dir ≡ made.0
+IsReady g x (order.Root ls) serial = g.top 1 ≡ 0
+IsReady g x (order.Mkdir d n made ls) serial = (1 ≤ g.top 1) × (g.next_dir ≡ made.0)
 IsReady g x (order.Epoch d k list) serial = (1 ≤ g.top d.0) × (k.0 ≡ g.top d.0 + 1)
 IsReady g x (order.Take octets) serial = IsPosted g serial x octets
 IsReady g x other serial = Unit {0}

@@ -9,6 +9,8 @@ use Rattle.house_logs.specs.declared.log.LogEntry.{LogEntry}
 use Rattle.cds_explain.specs.Explained.{HasNoLog, Makes, Scripts, view}
 use Rattle.cds_explain.specs.LoggedEntries.{AreLogged}
 use Rattle.cds_explain.specs.PrivateReplays.{DoesQuietly, HasDone}
+use Rattle.cds_explain.specs.declared.cause.Cause.{Cause}
+use Rattle.cds_explain.specs.declared.cause.Cause.TheVariants as cause
 use Rattle.cds_explain.specs.declared.cause.Reason.{Reason}
 use Rattle.cds_explain.specs.declared.explainer.Explainer.{Explainer}
 use Rattle.cds_explain.specs.declared.replay.Replay.{Replay}
@@ -60,6 +62,28 @@ abbrev pub IsFirstOfHouse : List HouseLog → (place : ℕ) → Type 0
 IsFirstOfHouse logs place =
     (i : ℕ) (a b : HouseLog) → i < place → slice_get logs i ≡ Some a → slice_get logs place ≡ Some b
     → a.house.0 ≢ b.house.0
+
+-- no journal before the place has its node
+abbrev pub IsFirstOfNode : List HouseLog → (place : ℕ) → Type 0
+IsFirstOfNode logs place =
+    (i : ℕ) (a b : HouseLog) → i < place → slice_get logs i ≡ Some a → slice_get logs place ≡ Some b
+    → a.node ≢ b.node
+
+-- why two journals are not of one cell: they are of one house, or of one node
+abbrev pub AreTwins : (a b : HouseLog) → Cause → Type 0
+AreTwins a b cause.HouseAgain = a.house ≡ b.house
+AreTwins a b (cause.NodeOf h) = (h ≡ a.house) × (a.node ≡ b.node)
+AreTwins a b other = ⊥
+
+-- this is why the journal at a place and one before it are not of one cell
+pub record HasTwin (logs : List HouseLog) (place : ℕ) (why : Cause) : Type 0 where
+  pub i : ℕ
+  pub a : HouseLog
+  pub b : HouseLog
+  pub before : i < place
+  pub there : slice_get logs i ≡ Some a
+  pub here : slice_get logs place ≡ Some b
+  pub twins : AreTwins a b why
 
 -- no two journals are of one house
 abbrev pub AreApart : List HouseLog → Type 0

@@ -144,7 +144,8 @@ impl Reason {
 
     // Adds the line with these words.
     fn push_line(&self, text: &mut Vec<u8>, words: &[u8]) -> Result<(), AllocError>
-        ensures { OnOk result (text.new.items ≡ text.old.items ++ reason_line self.now words.now) }
+        ensures { OnOk result
+            (text.new.items ≡ text.old.items ++ reason_line self.now words.now) }
     {
         self.push_entry(text)?;
         text.extend_from_slice(b": ")?;

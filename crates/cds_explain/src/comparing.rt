@@ -1,17 +1,18 @@
 // Whether the replay did what an entry says: its answer, its messages and its image.
-ghost use Rattle.std.specs.Prelude.{◌≡◌, ◌∷◌, [], IfOk, IfSome};
-ghost use Rattle.std.specs.Bool.{OnTrue};
+ghost use Rattle.std.specs.Prelude.{◌≡◌, ◌∷◌, [], IfOk, IfSome, OnOk};
+ghost use Rattle.std.specs.Bool.{Decides};
 ghost use Rattle.cds_stamps.specs.Members.{is_listed, members_of};
 ghost use Rattle.cell_model.specs.Cells as model;
 ghost use Rattle.cell_model.specs.Steps.{left_members};
-ghost use Rattle.cell_runs.specs.Views.{image_in};
 ghost use Rattle.cds_cell.specs.ModelCells.{Stands};
 ghost use Rattle.house_directory.specs.HouseMessages.{numbers_of};
 ghost use Rattle.script_answers.specs.Texts.{answer_line, answer_lines};
-ghost use Rattle.cds_explain.specs.PrivateComparing.{ArePostedAfter, IsPosted, own_of};
+ghost use Rattle.cds_explain.specs.PrivateComparing.{ArePostedAfter, HasImage, IsOwnLine, IsPosted, own_of};
+ghost use Rattle.cds_explain.specs.PrivateReplays.{IfFault};
 
+use crate::cause::Cause;
 use cds_cell::Cell;
-use cds_stamps::{HouseNo, Member};
+use cds_stamps::{AllocOr, HouseNo, Member};
 use cell_script::Question;
 use house_logs::PostedOctets;
 use script_answers::{Answer, Serials, append_answer};
@@ -56,11 +57,39 @@ pub(crate) fn answer_text(alloc: Global, answer: &Answer) -> Result<Vec<u8>, All
     Vec::from_slice(alloc, line)
 }
 
+/// The fault of an answer that is another than this one.
+pub(crate) fn other_answer(
+    alloc: Global,
+    own: &[u8],
+    replayed: Vec<u8>,
+) -> Result<Cause, AllocError> {
+    Ok(Cause::OtherAnswer(Vec::from_slice(alloc, own)?, replayed))
+}
+
+/// The answer has to be that of the turn.
+pub(crate) fn compare_answer(
+    alloc: Global,
+    own: &[u8],
+    answer: &Answer,
+) -> Result<(), AllocOr<Cause>>
+    ensures same { OnOk result (IsOwnLine answer.now own.now) }
+    ensures other { IfFault result (λ cause. ¬ IsOwnLine answer.now own.now) }
+{
+    let Some(told) = own_answer(alloc, answer) else {
+        let text = answer_text(alloc, answer)?;
+        return Err(AllocOr::Fault(other_answer(alloc, own, text)?));
+    };
+    let text = own_line(alloc, &told)?;
+    if text.as_slice() == own {
+        return Ok(());
+    }
+    Err(AllocOr::Fault(other_answer(alloc, own, text)?))
+}
+
 /// Whether the message of a serial number is this one.
-#[tactic(auto, using(crate::proofs::ComparingLemmas::posted_is))]
 pub(crate) fn is_posted(cell: &Cell, serial: u64, to: HouseNo, octets: &[u8]) -> bool
     ensures { (g : model.Cell) → Stands cell.now g
-        → OnTrue result (IsPosted g serial to.0 octets.now) }
+        → Decides result (IsPosted g serial to.0 octets.now) }
 {
     let Some(receiver) = cell.receiver(serial) else {
         return false;
@@ -68,14 +97,18 @@ pub(crate) fn is_posted(cell: &Cell, serial: u64, to: HouseNo, octets: &[u8]) ->
     let Some(message) = cell.message(serial) else {
         return false;
     };
-    receiver == to && message == octets
+    if receiver != to {
+        return false;
+    }
+    message == octets
 }
 
 /// Whether the messages after the first ones, so many, are these.
 pub(crate) fn are_posted(cell: &Cell, first: u64, posts: &[PostedOctets]) -> bool
     ensures { (g : model.Cell) → Stands cell.now g
-        → OnTrue result (ArePostedAfter g first posts.now) }
+        → Decides result (ArePostedAfter g first posts.now) }
 {
+    let posted = cell.posted();
     let mut serial = first;
     let mut rest = posts;
     'posts: while let Some((post, behind)) = rest.split_first() {
@@ -88,7 +121,7 @@ pub(crate) fn are_posted(cell: &Cell, first: u64, posts: &[PostedOctets]) -> boo
         }
         rest = behind;
     }
-    cell.posted() == serial
+    posted == serial
 }
 
 /// Whether this is the image of a house.
@@ -99,7 +132,7 @@ pub(crate) fn has_image(
     image: &[u8],
 ) -> Result<bool, AllocError>
     ensures { (g : model.Cell) → Stands cell.now g
-        → IfOk result (λ has. OnTrue has (image_in g house.0 ≡ image.now)) }
+        → IfOk result (λ has. Decides has (HasImage g house.0 image.now)) }
 {
     let told = reply_to_question(alloc, cell, &Question::OctetsHouse(house))?;
     match &told {
@@ -117,7 +150,7 @@ fn is_member(members: &[Member], house: HouseNo) -> bool
 
 /// Whether these are the houses of the first list that the second one has no more, in their order.
 pub(crate) fn have_left(before: &[Member], now: &[Member], left: &[HouseNo]) -> bool
-    ensures { OnTrue result
+    ensures { Decides result
         (left_members (members_of before.now) (members_of now.now) ≡ numbers_of left.now) }
 {
     let mut rest = before;

@@ -1,8 +1,8 @@
 // The houses of journals: in ascending order, and those without a journal that lines name.
-ghost use Rattle.std.specs.Prelude.{◌≡◌, ◌<◌, ℕ, Some, IfNone, IfOk, OnOk, length, slice_get};
+ghost use Rattle.std.specs.Prelude.{◌≡◌, ◌<◌, ℕ, Some, IfNone, IfOk, IfSome, OnOk, length, slice_get};
 ghost use Rattle.cell_model.specs.Sets.{In};
 ghost use Rattle.house_logs.specs.declared.log.HouseLog.{HouseLog as HouseLog'};
-ghost use Rattle.cds_explain.specs.PrivateExplainers.{IsFirstOfHouse};
+ghost use Rattle.cds_explain.specs.PrivateExplainers.{HasTwin, IsFirstOfHouse, IsFirstOfNode};
 
 use crate::cause::Cause;
 use cds_stamps::{HouseNo, Member, Node};
@@ -41,7 +41,9 @@ pub(crate) fn in_order(alloc: Global, logs: &[HouseLog]) -> Result<Vec<usize>, A
 
 /// Why a journal is none of this cell: another one before it is of the same house or the same node.
 pub(crate) fn twin_of(logs: &[HouseLog], place: usize) -> Option<Cause>
-    ensures { IfNone result (IsFirstOfHouse logs.now place) }
+    ensures house { IfNone result (IsFirstOfHouse logs.now place) }
+    ensures node { IfNone result (IsFirstOfNode logs.now place) }
+    ensures twin { IfSome result (HasTwin logs.now place) }
 {
     if place >= logs.len() {
         return None;

@@ -23,7 +23,8 @@ fn next_directory(cell: &Cell) -> u64
 
 // Why the root cannot be made.
 fn root_ready(cell: &Cell) -> Result<u64, Cause>
-    ensures { (g : model.Cell) → Stands cell.now g → IfErr result (HindersRoot g) }
+    ensures ready { (g : model.Cell) → Stands cell.now g → OnOk result (g.top 1 ≡ 0) }
+    ensures why { (g : model.Cell) → Stands cell.now g → IfErr result (HindersRoot g) }
 {
     match cell.listing(ROOT) {
         Some(_) => Err(Cause::SecondRoot),
@@ -33,7 +34,8 @@ fn root_ready(cell: &Cell) -> Result<u64, Cause>
 
 // Why a directory of this number is not the next one.
 fn mkdir_ready(cell: &Cell, made: DirId) -> Result<u64, Cause>
-    ensures ready { (g : model.Cell) → Stands cell.now g → OnOk result (g.next_dir ≡ made.0) }
+    ensures ready { (g : model.Cell) → Stands cell.now g
+        → OnOk result ((1 ≤ g.top 1) × (g.next_dir ≡ made.0)) }
     ensures why { (g : model.Cell) → Stands cell.now g → IfErr result (HindersMkdir g made) }
 {
     let next = next_directory(cell);
@@ -50,7 +52,8 @@ fn mkdir_ready(cell: &Cell, made: DirId) -> Result<u64, Cause>
 fn epoch_ready(cell: &Cell, dir: DirId, epoch: EpochNo) -> Result<u64, Cause>
     ensures ready { (g : model.Cell) → Stands cell.now g
         → OnOk result ((1 ≤ g.top dir.0) × (epoch.0 ≡ g.top dir.0 + 1)) }
-    ensures why { (g : model.Cell) → Stands cell.now g → IfErr result (HindersEpoch g dir epoch) }
+    ensures why { (g : model.Cell) → Stands cell.now g
+        → IfErr result (HindersEpoch g dir epoch) }
 {
     let last = match cell.listing(dir) {
         Some((last, _)) => last,

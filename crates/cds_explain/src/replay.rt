@@ -8,13 +8,12 @@ ghost use Rattle.cds_cell.specs.ModelCells.{Stands};
 ghost use Rattle.cell_model.specs.Commands as model;
 ghost use Rattle.cell_model.specs.Steps.{replay};
 ghost use Rattle.cell_runs.specs.Views.{image_in};
-ghost use Rattle.script_answers.specs.Texts.{answer_line};
-ghost use Rattle.script_answers.specs.declared.answer.Answer.{Answer as Answer'};
-ghost use Rattle.cds_explain.specs.PrivateComparing.{own_of};
 ghost use Rattle.cds_explain.specs.PrivateConsole.{HasMembers, IsListedAs};
 
 use crate::cause::Cause;
-use crate::comparing::{answer_text, are_posted, has_image, have_left, own_answer, own_line};
+use crate::comparing::{
+    answer_text, are_posted, compare_answer, has_image, have_left, other_answer,
+};
 use crate::posted::PostedIndex;
 use crate::ready::ready;
 use cds_base::MOST_LINES;
@@ -72,32 +71,12 @@ fn is_given(cell: &Cell, order: &LoggedOrder, before: &[Member]) -> bool
     }
 }
 
-// The fault of an answer that is another than this one.
-fn other_answer(alloc: Global, own: &[u8], replayed: Vec<u8>) -> Result<Cause, AllocError> {
-    Ok(Cause::OtherAnswer(Vec::from_slice(alloc, own)?, replayed))
-}
-
-// The answer has to be that of the turn.
-fn compare_answer(alloc: Global, own: &[u8], answer: &Answer) -> Result<(), AllocOr<Cause>>
-    ensures { OnOk result ((told : Answer') × (own_of answer.now ≡ Some told)
-        × (answer_line told ≡ own.now)) }
-{
-    let Some(told) = own_answer(alloc, answer) else {
-        let text = answer_text(alloc, answer)?;
-        return Err(AllocOr::Fault(other_answer(alloc, own, text)?));
-    };
-    let text = own_line(alloc, &told)?;
-    if text.as_slice() == own {
-        return Ok(());
-    }
-    Err(AllocOr::Fault(other_answer(alloc, own, text)?))
-}
-
 impl Replay {
     ghost use Rattle.cds_cell.specs.Scripted.{step_of};
     ghost use Rattle.house_logs.specs.declared.log.LogEntry.TheVariants as entry';
     ghost use Rattle.script_answers.specs.declared.answer.Answer.TheVariants as answer';
     ghost use Rattle.entry_lines.specs.SaidLines.{SaysCommand};
+    ghost use Rattle.cds_explain.specs.PrivateComparing.{HasImage};
     ghost use Rattle.cds_explain.specs.PrivateConsole.{IsReady};
     ghost use Rattle.cds_explain.specs.PrivateReplays.{DoesEntry, DoesQuietly, HasDone, HasStepped, IfFault};
 
@@ -253,8 +232,10 @@ impl Replay {
         house: HouseNo,
         image: &[u8],
     ) -> Result<(), AllocOr<Cause>>
-        ensures { (g : Cell') → Stands self.now.replayer.cell g
+        ensures same { (g : Cell') → Stands self.now.replayer.cell g
             → OnOk result (image_in g house.0 ≡ image.now) }
+        ensures other { (g : Cell') → Stands self.now.replayer.cell g
+            → IfFault result (λ cause. ¬ HasImage g house.0 image.now) }
     {
         if has_image(alloc, self.cell(), house, image)? {
             Ok(())
@@ -270,8 +251,11 @@ impl Replay {
         house: HouseNo,
         image: Option<&Octets>,
     ) -> Result<(), AllocOr<Cause>>
-        ensures { (g : Cell') → Stands self.now.replayer.cell g
+        ensures same { (g : Cell') → Stands self.now.replayer.cell g
             → OnOk result (IfSome (option_copied image.entry) (λ i. image_in g house.0 ≡ i)) }
+        ensures other { (g : Cell') → Stands self.now.replayer.cell g
+            → IfFault result (λ cause. ¬ IfSome (option_copied image.entry)
+            (λ i. HasImage g house.0 i)) }
     {
         match image {
             Some(image) => self.compare_image(alloc, house, image.list()),

@@ -1,2 +1,3 @@
 pub mod EntryCommands
 pub mod SaidLines
+pub mod MadeLines

@@ -1,12 +1,14 @@
 // Lines with the commands that they say: each is made, read again, and compared with what it is to
 // do.
-ghost use Rattle.std.specs.Prelude.{◌≡◌, ◌≤◌, ℕ, true, IfOk, IfSome};
-ghost use Rattle.std.specs.Bool.{OnTrue};
+ghost use Rattle.std.specs.Prelude.{◌≡◌, ◌≤◌, ◌++◌, ◌∷◌, ℕ, true, false, IfNone, IfOk, IfSome, MatchOption, codes, decimal};
+ghost use Rattle.std.specs.Bool.{Decides};
 ghost use Rattle.std.specs.List.{list_all};
 ghost use Rattle.cds_base.specs.LineFaults.{IsLine, is_printable};
 ghost use Rattle.cds_base.specs.declared.scan.TheConstants.{MOST_LINES};
 ghost use Rattle.cell_script.specs.declared.command.Command.TheVariants as command;
 ghost use Rattle.entry_lines.specs.EntryCommands.{IsCommandOf};
+ghost use Rattle.cell_script.specs.declared.command.Command.{Command as Command'};
+ghost use Rattle.entry_lines.specs.MadeLines.{making_line, turn_line};
 ghost use Rattle.entry_lines.specs.SaidLines.{SaysCommand};
 
 use crate::lines::{clock_line, crash_line, making_line, start_line, turn_line};
@@ -40,14 +42,15 @@ fn are_printable(octets: &[u8]) -> bool
 
 // Whether octets are those of a line that a script can have.
 fn is_line(octets: &[u8]) -> bool
-    ensures { OnTrue result ((number : ℕ) → number ≤ MOST_LINES → IsLine number octets.now) }
+    ensures { Decides result ((number : ℕ) → number ≤ MOST_LINES → IsLine number octets.now) }
 {
     octets.len() <= LONGEST_LINE && are_printable(octets)
 }
 
 // The command that a line says, if a script can have it.
 fn command_in(alloc: Global, line: &[u8]) -> Result<Option<Command>, AllocError>
-    ensures { IfOk result (λ o. IfSome o (SaysCommand line.now)) }
+    ensures { IfOk result (λ o. MatchOption o ((c : Command') → ¬ SaysCommand line.now c)
+        (SaysCommand line.now)) }
 {
     if !is_line(line) {
         return Ok(None);
@@ -64,6 +67,7 @@ fn command_in(alloc: Global, line: &[u8]) -> Result<Option<Command>, AllocError>
 fn if_wanted(line: Vec<u8>, command: Command, is_wanted: bool) -> Option<Said>
     ensures line { IfSome result (λ s. (s.line ≡ line) × (s.command ≡ command)) }
     ensures wanted { IfSome result (λ s. is_wanted ≡ true) }
+    ensures other { IfNone result (is_wanted ≡ false) }
 {
     if is_wanted {
         Some(Said { line, command })
@@ -72,10 +76,12 @@ fn if_wanted(line: Vec<u8>, command: Command, is_wanted: bool) -> Option<Said>
     }
 }
 
-/// `house H NODE`; none, if no line of a script makes this house.
+/// `house H NODE`; none, if that is no line which makes this house.
 pub fn making(alloc: Global, house: HouseNo, node: Node) -> Result<Option<Said>, AllocError>
     ensures says { IfOk result (λ o. IfSome o (λ s. SaysCommand s.line.items s.command)) }
     ensures is { IfOk result (λ o. IfSome o (λ s. s.command ≡ command.House house node)) }
+    ensures none { IfOk result (λ o. IfNone o
+        (¬ SaysCommand (making_line house node) (command.House house node))) }
 {
     let line = making_line(alloc, house, node)?;
     let Some(command) = command_in(alloc, &line)? else {
@@ -85,10 +91,13 @@ pub fn making(alloc: Global, house: HouseNo, node: Node) -> Result<Option<Said>,
     Ok(if_wanted(line, command, is_wanted))
 }
 
-/// `clock H TIME`.
+/// `clock H TIME`; none, if that is no line which sets this clock.
 pub fn setting(alloc: Global, house: HouseNo, time: u64) -> Result<Option<Said>, AllocError>
     ensures says { IfOk result (λ o. IfSome o (λ s. SaysCommand s.line.items s.command)) }
     ensures is { IfOk result (λ o. IfSome o (λ s. s.command ≡ command.Clock house time)) }
+    ensures none { IfOk result (λ o. IfNone o
+        (¬ SaysCommand (codes "clock" ++ (32 ∷ (decimal house.0 ++ (32 ∷ decimal time))))
+        (command.Clock house time))) }
 {
     let line = clock_line(alloc, house, time)?;
     let Some(command) = command_in(alloc, &line)? else {
@@ -98,10 +107,12 @@ pub fn setting(alloc: Global, house: HouseNo, time: u64) -> Result<Option<Said>,
     Ok(if_wanted(line, command, is_wanted))
 }
 
-/// `crash H`.
+/// `crash H`; none, if that is no line of this crash.
 pub fn crash(alloc: Global, house: HouseNo) -> Result<Option<Said>, AllocError>
     ensures says { IfOk result (λ o. IfSome o (λ s. SaysCommand s.line.items s.command)) }
     ensures is { IfOk result (λ o. IfSome o (λ s. s.command ≡ command.Crash house)) }
+    ensures none { IfOk result (λ o. IfNone o
+        (¬ SaysCommand (codes "crash" ++ (32 ∷ decimal house.0)) (command.Crash house))) }
 {
     let line = crash_line(alloc, house)?;
     let Some(command) = command_in(alloc, &line)? else {
@@ -111,10 +122,12 @@ pub fn crash(alloc: Global, house: HouseNo) -> Result<Option<Said>, AllocError>
     Ok(if_wanted(line, command, is_wanted))
 }
 
-/// `start H`.
+/// `start H`; none, if that is no line of this start.
 pub fn start(alloc: Global, house: HouseNo) -> Result<Option<Said>, AllocError>
     ensures says { IfOk result (λ o. IfSome o (λ s. SaysCommand s.line.items s.command)) }
     ensures is { IfOk result (λ o. IfSome o (λ s. s.command ≡ command.Start house)) }
+    ensures none { IfOk result (λ o. IfNone o
+        (¬ SaysCommand (codes "start" ++ (32 ∷ decimal house.0)) (command.Start house))) }
 {
     let line = start_line(alloc, house)?;
     let Some(command) = command_in(alloc, &line)? else {
@@ -125,7 +138,7 @@ pub fn start(alloc: Global, house: HouseNo) -> Result<Option<Said>, AllocError>
 }
 
 /// The line of a turn of a house, which takes the message of this serial number if it takes one;
-/// none, if no line of a script does it.
+/// none, if that is no line which does it.
 pub fn turn(
     alloc: Global,
     house: HouseNo,
@@ -135,6 +148,9 @@ pub fn turn(
     ensures says { IfOk result (λ o. IfSome o (λ s. SaysCommand s.line.items s.command)) }
     ensures is { IfOk result
         (λ o. IfSome o (λ s. IsCommandOf house turn.now.order serial s.command)) }
+    ensures none { IfOk result (λ o. IfNone o ((c : Command')
+        → SaysCommand (turn_line house turn.now.line turn.now.order serial) c
+        → ¬ IsCommandOf house turn.now.order serial c)) }
 {
     let line = turn_line(alloc, house, turn, serial)?;
     let Some(command) = command_in(alloc, &line)? else {

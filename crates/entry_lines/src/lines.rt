@@ -1,6 +1,8 @@
 // The lines of a script that do what entries say. What each one says is compared with the entry
 // afterwards.
-ghost use Rattle.std.specs.Prelude.{◌≡◌, ◌++◌, ◌∷◌, IfOk, OnOk, codes, decimal};
+ghost use Rattle.std.specs.Prelude.{◌≡◌, ◌++◌, ◌∷◌, IfOk, OnOk, codes, decimal, drop, take};
+ghost use Rattle.cell_script.specs.Words.{words_of};
+ghost use Rattle.entry_lines.specs.MadeLines.{epoch_line, first_in, making_line, member_word, mkdir_line, other_word, same_line, after_spaces, turn_line};
 
 use cds_stamps::{HouseNo, Member, MemberKind, Node};
 use cell_script::Words;
@@ -24,13 +26,24 @@ fn push_number_word(line: &mut Vec<u8>, number: u64) -> Result<(), AllocError>
     push_number(line, number)
 }
 
-// Adds so many of the next words, or as many as there are.
-fn push_words(line: &mut Vec<u8>, words: &mut Words<'_>, count: usize) -> Result<(), AllocError> {
-    for _ in 0..count {
-        match words.next() {
-            Some(word) => push_word(line, word)?,
-            None => return Ok(()),
-        }
+// Adds the next word, if there is one.
+fn push_next(line: &mut Vec<u8>, words: &mut Words<'_>) -> Result<(), AllocError>
+    ensures line { OnOk result
+        (line.new.items ≡ line.old.items ++ after_spaces (take 1 words.old.rest)) }
+    ensures words { OnOk result (words.new.rest ≡ drop 1 words.old.rest) }
+{
+    match words.next() {
+        Some(word) => push_word(line, word),
+        None => Ok(()),
+    }
+}
+
+// Adds the next words, as many as there are.
+fn push_rest(line: &mut Vec<u8>, words: &mut Words<'_>) -> Result<(), AllocError>
+    ensures { OnOk result (line.new.items ≡ line.old.items ++ after_spaces words.old.rest) }
+{
+    'words: while let Some(word) = words.next() {
+        push_word(line, word)?;
     }
     Ok(())
 }
@@ -45,11 +58,9 @@ fn house_line(alloc: Global, command: &[u8], house: HouseNo) -> Result<Vec<u8>, 
 }
 
 /// `house H NODE`.
-pub(crate) fn making_line(
-    alloc: Global,
-    house: HouseNo,
-    node: Node,
-) -> Result<Vec<u8>, AllocError> {
+pub(crate) fn making_line(alloc: Global, house: HouseNo, node: Node) -> Result<Vec<u8>, AllocError>
+    ensures { IfOk result (λ v. v.items ≡ making_line house node) }
+{
     let mut line = house_line(alloc, b"house", house)?;
     line.push(b' ')?;
     push_hex(&mut line, &node.number().to_be_bytes()[2..])?;
@@ -90,12 +101,24 @@ fn delivery_line(alloc: Global, serial: u64) -> Result<Vec<u8>, AllocError>
 }
 
 // A member of an epoch other than its master.
-fn push_other(line: &mut Vec<u8>, member: &Member) -> Result<(), AllocError> {
+fn push_other(line: &mut Vec<u8>, member: &Member) -> Result<(), AllocError>
+    ensures { OnOk result (line.new.items ≡ line.old.items ++ member_word member.now) }
+{
     line.push(b' ')?;
     if member.kind == MemberKind::Secondary {
         line.push(b's')?;
     }
     push_number(line, u64::from(member.house.0))
+}
+
+// A member, unless it is of this house.
+fn push_unless(line: &mut Vec<u8>, house: HouseNo, member: &Member) -> Result<(), AllocError>
+    ensures { OnOk result (line.new.items ≡ line.old.items ++ other_word house member.now) }
+{
+    if member.house == house {
+        return Ok(());
+    }
+    push_other(line, member)
 }
 
 // `epoch D H R..`.
@@ -104,34 +127,52 @@ fn epoch_line(
     dir: u64,
     house: HouseNo,
     members: &[Member],
-) -> Result<Vec<u8>, AllocError> {
+) -> Result<Vec<u8>, AllocError>
+    ensures { IfOk result (λ v. v.items ≡ epoch_line dir house members.now) }
+{
     let mut line = Vec::from_slice(alloc, b"epoch")?;
     push_number_word(&mut line, dir)?;
     push_number_word(&mut line, u64::from(house.0))?;
     for member in members {
-        if member.house != house {
-            push_other(&mut line, member)?;
-        }
+        push_unless(&mut line, house, member)?;
     }
     Ok(line)
 }
 
+// The next word; no octets, if there is none.
+fn first_of<'a>(words: &mut Words<'a>) -> &'a [u8]
+    ensures word { result.now ≡ first_in words.old.rest }
+    ensures words { words.new.rest ≡ drop 1 words.old.rest }
+{
+    match words.next() {
+        Some(word) => word,
+        None => &[],
+    }
+}
+
 // The line of a turn with the house after its first word.
-fn same_line(alloc: Global, house: HouseNo, own: &[u8]) -> Result<Vec<u8>, AllocError> {
+fn same_line(alloc: Global, house: HouseNo, own: &[u8]) -> Result<Vec<u8>, AllocError>
+    ensures { IfOk result (λ v. v.items ≡ same_line house (words_of own.now)) }
+{
     let mut words = Words::of(own);
-    let mut line = house_line(alloc, words.next().unwrap_or(&[]), house)?;
-    push_words(&mut line, &mut words, own.len())?;
+    let first = first_of(&mut words);
+    let mut line = house_line(alloc, first, house)?;
+    push_rest(&mut line, &mut words)?;
     Ok(line)
 }
 
 // `mkdir H D S H R..`, of a line `mkdir D S N R..`.
-fn mkdir_line(alloc: Global, house: HouseNo, own: &[u8]) -> Result<Vec<u8>, AllocError> {
+fn mkdir_line(alloc: Global, house: HouseNo, own: &[u8]) -> Result<Vec<u8>, AllocError>
+    ensures { IfOk result (λ v. v.items ≡ mkdir_line house (words_of own.now)) }
+{
     let mut words = Words::of(own);
-    let mut line = house_line(alloc, words.next().unwrap_or(&[]), house)?;
-    push_words(&mut line, &mut words, 2)?;
-    let _made = words.next();
+    let first = first_of(&mut words);
+    let mut line = house_line(alloc, first, house)?;
+    push_next(&mut line, &mut words)?;
+    push_next(&mut line, &mut words)?;
+    let _made = first_of(&mut words);
     push_number_word(&mut line, u64::from(house.0))?;
-    push_words(&mut line, &mut words, own.len())?;
+    push_rest(&mut line, &mut words)?;
     Ok(line)
 }
 
@@ -142,7 +183,10 @@ pub(crate) fn turn_line(
     house: HouseNo,
     turn: &LoggedTurn,
     serial: u64,
-) -> Result<Vec<u8>, AllocError> {
+) -> Result<Vec<u8>, AllocError>
+    ensures { IfOk result
+        (λ v. v.items ≡ turn_line house turn.now.line turn.now.order serial) }
+{
     match &turn.order {
         LoggedOrder::Take(_) => delivery_line(alloc, serial),
         LoggedOrder::Mkdir(_, _, _, _) => mkdir_line(alloc, house, turn.line.list()),

@@ -1,6 +1,6 @@
 // Whether a command does what an entry says.
 ghost use Rattle.std.specs.Prelude.{◌≡◌, List, Some};
-ghost use Rattle.std.specs.Bool.{OnTrue};
+ghost use Rattle.std.specs.Bool.{Decides};
 ghost use Rattle.directory.specs.declared.update.Update.TheVariants as update';
 ghost use Rattle.cell_script.specs.declared.command.Command.TheVariants as command';
 ghost use Rattle.cell_script.specs.declared.lists.Listed.{Listed};
@@ -15,7 +15,7 @@ use house_logs::LoggedOrder;
 
 /// Whether a command makes this house.
 pub(crate) fn makes(command: &Command, house: HouseNo, node: Node) -> bool
-    ensures { OnTrue result (command.now ≡ command'.House house node) }
+    ensures { Decides result (command.now ≡ command'.House house node) }
 {
     match command {
         Command::House(h, n) => *h == house && *n == node,
@@ -25,7 +25,7 @@ pub(crate) fn makes(command: &Command, house: HouseNo, node: Node) -> bool
 
 /// Whether a command sets the clock of this house to this time.
 pub(crate) fn sets_clock(command: &Command, house: HouseNo, time: u64) -> bool
-    ensures { OnTrue result (command.now ≡ command'.Clock house time) }
+    ensures { Decides result (command.now ≡ command'.Clock house time) }
 {
     match command {
         Command::Clock(h, t) => *h == house && *t == time,
@@ -35,7 +35,7 @@ pub(crate) fn sets_clock(command: &Command, house: HouseNo, time: u64) -> bool
 
 /// Whether a command is a crash of this house.
 pub(crate) fn crashes(command: &Command, house: HouseNo) -> bool
-    ensures { OnTrue result (command.now ≡ command'.Crash house) }
+    ensures { Decides result (command.now ≡ command'.Crash house) }
 {
     match command {
         Command::Crash(h) => *h == house,
@@ -45,7 +45,7 @@ pub(crate) fn crashes(command: &Command, house: HouseNo) -> bool
 
 /// Whether a command starts this house.
 pub(crate) fn starts(command: &Command, house: HouseNo) -> bool
-    ensures { OnTrue result (command.now ≡ command'.Start house) }
+    ensures { Decides result (command.now ≡ command'.Start house) }
 {
     match command {
         Command::Start(h) => *h == house,
@@ -55,7 +55,7 @@ pub(crate) fn starts(command: &Command, house: HouseNo) -> bool
 
 // Whether an update creates an entry of this name.
 fn creates(update: &Update, name: &SimpleName) -> bool
-    ensures { OnTrue result (update.now ≡ update'.Create name.now) }
+    ensures { Decides result (update.now ≡ update'.Create name.now) }
 {
     match update {
         Update::Create(n) => n == name,
@@ -65,14 +65,14 @@ fn creates(update: &Update, name: &SimpleName) -> bool
 
 // Whether two full names are the same.
 fn is_same_name(name: &FullName, other: &FullName) -> bool
-    ensures { OnTrue result (name.now ≡ other.now) }
+    ensures { Decides result (name.now ≡ other.now) }
 {
     name == other
 }
 
 // Whether an update makes a link of this name to this target.
 fn links(update: &Update, name: &SimpleName, target: &FullName) -> bool
-    ensures { OnTrue result (update.now ≡ update'.MakeLink name.now target.now) }
+    ensures { Decides result (update.now ≡ update'.MakeLink name.now target.now) }
 {
     match update {
         Update::MakeLink(n, t) => n == name && is_same_name(t, target),
@@ -82,7 +82,7 @@ fn links(update: &Update, name: &SimpleName, target: &FullName) -> bool
 
 // Whether it deletes the entry of this name.
 fn deletes(update: &Update, name: &SimpleName) -> bool
-    ensures { OnTrue result (update.now ≡ update'.Delete name.now) }
+    ensures { Decides result (update.now ≡ update'.Delete name.now) }
 {
     match update {
         Update::Delete(n) => n == name,
@@ -92,7 +92,7 @@ fn deletes(update: &Update, name: &SimpleName) -> bool
 
 // Whether it adds this value.
 fn adds(update: &Update, name: &SimpleName, attr: &AttrName, value: &Value) -> bool
-    ensures { OnTrue result (update.now ≡ update'.Add name.now attr.now value.now) }
+    ensures { Decides result (update.now ≡ update'.Add name.now attr.now value.now) }
 {
     match update {
         Update::Add(n, a, v) => n == name && a == attr && v == value,
@@ -102,7 +102,7 @@ fn adds(update: &Update, name: &SimpleName, attr: &AttrName, value: &Value) -> b
 
 // Whether it removes this value.
 fn removes(update: &Update, name: &SimpleName, attr: &AttrName, value: &Value) -> bool
-    ensures { OnTrue result (update.now ≡ update'.Remove name.now attr.now value.now) }
+    ensures { Decides result (update.now ≡ update'.Remove name.now attr.now value.now) }
 {
     match update {
         Update::Remove(n, a, v) => n == name && a == attr && v == value,
@@ -112,7 +112,7 @@ fn removes(update: &Update, name: &SimpleName, attr: &AttrName, value: &Value) -
 
 // Whether it puts this value.
 fn puts(update: &Update, name: &SimpleName, attr: &AttrName, value: &Value) -> bool
-    ensures { OnTrue result (update.now ≡ update'.Put name.now attr.now value.now) }
+    ensures { Decides result (update.now ≡ update'.Put name.now attr.now value.now) }
 {
     match update {
         Update::Put(n, a, v) => n == name && a == attr && v == value,
@@ -122,7 +122,7 @@ fn puts(update: &Update, name: &SimpleName, attr: &AttrName, value: &Value) -> b
 
 // Whether it clears this attribute.
 fn clears(update: &Update, name: &SimpleName, attr: &AttrName) -> bool
-    ensures { OnTrue result (update.now ≡ update'.Clear name.now attr.now) }
+    ensures { Decides result (update.now ≡ update'.Clear name.now attr.now) }
 {
     match update {
         Update::Clear(n, a) => n == name && a == attr,
@@ -132,7 +132,7 @@ fn clears(update: &Update, name: &SimpleName, attr: &AttrName) -> bool
 
 // Whether a command is this update of this directory at this house.
 fn updates(command: &Command, house: HouseNo, dir: DirId, update: &Update) -> bool
-    ensures { OnTrue result (update_command house dir update.now ≡ Some command.now) }
+    ensures { Decides result (update_command house dir update.now ≡ Some command.now) }
 {
     match command {
         Command::Create(h, d, n) => *h == house && *d == dir && creates(update, n),
@@ -148,21 +148,21 @@ fn updates(command: &Command, house: HouseNo, dir: DirId, update: &Update) -> bo
 
 // Whether two lists have the same houses, secondary alike.
 fn are_same(listeds: &Listeds, others: &Listeds) -> bool
-    ensures { OnTrue result (listeds.now ≡ others.now) }
+    ensures { Decides result (listeds.now ≡ others.now) }
 {
     listeds.list() == others.list()
 }
 
 // Whether two lists have the same houses.
 fn are_same_houses(houses: &HouseNos, others: &HouseNos) -> bool
-    ensures { OnTrue result (houses.now ≡ others.now) }
+    ensures { Decides result (houses.now ≡ others.now) }
 {
     houses.list() == others.list()
 }
 
 // Whether a command founds the root at this house, with these others.
 fn founds(command: &Command, house: HouseNo, others: &Listeds) -> bool
-    ensures { OnTrue result (command.now ≡ command'.Root house others.now) }
+    ensures { Decides result (command.now ≡ command'.Root house others.now) }
 {
     match command {
         Command::Root(m, ls) => *m == house && are_same(ls, others),
@@ -178,7 +178,7 @@ fn makes_child(
     name: &SimpleName,
     others: &Listeds,
 ) -> bool
-    ensures { OnTrue result (command.now ≡ command'.Mkdir house dir name.now house others.now) }
+    ensures { Decides result (command.now ≡ command'.Mkdir house dir name.now house others.now) }
 {
     match command {
         Command::Mkdir(h, d, n, m, ls) => {
@@ -197,7 +197,7 @@ fn repoints(
     master: HouseNo,
     others: &HouseNos,
 ) -> bool
-    ensures { OnTrue result
+    ensures { Decides result
         (command.now ≡ command'.Repoint house dir name.now master others.now) }
 {
     match command {
@@ -210,7 +210,7 @@ fn repoints(
 
 // Whether a command is a skulk of this directory at this house.
 fn skulks(command: &Command, house: HouseNo, dir: DirId) -> bool
-    ensures { OnTrue result (command.now ≡ command'.Skulk house dir) }
+    ensures { Decides result (command.now ≡ command'.Skulk house dir) }
 {
     match command {
         Command::Skulk(h, d) => *h == house && *d == dir,
@@ -220,7 +220,7 @@ fn skulks(command: &Command, house: HouseNo, dir: DirId) -> bool
 
 // Whether a command is an epoch of this directory at this house.
 fn enters(command: &Command, house: HouseNo, dir: DirId) -> bool
-    ensures { OnTrue result ((ls : List Listed) × (command.now ≡ command'.Epoch dir house ls)) }
+    ensures { Decides result ((ls : List Listed) × (command.now ≡ command'.Epoch dir house ls)) }
 {
     match command {
         Command::Epoch(d, m, _) => *d == dir && *m == house,
@@ -230,7 +230,7 @@ fn enters(command: &Command, house: HouseNo, dir: DirId) -> bool
 
 // Whether a command delivers the message of this serial number.
 fn delivers(command: &Command, serial: u64) -> bool
-    ensures { OnTrue result (command.now ≡ command'.Deliver serial) }
+    ensures { Decides result (command.now ≡ command'.Deliver serial) }
 {
     match command {
         Command::Deliver(n) => *n == serial,
@@ -241,7 +241,7 @@ fn delivers(command: &Command, serial: u64) -> bool
 /// Whether a command is the order at this house: the number of a new directory, the list of an
 /// epoch, and what a message has in it are compared apart.
 pub(crate) fn is_order(command: &Command, house: HouseNo, order: &LoggedOrder, serial: u64) -> bool
-    ensures { OnTrue result (IsCommandOf house order.now serial command.now) }
+    ensures { Decides result (IsCommandOf house order.now serial command.now) }
 {
     match order {
         LoggedOrder::Root(others) => founds(command, house, others),

@@ -1,5 +1,5 @@
 -- One segment more of a folder, and one folder more.
-use Rattle.std.proofs.Common.{◌≡◌, ◌<◌, ◌≤◌, ℕ, suc, ◌+◌, List, [], ◌∷◌, ◌++◌, drop, get_or, length, map, take, replicate, refl, sym, ◌∙◌, ap, subst, append_assoc, append-nil, drop-cons, arith}
+use Rattle.std.proofs.Common.{◌≡◌, ◌≢◌, ◌<◌, ◌≤◌, ℕ, suc, ◌+◌, inl, inr, Option, Some, None, List, [], ◌∷◌, ◌++◌, drop, get_or, length, map, take, replicate, refl, sym, ◌∙◌, ap, subst, append_assoc, append-nil, drop-cons, arith}
 use Rattle.std.specs.Option.{option_to_list}
 use Rattle.std.proofs.lemmas.List.{length-take-le, take-append-drop, take_more}
 use Rattle.std.proofs.lemmas.Grind.{common_steps}
@@ -7,15 +7,20 @@ use Rattle.house_logs.specs.Faults.{IsFaultOf}
 use Rattle.house_logs.specs.declared.fault.LogFault.{LogFault}
 use Rattle.house_logs.specs.declared.log.HouseLog.{HouseLog}
 use Rattle.house_logs.specs.declared.reader.LogReader.{LogReader}
-use Rattle.house_logs.specs.Logs.{IsSegment}
+use Rattle.house_entries.specs.Bodies.{head_of}
+use Rattle.house_logs.specs.Logs.{AreOfHouse, IsSegment, digest_in}
 use Rattle.house_logs.specs.Reads.{HasRead, ReadsFront, ReadsOn}
 use Rattle.explain_program.specs.declared.folder.FolderEnd.{FolderEnd}
 use Rattle.explain_program.specs.declared.folder.FolderEnd.TheVariants as end
+use Rattle.explain_program.specs.declared.folder.FolderFault.{FolderFault}
 use Rattle.explain_program.specs.declared.folder.FolderFault.TheVariants as why
 use Rattle.explain_program.specs.declared.folder.FolderLog.{FolderLog}
 use Rattle.explain_program.specs.declared.folder.FolderOctets.{FolderOctets}
 use Rattle.explain_program.specs.declared.told.PlacedFault.{PlacedFault}
-use Rattle.explain_program.specs.Folders.{AreFirst, AreRead, AreSegments, HasReadAll, HasReadFirst, IsEvidence, IsRead, fault_at, faults_in, logs_in, no_digest}
+use Rattle.explain_program.specs.Endings.{HasDamaged}
+use Rattle.explain_program.specs.Folders.{AreFirst, AreRead, AreSegments, HasReadAll, HasReadFirst, IsBegun, IsDamaged, IsEvidence, IsLog, IsRead, IsReadTo, IsWhole, Stops, fault_at, faults_in, logs_in, no_digest}
+use Rattle.house_logs.proofs.RecordLemmas.{house_front}
+use Rattle.house_logs.proofs.SegmentLemmas.{chained_same, last_size, no_fault}
 
 -- ---- segments
 
@@ -59,7 +64,7 @@ read_more old new segments octets h on count = record {
 
 -- one that stopped within the next one
 pub read_within : (old new : LogReader) (segments rest : List (List ℕ)) (octets : List ℕ) (f : LogFault) (h : HasReadAll segments old)
-    → ReadsFront (old.segments + 1) h.bodies octets f new → HasReadFirst (segments ++ octets ∷ rest) f new
+    → ReadsFront (old.segments + 1) old.digest h.bodies octets f new → HasReadFirst (segments ++ octets ∷ rest) f new
 read_within old new segments rest octets f h stops = record {
   bodies = h.bodies ++ stops.front;
   are = λ how. record {
@@ -70,9 +75,8 @@ read_within old new segments rest octets f h stops = record {
     front = stops.front;
     parts = refl;
     are = h.are;
-    begins = (stops.others, stops.parts);
     bodies_are = refl;
-    stops = subst (λ (n : ℕ). IsFaultOf n octets (length stops.front) f) (ap (λ (n : ℕ). n + 1) h.count) stops.why;
+    stops = subst (λ (n : ℕ). IsFaultOf n old.digest h.bodies octets stops.front f) (ap (λ (n : ℕ). n + 1) h.count) stops.why;
   };
   read = stops.read;
 }
@@ -106,9 +110,8 @@ read_missing how r segments n h missing is = record {
   front = [];
   parts = sym (append-nil segments);
   are = h.are;
-  begins = refl;
   bodies_are = sym (append-nil h.bodies);
-  stops = (missing, is);
+  stops = (missing, is, refl);
 }
 
 -- nothing was read
@@ -119,6 +122,123 @@ read_nothing r has count digest = record {
   read = has;
   count = count;
 }
+
+-- ---- a folder with a fault is damaged
+
+-- segments have the records of one list, and one last digest
+segment_once : (number : ℕ) (before octets : List ℕ) (own own' : List (List ℕ)) (after after' : List ℕ) → IsSegment number before octets own after
+    → IsSegment number before octets own' after' → (own ≡ own') × (after ≡ after')
+segment_once number before octets own own' after after' one other =
+    let heads = chained_same before (head_of number before ∷ own) (head_of number before ∷ own') (sym one.records ∙ other.records) in
+    let same : own ≡ own' = ap (λ (l : List (List ℕ)). drop 1 l) heads in
+    (same, one.last ∙ ap (λ (l : List (List ℕ)). digest_in number before l) same ∙ sym other.last)
+
+segments_once : (number : ℕ) (before : List ℕ) (segments own own' : List (List ℕ)) (after after' : List ℕ) → AreSegments number before segments own after
+    → AreSegments number before segments own' after' → (own ≡ own') × (after ≡ after')
+segments_once number before [] own own' after after' one other = (one.0 ∙ sym other.0, one.1 ∙ sym other.1)
+segments_once number before (s ∷ segments) own own' after after' one other =
+    let first = segment_once number before s one.1 other.1 one.0 other.0 one.3 other.3 in
+    let rest = segments_once (number + 1) other.0 segments one.2 other.2 after after'
+    (subst (λ (d : List ℕ). AreSegments (number + 1) d segments one.2 after) first.1 one.4) other.4 in
+    (one.5 ∙ (λ i. first.0 i ++ rest.0 i) ∙ sym other.5, rest.1)
+
+-- the last digest has 32 octets
+segments_size : (number : ℕ) (before : List ℕ) (segments own : List (List ℕ)) (after : List ℕ) → length before ≡ 32 → AreSegments number before segments own after
+    → length after ≡ 32
+segments_size number before [] own after size are = ap length are.1 ∙ size
+segments_size number before (s ∷ segments) own after size are =
+    segments_size (number + 1) are.0 segments are.2 after
+    (ap length are.3.last ∙ last_size before (head_of number before ∷ are.1) size) are.4
+
+-- segments in two parts
+pub record InTwo (number : ℕ) (before : List ℕ) (whole others bodies : List (List ℕ)) (after : List ℕ) : Type 0 where
+  pub own : List (List ℕ)
+  pub mid : List ℕ
+  pub rest : List (List ℕ)
+  pub first : AreSegments number before whole own mid
+  pub last : AreSegments (number + length whole) mid others rest after
+  pub bodies_are : bodies ≡ own ++ rest
+
+in_two : (number : ℕ) (before : List ℕ) (whole others bodies : List (List ℕ)) (after : List ℕ) → AreSegments number before (whole ++ others) bodies after
+    → InTwo number before whole others bodies after
+in_two number before [] others bodies after are =
+    let here : number ≡ number + 0 = omega arith in
+    record {
+      own = [];
+      mid = before;
+      rest = bodies;
+      first = (refl, refl);
+      last = subst (λ (n : ℕ). AreSegments n before others bodies after) here are;
+      bodies_are = refl;
+    }
+in_two number before (s ∷ whole) others bodies after are =
+    let two = in_two (number + 1) are.0 whole others are.2 after are.4 in
+    let here : number + 1 + length whole ≡ number + length (s ∷ whole) = grind (arith, common_steps) in
+    record {
+      own = are.1 ++ two.own;
+      mid = two.mid;
+      rest = two.rest;
+      first = (are.0, are.1, two.own, are.3, two.first, refl);
+      last = subst (λ (n : ℕ). AreSegments n two.mid others two.rest after) here two.last;
+      bodies_are = are.5 ∙ ap (λ (l : List (List ℕ)). are.1 ++ l) two.bodies_are ∙ sym (append_assoc are.1 two.own two.rest);
+    }
+
+log_house : (bodies : List (List ℕ)) (log : Option HouseLog) → IsLog bodies log → AreOfHouse bodies
+log_house bodies None is = inl is
+log_house bodies (Some l) is = inr (is.0, is.1)
+
+-- where a log stops, its folder is not whole
+stopped_log : (f : FolderOctets) (fault : LogFault) (bodies : List (List ℕ)) (log : Option HouseLog) (others : List (List ℕ))
+    → (first : AreFirst f.end f.segments.items bodies (why.BadLog fault)) → first.others ≡ others
+    → Stops f.end (length first.whole) first.after first.own first.front others (why.BadLog fault) → IsWhole f log → ⊥
+stopped_log f fault bodies log [] first is stops whole = stops
+stopped_log f fault bodies log (octets ∷ others) first is stops whole =
+    let parts : f.segments.items ≡ first.whole ++ octets ∷ others = first.parts ∙ ap (λ (l : List (List ℕ)). first.whole ++ l) is in
+    let two = in_two 1 no_digest first.whole (octets ∷ others) whole.bodies whole.after
+    (subst (λ (l : List (List ℕ)). AreSegments 1 no_digest l whole.bodies whole.after) parts whole.are) in
+    let same = segments_once 1 no_digest first.whole two.own first.own two.mid first.after two.first first.are in
+    let here : 1 + length first.whole ≡ length first.whole + 1 = omega arith in
+    let next : IsSegment (length first.whole + 1) first.after octets two.last.1 two.last.0 =
+    subst (λ (d : List ℕ). IsSegment (length first.whole + 1) d octets two.last.1 two.last.0) same.1
+    (subst (λ (n : ℕ). IsSegment n two.mid octets two.last.1 two.last.0) here two.last.3) in
+    let all : whole.bodies ≡ (first.own ++ two.last.1) ++ two.last.2 =
+    two.bodies_are ∙ (λ i. same.0 i ++ two.last.5 i) ∙ sym (append_assoc first.own two.last.1 two.last.2) in
+    no_fault (length first.whole + 1) first.after first.own octets two.last.1 two.last.0 first.front fault
+    (segments_size 1 no_digest first.whole first.own first.after refl first.are) next
+    (house_front (first.own ++ two.last.1) two.last.2 (subst AreOfHouse all (log_house whole.bodies log whole.is))) stops
+
+missing_there : (f : FolderOctets) (n : ℕ) (bodies : List (List ℕ)) (log : Option HouseLog) (others : List (List ℕ))
+    → (first : AreFirst f.end f.segments.items bodies (why.Missing n))
+    → Stops f.end (length first.whole) first.after first.own first.front others (why.Missing n) → IsWhole f log → ⊥
+missing_there f n bodies log [] first stops whole = absurd (cc (stops.0, whole.there))
+missing_there f n bodies log (octets ∷ others) first stops whole = stops
+
+-- one with a fault is damaged
+begun_damaged : (f : FolderOctets) (fault : FolderFault) (log : Option HouseLog) → IsBegun f fault log → IsDamaged f
+begun_damaged f (why.Missing n) log begun = λ other. missing_there f n begun.bodies other begun.are.others begun.are begun.are.stops
+begun_damaged f (why.BadLog fault) log begun = λ other. stopped_log f fault begun.bodies other begun.are.others begun.are refl begun.are.stops
+
+-- where some folder has a fault, one is damaged
+some_damaged : (place : ℕ) (fs : List FolderOctets) (rs : List FolderLog) → AreRead fs rs → faults_in place rs ≢ [] → HasDamaged fs
+some_damaged place [] [] are some = absurd (some refl)
+some_damaged place [] (r ∷ rs) are some = absurd are
+some_damaged place (f ∷ fs) [] are some = absurd are
+some_damaged place (f ∷ fs) (r ∷ rs) are some = by r.fault refl are.0 (λ left. some_damaged (place + 1) fs rs are.1 left)
+  where
+    by : (fault : Option FolderFault) → r.fault ≡ fault → IsReadTo f r.log fault → (faults_in (place + 1) rs ≢ [] → HasDamaged fs) → HasDamaged (f ∷ fs)
+    by (Some fault) is read more = record { front = []; folder = f; others = fs; parts = refl; damaged = begun_damaged f fault r.log read }
+    by None is read more =
+        let rest = more (λ none. some (ap (λ (o : Option FolderFault). fault_at place o ++ faults_in (place + 1) rs) is ∙ none)) in
+        record {
+          front = f ∷ rest.front;
+          folder = rest.folder;
+          others = rest.others;
+          parts = ap (λ (l : List FolderOctets). f ∷ l) rest.parts;
+          damaged = rest.damaged;
+        }
+
+pub evidence_damaged : (fs : List FolderOctets) (logs : List HouseLog) (faults : List PlacedFault) → IsEvidence fs logs faults → faults ≢ [] → HasDamaged fs
+evidence_damaged fs logs faults e some = some_damaged 1 fs e.rs e.read (λ none. some (e.faults_are ∙ none))
 
 -- ---- folders
 

@@ -1,5 +1,5 @@
 -- What is said of an explanation, and how the program ends.
-use Rattle.std.proofs.Common.{◌≡◌, ◌<◌, ◌+◌, ℕ, ◌==◌, Bool, get_or, inl, inr, List, [], ◌∷◌, ◌++◌, length, Option, None, Some, refl, sym, ◌∙◌, ap, subst, take, append-nil, append_assoc}
+use Rattle.std.proofs.Common.{◌≡◌, ◌≢◌, ◌<◌, ◌+◌, ℕ, ◌==◌, Bool, get_or, inl, inr, List, [], ◌∷◌, ◌++◌, length, Option, None, Some, refl, sym, ◌∙◌, ap, subst, take, append-nil, append_assoc}
 use Rattle.std.specs.Prelude.{IfOk, OnOk, Result, Ok, Err}
 use Rattle.std.specs.Result.{IsErr, IsErrAnd}
 use Rattle.std.proofs.Math.Dec.{eqb-suc-zero}
@@ -28,7 +28,7 @@ use Rattle.explain_program.specs.declared.told.Told.{Told}
 use Rattle.explain_program.specs.Endings.{Ends, HasReason, IsSaid, IsTold, WritesPart, status_of}
 use Rattle.explain_program.specs.Texts.{fault_line, fault_lines}
 use Rattle.explain_program.specs.Folders.{EndsSo, HasReadAll, HasReadFirst, IsBegun, IsEvidence, IsLog, IsReadTo, IsWhole}
-use Rattle.explain_program.proofs.FolderLemmas.{read_missing}
+use Rattle.explain_program.proofs.FolderLemmas.{evidence_damaged, read_missing}
 
 -- ---- folders
 
@@ -144,6 +144,7 @@ said_told fs logs faults e t evidence told whole first up_to =
       explains = subst (λ (text : List ℕ). Explains text logs) (sym (alone [] none same ∙ append-nil script)) (whole is);
     }
     by ending.Whole (f ∷ others) is some same =
+        let broken : faults ≢ [] = λ none. absurd (cc (some, none)) in
         subst (λ (b : Bool). IsSaid fs (status_of ending.Whole b) t.text.items) (sym (eqb-suc-zero (length others)))
         (record {
           logs = logs;
@@ -153,7 +154,7 @@ said_told fs logs faults e t evidence told whole first up_to =
           evidence = evidence;
           text_is = alone faults refl same;
           explains = first;
-          why = inl (refl, λ none. absurd (cc (some, none)));
+          why = inl (refl, broken, evidence_damaged fs logs faults evidence broken);
         })
     by (ending.Unexplained reason) all is are has = record {
       logs = logs;

@@ -1,5 +1,5 @@
 -- What is written of folders, and with which status the program ends.
-use Rattle.std.specs.Prelude.{◌≡◌, ◌≢◌, ◌⊎◌, ℕ, List, [], ◌++◌, Bool, Option, ◌==◌, if◌then◌else◌, length, take}
+use Rattle.std.specs.Prelude.{◌≡◌, ◌≢◌, ◌⊎◌, ℕ, List, [], ◌∷◌, ◌++◌, Bool, Option, ◌==◌, if◌then◌else◌, length, take}
 use Rattle.std.specs.Io.KnownBytes.{Appends}
 use Rattle.house_logs.specs.declared.log.HouseLog.{HouseLog}
 use Rattle.cds_explain.specs.Explained.{Explains, ExplainsFirst, ExplainsUpTo}
@@ -13,7 +13,7 @@ use Rattle.explain_program.specs.declared.status.Status.{Status}
 use Rattle.explain_program.specs.declared.status.Status.TheVariants as status
 use Rattle.explain_program.specs.declared.told.PlacedFault.{PlacedFault}
 use Rattle.explain_program.specs.declared.told.Told.{Told}
-use Rattle.explain_program.specs.Folders.{IsEvidence}
+use Rattle.explain_program.specs.Folders.{IsDamaged, IsEvidence}
 use Rattle.explain_program.specs.Texts.{fault_lines}
 
 -- the status of an ending, where all folders are whole or not
@@ -48,9 +48,17 @@ pub record AreExplained (fs : List FolderOctets) (text : List ℕ) : Type 0 wher
   pub evidence : IsEvidence fs logs []
   pub explains : Explains text logs
 
+-- one of these folders is damaged
+pub record HasDamaged (fs : List FolderOctets) : Type 0 where
+  pub front : List FolderOctets
+  pub folder : FolderOctets
+  pub others : List FolderOctets
+  pub parts : fs ≡ front ++ folder ∷ others
+  pub damaged : IsDamaged folder
+
 -- the text is a script that explains the first entries of the journals, as far as these are read;
 -- then why the next entry of one is not explained, if it is not; and a line of each folder that is
--- not read to its end: it has one of these two at least
+-- not read to its end: it has one of these two at least, and such a folder is damaged
 pub record AreUnexplained (fs : List FolderOctets) (text : List ℕ) : Type 0 where
   pub logs : List HouseLog
   pub faults : List PlacedFault
@@ -59,7 +67,7 @@ pub record AreUnexplained (fs : List FolderOctets) (text : List ℕ) : Type 0 wh
   pub evidence : IsEvidence fs logs faults
   pub text_is : text ≡ said_after script line faults
   pub explains : ExplainsFirst script logs
-  pub why : ((line ≡ []) × (faults ≢ []))
+  pub why : ((line ≡ []) × (faults ≢ []) × HasDamaged fs)
       ⊎ ((reason : Reason) × IsReasonLine reason line × ExplainsUpTo script logs reason)
 
 -- the text is a script that explains first entries, and one with one more would be too long; and a

@@ -1,13 +1,12 @@
 -- The journals that the octets of folders are.
-use Rattle.std.specs.Prelude.{◌≡◌, ℕ, ◌+◌, List, [], ◌∷◌, ◌++◌, All, drop, length, map, replicate, MatchOption, Option, Some, None}
+use Rattle.std.specs.Prelude.{◌≡◌, ℕ, ◌+◌, List, [], ◌∷◌, ◌++◌, All, length, replicate, MatchOption, Option, Some, None}
 use Rattle.std.specs.List.{flat_map}
 use Rattle.std.specs.Option.{option_to_list}
-use Rattle.house_journal.specs.JournalRecords.{images}
 use Rattle.house_logs.specs.Faults.{IsFaultOf}
 use Rattle.house_logs.specs.declared.fault.LogFault.{LogFault}
 use Rattle.house_logs.specs.declared.log.HouseLog.{HouseLog}
 use Rattle.house_logs.specs.declared.reader.LogReader.{LogReader}
-use Rattle.house_logs.specs.Logs.{IsJournalOf, IsNew, IsSegment, body_in}
+use Rattle.house_logs.specs.Logs.{IsJournalOf, IsNew, IsSegment}
 use Rattle.house_logs.specs.Reads.{HasRead}
 use Rattle.explain_program.specs.declared.folder.FolderOctets.{FolderOctets}
 use Rattle.explain_program.specs.declared.folder.FolderEnd.{FolderEnd}
@@ -33,20 +32,17 @@ AreSegments number before (octets ∷ segments) bodies after =
 abbrev pub no_digest : List ℕ
 no_digest = replicate 32 0
 
--- the first records of the next segment, after its head, have these bodies; none, if there is none
-abbrev pub BeginsSo : (segments front : List (List ℕ)) → Type 0
-BeginsSo [] front = front ≡ []
-BeginsSo (octets ∷ segments) front =
-    (others : List (List ℕ)) × (map body_in (drop 1 (images octets)) ≡ front ++ others)
-
--- this is the fault of the segments after the first ones, so many, after so many good records of
--- the next one: it is not there, or its octets have the fault
-abbrev pub Stops : (how : FolderEnd) → (whole count : ℕ) → (others : List (List ℕ)) → FolderFault
-    → Type 0
-Stops how whole count [] (why.Missing n) = (how ≡ end.Missing) × (n ≡ whole + 1)
-Stops how whole count [] (why.BadLog f) = ⊥
-Stops how whole count (octets ∷ others) (why.Missing n) = ⊥
-Stops how whole count (octets ∷ others) (why.BadLog f) = IsFaultOf (whole + 1) octets count f
+-- this is the fault of the segments after the first ones, so many, whose records have these bodies,
+-- the last one with this digest: the next one is not there; or its octets have the fault, after
+-- good records with the bodies of the front
+abbrev pub Stops : (how : FolderEnd) → (whole : ℕ) → (before : List ℕ) → (own front : List (List ℕ))
+    → (others : List (List ℕ)) → FolderFault → Type 0
+Stops how whole before own front [] (why.Missing n) =
+    (how ≡ end.Missing) × (n ≡ whole + 1) × (front ≡ [])
+Stops how whole before own front [] (why.BadLog f) = ⊥
+Stops how whole before own front (octets ∷ others) (why.Missing n) = ⊥
+Stops how whole before own front (octets ∷ others) (why.BadLog f) =
+    IsFaultOf (whole + 1) before own octets front f
 
 -- the first records of a folder have these bodies: those of its first segments, which are whole,
 -- and the first ones of the next segment; why no more are read (own)
@@ -59,9 +55,8 @@ pub record AreFirst (how : FolderEnd) (segments bodies : List (List ℕ)) (fault
   pub front : List (List ℕ)
   pub parts : segments ≡ whole ++ others
   pub are : AreSegments 1 no_digest whole own after
-  pub begins : BeginsSo others front
   pub bodies_are : bodies ≡ own ++ front
-  pub stops : Stops how (length whole) (length front) others fault
+  pub stops : Stops how (length whole) after own front others fault
 
 -- a reader has read these segments
 pub record HasReadAll (segments : List (List ℕ)) (r : LogReader) : Type 0 where
@@ -95,6 +90,10 @@ pub record IsWhole (f : FolderOctets) (log : Option HouseLog) : Type 0 where
   pub there : f.end ≡ end.Whole
   pub are : AreSegments 1 no_digest f.segments.items bodies after
   pub is : IsLog bodies log
+
+-- the segments of a folder are not all there, or not those of a house
+abbrev pub IsDamaged : FolderOctets → Type 0
+IsDamaged f = (log : Option HouseLog) → ¬ IsWhole f log
 
 -- the first records of a folder, up to this fault, are this journal
 pub record IsBegun (f : FolderOctets) (fault : FolderFault) (log : Option HouseLog) : Type 0 where

@@ -1,1 +1,5 @@
+pub mod TextLemmas
 pub mod ReadingLemmas
+pub mod RecordLemmas
+pub mod FollowLemmas
+pub mod SegmentLemmas

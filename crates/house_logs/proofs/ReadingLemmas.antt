@@ -1,30 +1,26 @@
 -- What was read of a journal, and one record more.
-use Rattle.std.proofs.Common.{◌≡◌, ℕ, ◌+◌, inl, inr, Bool, true, false, List, [], ◌∷◌, ◌++◌, length, map, drop, Option, Some, None, refl, sym, ◌∙◌, ap, subst, append_assoc, append-nil, arith}
+use Rattle.std.proofs.Common.{◌≡◌, ℕ, ◌+◌, Bool, true, false, List, [], ◌∷◌, ◌++◌, Option, Some, None, refl, sym, ◌∙◌, ap, subst, append_assoc}
 use Rattle.std.specs.Prelude.{Result, Ok, Err, IfOk, codes, decimal, is_none}
 use Rattle.std.specs.Bool.{OnTrue}
 use Rattle.std.specs.Result.{IsErr, IsErrAnd}
-use Rattle.std.proofs.lemmas.Grind.{common_steps}
 use Rattle.cds_stamps.specs.declared.alloc_or.AllocOr.{AllocOr}
 use Rattle.cds_stamps.specs.declared.alloc_or.AllocOr.TheVariants.{Fault, OutOfMemory}
 use Rattle.cell_script.specs.Words.{words_of}
-use Rattle.house_entries.specs.Bodies.{IsBody, head_of}
+use Rattle.house_entries.specs.Bodies.{IsBody}
 use Rattle.house_lines.specs.LineRows.{said_in}
 use Rattle.house_lines.specs.declared.line.HouseLine.TheVariants as asks
-use Rattle.house_logs.specs.declared.fault.LogFault.{LogFault}
-use Rattle.house_logs.specs.declared.fault.LogFault.TheVariants as why
 use Rattle.house_logs.specs.declared.log.LogEntry.{LogEntry}
 use Rattle.house_logs.specs.declared.log.LogEntry.TheVariants as entry
 use Rattle.house_logs.specs.declared.log.LoggedTurn.{LoggedTurn}
 use Rattle.house_logs.specs.declared.log.Making.{Making}
+use Rattle.house_logs.specs.declared.log.PostedOctets.{PostedOctets}
 use Rattle.house_logs.specs.declared.reader.LogReader.{LogReader}
 use Rattle.house_logs.specs.declared.text.TurnText.{TurnText}
-use Rattle.house_journal.specs.JournalRecords.{images}
-use Rattle.house_logs.specs.Faults.{IsFaultOf, IsOfRecord}
-use Rattle.house_logs.specs.Logs.{IsLogOf, body_in, making_text}
-use Rattle.house_logs.specs.Reads.{HasRead, HasReadOf, HasReadPart, IfFault, IsMadeBy, IsTurnBy, OfFault, ReadsFront, ReadsOn, ReadsRecords, StopsAt, told_of}
+use Rattle.house_logs.specs.Logs.{IsLogOf, making_text}
+use Rattle.house_logs.specs.PrivateReads.{IsAfterRunning, IsMadeBy, IsTurnBy, IsTurnText}
+use Rattle.house_logs.specs.Reads.{HasRead, HasReadOf, IfFault, OfFault, told_of}
 use Rattle.house_logs.specs.Records.{AreRecords, Follows, CanBe, OfEntry, SegmentRecord, Shows, StartRecord, Told, TurnRecord, image_of, running_text, with_image}
-use Rattle.house_logs.specs.TurnTexts.{turn_text}
-use Rattle.house_segments.specs.Reading.{IsLast, IsSegment}
+use Rattle.house_logs.specs.TurnTexts.{AreParts, HasNoEnd, turn_text}
 
 -- ---- records
 
@@ -57,11 +53,11 @@ more_read (Some m) r new bodies octets has some next = added bodies octets (told
 
 -- the house is made
 pub making_read : (o : Option Making) (r new : LogReader) (bodies : List (List ℕ)) (octets line : List ℕ) (m : Making) → HasReadOf o r bodies → o ≡ None
-    → said_in (words_of line) ≡ Ok (Some (asks.House m.house m.node)) → new.number ≡ r.number + 1 → new.clock ≡ 0
+    → HasNoEnd line → said_in (words_of line) ≡ Ok (Some (asks.House m.house m.node)) → new.number ≡ r.number + 1 → new.clock ≡ 0
     → new.turn.items ≡ making_text line → new.entries.items ≡ r.entries.items → new.image ≡ None → IsBody octets (r.number + 1) 0 (making_text line) None
     → HasReadOf (Some m) new (bodies ++ octets ∷ [])
-making_read (Some n) r new bodies octets line m has none says number clock turn es bare is = absurd (cc (none))
-making_read None r new bodies octets line m has none says number clock turn es bare is = record {
+making_read (Some n) r new bodies octets line m has none one says number clock turn es bare is = absurd (cc (none))
+making_read None r new bodies octets line m has none one says number clock turn es bare is = record {
   news = bodies;
   first = octets;
   others = [];
@@ -70,6 +66,7 @@ making_read None r new bodies octets line m has none says number clock turn es b
   are_new = has.0;
   begins = record {
     line = line;
+    no_end = one;
     says = says;
     body_is = subst (λ (n : ℕ). IsBody octets n 0 (making_text line) None) first is;
     bare = bare;
@@ -107,32 +104,6 @@ pub shown_then : {E : Type 0} {P : Making → Type 0} {Q : Type 0} (result : Res
 shown_then (Ok true) all then = then all
 shown_then (Ok false) all then = tt
 shown_then (Err e) all then = tt
-
--- ---- skulks
-
--- the lines of skulks, and one more
-running_more : (lines : List (List ℕ)) (words : List ℕ) → running_text (lines ++ words ∷ []) ≡ running_text lines ++ running_text (words ∷ [])
-running_more [] words = refl
-running_more (l ∷ lines) words =
-    ap (λ (r : List ℕ). (codes "running " ++ (l ++ 10 ∷ [])) ++ r) (running_more lines words)
-    ∙ sym (append_assoc (codes "running " ++ (l ++ 10 ∷ [])) (running_text lines) (running_text (words ∷ [])))
-
--- one line more of a text was passed over
-pub passed_more : (text rest words line behind : List ℕ) (lines : List (List ℕ)) → text ≡ running_text lines ++ rest → rest ≡ codes "running " ++ words
-    → words ≡ line ++ (10 ∷ behind) → text ≡ running_text (lines ++ line ∷ []) ++ behind
-passed_more text rest words line behind lines is begins parts =
-    is
-    ∙ ap (λ (r : List ℕ). running_text lines ++ r) (begins ∙ ap (λ (w : List ℕ). codes "running " ++ w) (parts ∙ one) ∙ two)
-    ∙ sym (append_assoc (running_text lines) (running_text (line ∷ [])) behind)
-    ∙ ap (λ (r : List ℕ). r ++ behind) (sym (running_more lines line))
-  where
-    one : line ++ (10 ∷ behind) ≡ (line ++ 10 ∷ []) ++ behind
-    one = sym (append_assoc line (10 ∷ []) behind)
-
-    two : codes "running " ++ ((line ++ 10 ∷ []) ++ behind) ≡ running_text (line ∷ []) ++ behind
-    two =
-        sym (append_assoc (codes "running ") (line ++ 10 ∷ []) behind)
-        ∙ ap (λ (r : List ℕ). r ++ behind) (sym (append-nil (codes "running " ++ (line ++ 10 ∷ []))))
 
 -- ---- with the fields of a record
 
@@ -175,21 +146,19 @@ segment_says text rest turn number running is says =
     ∙ ap (λ (l : List ℕ). codes "segment " ++ l) (append_assoc (decimal number) (10 ∷ []) (running_text running ++ turn))
 
 -- the first record of a segment in the middle of a process
-pub took_segment : (r new : LogReader) (bodies : List (List ℕ)) (octets image text line rest turn : List ℕ) (number clock : ℕ) (running : List (List ℕ)) → HasRead r bodies
+pub took_segment : (r new : LogReader) (bodies : List (List ℕ)) (octets image text line rest : List ℕ) (number clock : ℕ) → HasRead r bodies
     → IsBody octets number clock text (Some image) → is_none r.made ≡ false → number ≡ r.number → clock ≡ r.clock
-    → line ≡ codes "segment " ++ (decimal r.number ++ 10 ∷ []) → text ≡ line ++ rest → rest ≡ running_text running ++ turn → turn ≡ r.turn.items
+    → line ≡ codes "segment " ++ (decimal r.number ++ 10 ∷ []) → text ≡ line ++ rest → IsAfterRunning rest r.turn.items
     → new.made ≡ r.made → ((m : Making) → Shows (told_of m r) image (told_of m new)) → HasRead new (bodies ++ octets ∷ [])
-took_segment r new bodies octets image text line rest turn number clock running has is some due timed begins parts runs same made shows =
+took_segment r new bodies octets image text line rest number clock has is some due timed begins parts runs made shows =
     read_with new r.made (bodies ++ octets ∷ []) made
-    (more_read r.made r new bodies octets has.is some (λ m. SegmentRecord image (record { running = running; is = body }) (shows m)))
+    (more_read r.made r new bodies octets has.is some (λ m. SegmentRecord image (record { running = runs.lines; lines = runs.each; is = body }) (shows m)))
   where
     whole : List ℕ
-    whole = codes "segment " ++ (decimal r.number ++ (10 ∷ (running_text running ++ r.turn.items)))
+    whole = codes "segment " ++ (decimal r.number ++ (10 ∷ (running_text runs.lines ++ r.turn.items)))
 
     says : text ≡ whole
-    says =
-        segment_says text rest turn r.number running (parts ∙ ap (λ (l : List ℕ). l ++ rest) begins) runs
-        ∙ ap (λ (t : List ℕ). codes "segment " ++ (decimal r.number ++ (10 ∷ (running_text running ++ t)))) same
+    says = segment_says text rest r.turn.items r.number runs.lines (parts ∙ ap (λ (l : List ℕ). l ++ rest) begins) runs.are
 
     body : IsBody octets r.number r.clock whole (Some image)
     body =
@@ -200,7 +169,7 @@ took_segment r new bodies octets image text line rest turn number clock running 
 -- a turn
 pub took_turn : (r new : LogReader) (bodies : List (List ℕ)) (octets text : List ℕ) (number clock : ℕ) (parts : TurnText) (t : LoggedTurn)
     → HasRead r bodies → IsBody octets number clock text None → IsTurnBy parts clock t → is_none r.made ≡ false → number ≡ r.number + 1
-    → text ≡ turn_text parts.line.now parts.posts.items parts.answer.now → new.made ≡ r.made → new.image ≡ r.image → new.number ≡ number
+    → IsTurnText text parts.line.now parts.posts.items parts.answer.now → new.made ≡ r.made → new.image ≡ r.image → new.number ≡ number
     → new.clock ≡ clock → new.turn.items ≡ text → new.entries.items ≡ r.entries.items ++ entry.Turned t ∷ [] → HasRead new (bodies ++ octets ∷ [])
 took_turn r new bodies octets text number clock parts t has is by some due says made kept numbered timed turned es =
     read_with new r.made (bodies ++ octets ∷ []) made (more_read r.made r new bodies octets has.is some one)
@@ -209,7 +178,7 @@ took_turn r new bodies octets text number clock parts t has is by some due says 
     line = parts.line.now
 
     same : text ≡ turn_text line t.posts.items t.answer
-    same = says ∙ (λ j. turn_text line (sym by.posts j).items (sym by.answer j))
+    same = says.is ∙ (λ j. turn_text line (sym by.posts j).items (sym by.answer j))
 
     body : IsBody octets (r.number + 1) t.clock (turn_text line t.posts.items t.answer) None
     body =
@@ -217,8 +186,11 @@ took_turn r new bodies octets text number clock parts t has is by some due says 
         (subst (λ (k : ℕ). IsBody octets number k (turn_text line t.posts.items t.answer) None) (sym by.clock_is)
         (subst (λ (x : List ℕ). IsBody octets number clock x None) same is))
 
+    kept_parts : AreParts line t.posts.items t.answer
+    kept_parts = subst (λ (a : List ℕ). AreParts line t.posts.items a) (sym by.answer) (subst (λ (ps : List PostedOctets). AreParts line ps parts.answer.now) (λ j. (sym by.posts j).items) says.parts)
+
     one : (m : Making) → Follows (told_of m r) octets (told_of m new)
-    one m = TurnRecord line t (record { says = by.says }) (record { is = body; bare = by.bare }) (λ j. record {
+    one m = TurnRecord line t (record { says = by.says; parts = kept_parts }) (record { is = body; bare = by.bare }) (λ j. record {
       house = m.house;
       node = m.node;
       image = kept j;
@@ -231,14 +203,14 @@ took_turn r new bodies octets text number clock parts t has is by some due says 
 -- the turn that makes the house
 pub took_making : (r new : LogReader) (bodies : List (List ℕ)) (octets text : List ℕ) (number clock : ℕ) (parts : TurnText) (m : Making)
     → HasRead r bodies → IsBody octets number clock text None → IsMadeBy parts m → r.made ≡ None → number ≡ r.number + 1 → clock ≡ 0
-    → text ≡ turn_text parts.line.now parts.posts.items parts.answer.now → new.made ≡ Some m → new.image ≡ None → new.number ≡ number
+    → IsTurnText text parts.line.now parts.posts.items parts.answer.now → new.made ≡ Some m → new.image ≡ None → new.number ≡ number
     → new.clock ≡ 0 → new.turn.items ≡ text → new.entries.items ≡ r.entries.items → HasRead new (bodies ++ octets ∷ [])
 took_making r new bodies octets text number clock parts m has is by none due timed says made bare numbered timed' turned es =
     read_with new (Some m) (bodies ++ octets ∷ []) made
-    (making_read r.made r new bodies octets parts.line.now m has.is none by.says (numbered ∙ due) timed' (turned ∙ same) es bare body)
+    (making_read r.made r new bodies octets parts.line.now m has.is none says.parts.no_end by.says (numbered ∙ due) timed' (turned ∙ same) es bare body)
   where
     same : text ≡ making_text parts.line.now
-    same = says ∙ (λ j. turn_text parts.line.now (by.posts j) (by.answer j))
+    same = says.is ∙ (λ j. turn_text parts.line.now (by.posts j) (by.answer j))
 
     body : IsBody octets (r.number + 1) 0 (making_text parts.line.now) None
     body =
@@ -275,130 +247,6 @@ pub fault_called : {U F : Type 0} {P Q : F → Type 0} (r : Result U (AllocOr F)
 fault_called (Ok x) then q = tt
 fault_called (Err e) then q = fault_then e then q
 
--- ---- records, one after the other
-
--- the octets of a record are these
-pub read_as : (r : LogReader) (bodies : List (List ℕ)) (octets others : List ℕ) → HasRead r (bodies ++ octets ∷ []) → octets ≡ others
-    → HasRead r (bodies ++ others ∷ [])
-read_as r bodies octets others has same = subst (λ (o : List ℕ). HasRead r (bodies ++ o ∷ [])) same has
-
--- the records at the front of octets were read, of which the next one has the place after this in
--- their segment, and the others follow
-pub record HasReadSome (octets rest : List ℕ) (bodies : List (List ℕ)) (place : ℕ) (r : LogReader) : Type 0 where
-  pub done : List (List ℕ)
-  pub split : map body_in (images octets) ≡ done ++ map body_in (images rest)
-  pub read : HasRead r (bodies ++ done)
-  pub next : place ≡ length done + 1
-
--- nothing was read yet
-pub read_none : (r : LogReader) (bodies : List (List ℕ)) (octets : List ℕ) → HasRead r bodies → HasReadSome octets octets bodies 1 r
-read_none r bodies octets has = record {
-  done = [];
-  split = refl;
-  read = subst (HasRead r) (sym (append-nil bodies)) has;
-  next = refl;
-}
-
--- one record more was read
-pub read_one : (old new : LogReader) (bodies : List (List ℕ)) (octets rest first behind : List ℕ) (place : ℕ) (has : HasReadSome octets rest bodies place old)
-    → images rest ≡ first ∷ images behind → HasRead new ((bodies ++ has.done) ++ body_in first ∷ []) → HasReadSome octets behind bodies (place + 1) new
-read_one old new bodies octets rest first behind place has is read = record {
-  done = has.done ++ body_in first ∷ [];
-  split =
-      has.split
-      ∙ ap (λ (l : List (List ℕ)). has.done ++ map body_in l) is
-      ∙ sym (append_assoc has.done (body_in first ∷ []) (map body_in (images behind)));
-  read = subst (HasRead new) (append_assoc bodies has.done (body_in first ∷ [])) read;
-  next = (let before = has.next in grind (arith, before, common_steps));
-}
-
--- some records were read
-pub read_some : (r : LogReader) (bodies : List (List ℕ)) (octets rest : List ℕ) (place next : ℕ) → HasReadSome octets rest bodies place r → next ≡ place + 1
-    → HasReadPart octets bodies next r
-read_some r bodies octets rest place next has is = record {
-  front = has.done;
-  others = map body_in (images rest);
-  parts = has.split;
-  read = has.read;
-  next = (let before = has.next in omega (arith, before, is));
-}
-
--- some records were read, and the next one has a fault
-pub read_until : (old new : LogReader) (number : ℕ) (bodies : List (List ℕ)) (octets rest : List ℕ) (place next : ℕ) (f : LogFault)
-    (has : HasReadSome octets rest bodies place old) → next ≡ place + 1 → HasRead new (bodies ++ has.done) → IsOfRecord number next f
-    → StopsAt number octets bodies f new
-read_until old new number bodies octets rest place next f has is read of = record {
-  place = next;
-  part = record {
-    front = has.done;
-    others = map body_in (images rest);
-    parts = has.split;
-    read = read;
-    next = (let before = has.next in omega (arith, before, is));
-  };
-  of = of;
-}
-
--- ---- faults of records
-
--- a fault of a record
-of_record : (number place count : ℕ) (octets : List ℕ) (f : LogFault) → IsOfRecord number place f → place ≡ count + 2 → IsFaultOf number octets count f
-of_record number place count octets (why.OtherVersion n) is next = absurd is
-of_record number place count octets (why.Damaged n p) is next = absurd is
-of_record number place count octets (why.NotNext n) is next = absurd is
-of_record number place count octets (why.BadRecord n p) is next = record { segment = is.0; place = is.1 ∙ next; damage = λ no. absurd no }
-of_record number place count octets (why.NotDue n p entry due) is next = record { segment = is.0; place = is.1 ∙ next; damage = λ no. absurd no }
-
--- records after the head of a segment, up to one with a fault
-pub read_behind : (r : LogReader) (number : ℕ) (bodies : List (List ℕ)) (head octets rest : List ℕ) (f : LogFault) → images octets ≡ head ∷ images rest
-    → StopsAt number rest bodies f r → ReadsFront number bodies octets f r
-read_behind r number bodies head octets rest f is stops = record {
-  front = stops.part.front;
-  others = stops.part.others;
-  parts = ap (λ (l : List (List ℕ)). map body_in (drop 1 l)) is ∙ stops.part.parts;
-  read = stops.part.read;
-  why = of_record number stops.place (length stops.part.front) octets f stops.of stops.part.next;
-}
-
--- records after the head of a segment, up to one that is damaged
-pub read_damaged : (r : LogReader) (number : ℕ) (bodies : List (List ℕ)) (head octets rest : List ℕ) (place : ℕ) → images octets ≡ head ∷ images rest
-    → HasReadPart rest bodies place r → (IsSegment (head_of number []) octets → ⊥) → ReadsFront number bodies octets (why.Damaged number place) r
-read_damaged r number bodies head octets rest place is part none = record {
-  front = part.front;
-  others = part.others;
-  parts = ap (λ (l : List (List ℕ)). map body_in (drop 1 l)) is ∙ part.parts;
-  read = part.read;
-  why = record { segment = refl; place = inl part.next; damage = λ yes. none };
-}
-
--- no record of a segment was read
-pub front_none : (r : LogReader) (number : ℕ) (bodies : List (List ℕ)) (octets : List ℕ) (f : LogFault) → HasRead r bodies → IsFaultOf number octets 0 f
-    → ReadsFront number bodies octets f r
-front_none r number bodies octets f has is = record {
-  front = [];
-  others = map body_in (drop 1 (images octets));
-  parts = refl;
-  read = subst (HasRead r) (sym (append-nil bodies)) has;
-  why = is;
-}
-
--- its head is damaged
-pub head_damaged : (r : LogReader) (number : ℕ) (bodies : List (List ℕ)) (octets : List ℕ) → HasRead r bodies → (IsSegment (head_of number []) octets → ⊥)
-    → ReadsFront number bodies octets (why.Damaged number 1) r
-head_damaged r number bodies octets has none =
-    front_none r number bodies octets (why.Damaged number 1) has (record { segment = refl; place = inr (refl, refl); damage = λ yes. none })
-
--- it is of another version
-pub head_other : (r : LogReader) (number : ℕ) (bodies : List (List ℕ)) (octets : List ℕ) → HasRead r bodies → (IsSegment (head_of number []) octets → ⊥)
-    → ReadsFront number bodies octets (why.OtherVersion number) r
-head_other r number bodies octets has none =
-    front_none r number bodies octets (why.OtherVersion number) has (record { segment = refl; place = refl; damage = λ yes. none })
-
--- it does not follow
-pub head_next : (r : LogReader) (number : ℕ) (bodies : List (List ℕ)) (octets : List ℕ) → HasRead r bodies → ReadsFront number bodies octets (why.NotNext number) r
-head_next r number bodies octets has =
-    front_none r number bodies octets (why.NotNext number) has (record { segment = refl; place = refl; damage = λ no. absurd no })
-
 -- what was read does not know of the digest and the number of the segment
 pub read_kept : (read new : LogReader) (bodies : List (List ℕ)) → new.made ≡ read.made → new.image ≡ read.image → new.entries.items ≡ read.entries.items
     → new.number ≡ read.number → new.clock ≡ read.clock → new.turn ≡ read.turn → HasRead read bodies → HasRead new bodies
@@ -416,22 +264,3 @@ read_kept read new bodies made image es number clock turn has =
       clock = sym clock j;
       turn = (sym turn j).items;
     }) is
-
--- a segment
-pub segment_done : (old read new : LogReader) (bodies : List (List ℕ)) (octets title last : List ℕ) (number : ℕ) → ReadsRecords bodies octets old.digest read
-    → IsLast title (images octets) last new.digest → title ≡ head_of number [] → number ≡ old.segments + 1
-    → ((bs : List (List ℕ)) → HasRead read bs → HasRead new bs) → ReadsOn bodies octets old new
-segment_done old read new bodies octets title last number records chain titled numbered kept = record {
-  more = map body_in records.others;
-  segment = record {
-    last = last;
-    chain =
-        subst (λ (t : List ℕ). IsLast t (images octets) last new.digest) (titled ∙ ap (λ (n : ℕ). head_of n []) numbered) chain;
-    head = records.head;
-    others = records.others;
-    records = records.records;
-    follows = records.follows;
-    bodies_are = refl;
-  };
-  read = kept (bodies ++ map body_in records.others) records.read;
-}

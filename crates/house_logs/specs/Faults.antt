@@ -1,9 +1,12 @@
 -- Faults of a segment: where they are, and what is said of them.
-use Rattle.std.specs.Prelude.{◌≡◌, ◌⊎◌, ℕ, ◌+◌, List, [], ◌++◌, codes, decimal}
-use Rattle.house_entries.specs.Bodies.{head_of}
-use Rattle.house_segments.specs.Reading.{IsSegment}
+use Rattle.std.specs.Prelude.{◌≡◌, ◌≢◌, ◌⊎◌, ℕ, ◌+◌, List, [], ◌∷◌, ◌++◌, All, Option, codes, decimal, length}
+use Rattle.house_entries.specs.Bodies.{IsBody, head_of}
+use Rattle.house_journal.specs.JournalRecords.{images}
+use Rattle.house_segments.specs.Chains.{sealed}
 use Rattle.house_logs.specs.declared.fault.LogFault.{LogFault}
 use Rattle.house_logs.specs.declared.fault.LogFault.TheVariants as fault
+use Rattle.house_logs.specs.Logs.{AreOfHouse, HasEnded, IsLogOf, IsNew, digest_in, records_of}
+use Rattle.house_logs.specs.Records.{Told}
 
 -- ---- what is said
 
@@ -30,43 +33,102 @@ fault_text (fault.BadRecord n place) =
     record_said n place ++ codes " does not follow the record before"
 fault_text (fault.NotDue n place entry due) = record_said n place ++ due_said entry due
 
--- ---- where it is
+-- ---- the head of a segment
 
--- the segment of a fault
-abbrev pub segment_of : LogFault → ℕ
-segment_of (fault.OtherVersion n) = n
-segment_of (fault.Damaged n place) = n
-segment_of (fault.NotNext n) = n
-segment_of (fault.BadRecord n place) = n
-segment_of (fault.NotDue n place entry due) = n
+-- a record begins as the head of a segment, and not as one of this version (own)
+pub record IsOtherHead (head : List ℕ) : Type 0 where
+  pub begins : (rest : List ℕ) × (head ≡ codes "cdshouse journal " ++ rest)
+  pub other : (rest : List ℕ) → head ≢ codes "cdshouse journal 2 " ++ rest
 
--- a fault comes after so many good records after the head; or the head has it
-abbrev pub IsAfter : (count : ℕ) → LogFault → Type 0
-IsAfter count (fault.OtherVersion n) = count ≡ 0
-IsAfter count (fault.Damaged n place) = (place ≡ count + 2) ⊎ ((count ≡ 0) × (place ≡ 1))
-IsAfter count (fault.NotNext n) = count ≡ 0
-IsAfter count (fault.BadRecord n place) = place ≡ count + 2
-IsAfter count (fault.NotDue n place entry due) = place ≡ count + 2
+-- a record is the head of the segment with this number, which names this digest of 32 octets
+pub record IsHead (number : ℕ) (given head : List ℕ) : Type 0 where
+  pub size : length given ≡ 32
+  pub is : head ≡ sealed given (head_of number given)
 
--- a fault of one record, which has this place in a segment
-abbrev pub IsOfRecord : (segment place : ℕ) → LogFault → Type 0
-IsOfRecord segment place (fault.OtherVersion n) = ⊥
-IsOfRecord segment place (fault.Damaged n p) = ⊥
-IsOfRecord segment place (fault.NotNext n) = ⊥
-IsOfRecord segment place (fault.BadRecord n p) = (n ≡ segment) × (p ≡ place)
-IsOfRecord segment place (fault.NotDue n p entry due) = (n ≡ segment) × (p ≡ place)
+-- the first one of these records is of another version
+abbrev pub IsOfOther : (records : List (List ℕ)) → Type 0
+IsOfOther [] = ⊥
+IsOfOther (head ∷ records) = IsOtherHead head
 
--- a fault that says that octets are not this segment at all
-abbrev pub IsDamage : LogFault → Type 0
-IsDamage (fault.OtherVersion n) = Unit {0}
-IsDamage (fault.Damaged n place) = Unit {0}
-IsDamage (fault.NotNext n) = ⊥
-IsDamage (fault.BadRecord n place) = ⊥
-IsDamage (fault.NotDue n place entry due) = ⊥
+-- there is none, or it is no head of the segment with this number, of no version
+abbrev pub HasNoHead : (number : ℕ) → (records : List (List ℕ)) → Type 0
+HasNoHead number [] = Unit {0}
+HasNoHead number (head ∷ records) =
+    ¬ IsOtherHead head × ((given : List ℕ) → ¬ IsHead number given head)
 
--- a fault of the octets of the segment with this number, after so many good records that follow its
--- head
-pub record IsFaultOf (number : ℕ) (octets : List ℕ) (count : ℕ) (f : LogFault) : Type 0 where
-  pub segment : segment_of f ≡ number
-  pub place : IsAfter count f
-  pub damage : IsDamage f → IsSegment (head_of number []) octets → ⊥
+-- it is the head of the segment with this number, and names another digest than this one
+abbrev pub NamesOther : (number : ℕ) → (before : List ℕ) → (records : List (List ℕ)) → Type 0
+NamesOther number before [] = ⊥
+NamesOther number before (head ∷ records) =
+    (given : List ℕ) × IsHead number given head × (given ≢ before)
+
+-- ---- the records after it
+
+-- no record more comes after one with this digest, and octets are no whole segment: the next one
+-- does not end in a digest of this one and of itself; or there is none, and the list ended later
+-- once
+abbrev pub BreaksOff : (digest octets : List ℕ) → (records : List (List ℕ)) → Type 0
+BreaksOff digest octets [] = ¬ HasEnded digest octets
+BreaksOff digest octets (next ∷ records) = (body : List ℕ) → next ≢ sealed digest body
+
+-- octets begin with records of the segment with this number, after one with this digest: its head,
+-- and those with these bodies; the others break off
+pub record IsCutOff (number : ℕ) (before octets : List ℕ) (front : List (List ℕ)) : Type 0 where
+  pub others : List (List ℕ)
+  pub records : images octets ≡ records_of number before front ++ others
+  pub breaks : BreaksOff (digest_in number before front) octets others
+
+-- the last entry of these records has this number; 0, if no house was made
+abbrev pub HasLast : (bodies : List (List ℕ)) → (number : ℕ) → Type 0
+HasLast bodies number =
+    (All IsNew bodies × (number ≡ 0)) ⊎ ((s : Told) × IsLogOf bodies s × (s.number ≡ number))
+
+-- octets are the body of a record with the number of an entry; after records with these bodies the
+-- number that is due is another one: the next one, or the last one, if the record is no entry
+pub record HasOtherNumber (bodies : List (List ℕ)) (octets : List ℕ) (entry due : ℕ) : Type 0 where
+  pub clock : ℕ
+  pub text : List ℕ
+  pub image : Option (List ℕ)
+  pub body : IsBody octets entry clock text image
+  pub last : ℕ
+  pub is_last : HasLast bodies last
+  pub due_is : (due ≡ last) ⊎ (due ≡ last + 1)
+  pub other : entry ≢ due
+
+-- ---- faults
+
+-- after records of the house with these bodies one with this body has this fault, at this place in
+-- the segment with this number: it cannot be the next one
+abbrev pub IsOfRecord : (number place : ℕ) → (bodies : List (List ℕ)) → (body : List ℕ) → LogFault
+    → Type 0
+IsOfRecord number place bodies body (fault.OtherVersion n) = ⊥
+IsOfRecord number place bodies body (fault.Damaged n p) = ⊥
+IsOfRecord number place bodies body (fault.NotNext n) = ⊥
+IsOfRecord number place bodies body (fault.BadRecord n p) =
+    (n ≡ number) × (p ≡ place) × (¬ AreOfHouse (bodies ++ body ∷ []))
+IsOfRecord number place bodies body (fault.NotDue n p entry due) =
+    (n ≡ number) × (p ≡ place) × (¬ AreOfHouse (bodies ++ body ∷ []))
+    × HasOtherNumber bodies body entry due
+
+-- the next one of those records in octets after these good ones has this fault
+pub record IsOfNext (number : ℕ) (before : List ℕ) (bodies : List (List ℕ)) (octets : List ℕ)
+    (front : List (List ℕ)) (f : LogFault) : Type 0 where
+  pub body : List ℕ
+  pub others : List (List ℕ)
+  pub records : images octets ≡ records_of number before (front ++ body ∷ []) ++ others
+  pub is : IsOfRecord number (length front + 2) (bodies ++ front) body f
+
+-- octets after records of a house with these bodies, the last one with this digest, are not the
+-- whole segment with this number, or not of the house: this is the fault of the first bad record,
+-- after good ones with these bodies
+abbrev pub IsFaultOf : (number : ℕ) → (before : List ℕ) → (bodies : List (List ℕ))
+    → (octets : List ℕ) → (front : List (List ℕ)) → LogFault → Type 0
+IsFaultOf number before bodies octets front (fault.OtherVersion n) =
+    (n ≡ number) × (front ≡ []) × IsOfOther (images octets)
+IsFaultOf number before bodies octets front (fault.Damaged n place) =
+    (n ≡ number)
+    × (((place ≡ 1) × (front ≡ []) × HasNoHead number (images octets))
+    ⊎ ((place ≡ length front + 2) × IsCutOff number before octets front))
+IsFaultOf number before bodies octets front (fault.NotNext n) =
+    (n ≡ number) × (front ≡ []) × NamesOther number before (images octets)
+IsFaultOf number before bodies octets front f = IsOfNext number before bodies octets front f

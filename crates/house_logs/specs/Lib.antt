@@ -4,3 +4,4 @@ pub mod Records
 pub mod Logs
 pub mod Faults
 pub mod Reads
+pub mod PrivateReads

@@ -1,15 +1,15 @@
 -- The journal of a house: its segments, the records of these, and the entries that they are.
-use Rattle.std.specs.Prelude.{◌≡◌, ℕ, ◌+◌, ◌-◌, List, [], ◌∷◌, ◌++◌, All, length, map, take, drop, Some, None, Ok, codes}
+use Rattle.std.specs.Prelude.{◌≡◌, ◌⊎◌, ℕ, List, [], ◌∷◌, ◌++◌, All, Some, None, Ok, codes}
 use Rattle.cell_script.specs.Words.{words_of}
 use Rattle.house_entries.specs.Bodies.{IsBody, head_of}
 use Rattle.house_journal.specs.JournalRecords.{images}
 use Rattle.house_lines.specs.LineRows.{said_in}
 use Rattle.house_lines.specs.declared.line.HouseLine.TheVariants as asks
-use Rattle.house_segments.specs.Reading.{IsLast}
-use Rattle.house_segments.specs.declared.chain.TheConstants.{DIGEST}
+use Rattle.house_segments.specs.Chains.{chained, last_digest}
+use Rattle.house_segments.specs.Reading.{EndedLater, end_of}
 use Rattle.house_logs.specs.declared.log.HouseLog.{HouseLog}
 use Rattle.house_logs.specs.Records.{AreRecords, Told}
-use Rattle.house_logs.specs.TurnTexts.{turn_text}
+use Rattle.house_logs.specs.TurnTexts.{HasNoEnd, turn_text}
 
 -- ---- entries
 
@@ -24,6 +24,7 @@ making_text line = turn_text line [] (codes "ok")
 -- a house is made by the record with this body, which is entry 1 and shows no image
 pub record Begins (body : List ℕ) (s : Told) : Type 0 where
   pub line : List ℕ
+  pub no_end : HasNoEnd line
   pub says : said_in (words_of line) ≡ Ok (Some (asks.House s.house s.node))
   pub body_is : IsBody body 1 0 (making_text line) None
   pub bare : s.image ≡ None
@@ -55,24 +56,29 @@ pub record IsToldOf (log : HouseLog) (s : Told) : Type 0 where
 abbrev pub IsJournalOf : (bodies : List (List ℕ)) → HouseLog → Type 0
 IsJournalOf bodies log = (s : Told) × IsLogOf bodies s × IsToldOf log s
 
+-- records with these bodies, which are all new or those of a house, are the first ones of a journal
+abbrev pub AreOfHouse : (bodies : List (List ℕ)) → Type 0
+AreOfHouse bodies = All IsNew bodies ⊎ ((s : Told) × IsLogOf bodies s)
+
 -- ---- segments
 
--- a record without its digest
-abbrev pub body_in : List ℕ → List ℕ
-body_in record' = take (length record' - DIGEST) record'
+-- the records of the segment with this number, after a record with this digest: its head, and
+-- those with these bodies, each of which ends in a digest of the one before and of itself
+abbrev pub records_of : (number : ℕ) → (before : List ℕ) → (bodies : List (List ℕ)) → List (List ℕ)
+records_of number before bodies = chained before (head_of number before ∷ bodies)
 
--- the digest of the record before that the head of a segment names
-abbrev pub before_in : (head : List ℕ) → List ℕ
-before_in head = take DIGEST (drop (length head - (DIGEST + DIGEST)) head)
+-- the digest of the last one
+abbrev pub digest_in : (number : ℕ) → (before : List ℕ) → (bodies : List (List ℕ)) → List ℕ
+digest_in number before bodies = last_digest before (head_of number before ∷ bodies)
 
--- octets are the segment of this number, after a record with this digest: a chain of records, whose
--- last one has the digest after; these are the bodies of those after the head
+-- the list of records, the last one of which has this digest, never ended later (own)
+abbrev pub HasEnded : (digest octets : List ℕ) → Type 0
+HasEnded digest octets = ¬ EndedLater digest (end_of octets)
+
+-- octets are the segment of this number, after a record with this digest: these are the bodies of
+-- the records after its head, and the last one has the digest after
 pub record IsSegment (number : ℕ) (before octets : List ℕ) (bodies : List (List ℕ)) (after : List ℕ)
     : Type 0 where
-  pub last : List ℕ
-  pub chain : IsLast (head_of number []) (images octets) last after
-  pub head : List ℕ
-  pub others : List (List ℕ)
-  pub records : images octets ≡ head ∷ others
-  pub follows : before_in head ≡ before
-  pub bodies_are : bodies ≡ map body_in others
+  pub records : images octets ≡ records_of number before bodies
+  pub last : after ≡ digest_in number before bodies
+  pub ended : HasEnded after octets

@@ -1,6 +1,6 @@
 -- What the records of a house say, one after the other.
 use Rattle.std.specs.Prelude.{◌≡◌, ℕ, ◌+◌, List, [], ◌∷◌, ◌++◌, Option, Some, None, Ok, IfSome, codes, decimal}
-use Rattle.std.specs.List.{flat_map}
+use Rattle.std.specs.List.{AllByRecursion, flat_map}
 use Rattle.cds_stamps.specs.declared.numbers.HouseNo.{HouseNo}
 use Rattle.cell_script.specs.Words.{words_of}
 use Rattle.house_entries.specs.Bodies.{IsBody}
@@ -9,7 +9,7 @@ use Rattle.house_logs.specs.declared.log.LogEntry.{LogEntry}
 use Rattle.house_logs.specs.declared.log.LogEntry.TheVariants as entry
 use Rattle.house_logs.specs.declared.log.LoggedTurn.{LoggedTurn}
 use Rattle.house_logs.specs.Orders.{line_of}
-use Rattle.house_logs.specs.TurnTexts.{turn_text}
+use Rattle.house_logs.specs.TurnTexts.{AreParts, HasNoEnd, turn_text}
 
 -- what the first records of a house say: the house, the image with which it was made, if one shows
 -- it, and its entries after that; the number and the clock of the last one; the text of the last
@@ -32,6 +32,7 @@ start_text s = codes "start" ++ (10 ∷ s.turn)
 -- a line, and what it says, of a turn
 pub record SaysTurn (line : List ℕ) (t : LoggedTurn) : Type 0 where
   pub says : said_in (words_of line) ≡ Ok (Some (line_of t.order))
+  pub parts : AreParts line t.posts.items t.answer
 
 -- a turn more
 abbrev pub after_turn : Told → (line : List ℕ) → LoggedTurn → Told
@@ -76,6 +77,7 @@ segment_text s running =
 -- the body of such a record, with the image of the house
 pub record IsSegmentBody (s : Told) (body image : List ℕ) : Type 0 where
   pub running : List (List ℕ)
+  pub lines : AllByRecursion HasNoEnd running
   pub is : IsBody body s.number s.clock (segment_text s running) (Some image)
 
 -- the image of an entry, if a record shows it

@@ -1,6 +1,7 @@
 // What the line of a turn tells a house to do.
-ghost use Rattle.std.specs.Prelude.{◌≡◌, IfSome};
+ghost use Rattle.std.specs.Prelude.{◌≡◌, ◌≢◌, MatchOption};
 ghost use Rattle.house_logs.specs.Orders.{line_of};
+ghost use Rattle.house_logs.specs.declared.order.LoggedOrder.{LoggedOrder as LoggedOrder'};
 
 use cds_stamps::{DirId, EpochNo, HouseNo, SimpleName};
 use cell_script::{HouseNos, Listeds, Octets};
@@ -22,7 +23,8 @@ pub enum LoggedOrder {
 
 /// What a line tells a house to do, if it is one of a turn.
 pub(crate) fn order_in(says: HouseLine) -> Option<LoggedOrder>
-    ensures { IfSome result (λ order. says ≡ line_of order) }
+    ensures { MatchOption result ((order : LoggedOrder') → says ≢ line_of order)
+        (λ order. says ≡ line_of order) }
 {
     match says {
         HouseLine::Root(others) => Some(LoggedOrder::Root(others)),

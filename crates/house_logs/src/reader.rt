@@ -1,22 +1,25 @@
 // The journal of a house, read segment by segment.
-ghost use Rattle.std.specs.Prelude.{◌≡◌, ◌<◌, ◌+◌, ◌^◌, ◌++◌, ◌∷◌, [], ℕ, List, false, Ok, Some, None, All, replicate, IfOk, IfSome, OnOk, MatchOption, codes, decimal, is_none, map, option_copied};
-ghost use Rattle.std.specs.Bool.{OnFalse, OnTrue};
+ghost use Rattle.std.specs.Prelude.{◌≡◌, ◌≢◌, ◌⊎◌, ◌<◌, ◌+◌, ◌^◌, ◌++◌, ◌∷◌, [], ℕ, List, false, length, Ok, Some, None, All, replicate, IfErr, IfNone, IfOk, IfSome, OnOk, MatchOption, codes, decimal, is_none, option_copied};
+ghost use Rattle.std.specs.Bool.{Decides, OnFalse, OnTrue};
 ghost use Rattle.cell_script.specs.Words.{words_of};
 ghost use Rattle.house_entries.specs.Bodies.{IsBody, head_of};
-ghost use Rattle.house_journal.specs.JournalRecords.{images};
 ghost use Rattle.house_lines.specs.LineRows.{said_in};
-ghost use Rattle.house_segments.specs.Reading.{IsSegment};
-ghost use Rattle.house_logs.specs.Faults.{IsOfRecord};
-ghost use Rattle.house_logs.specs.Logs.{IsJournalOf, IsNew, before_in, body_in};
+ghost use Rattle.house_lines.specs.declared.line.HouseLine.{HouseLine as HouseLine'};
+ghost use Rattle.house_segments.specs.Chains.{digest_after, sealed};
+ghost use Rattle.house_logs.specs.Faults.{IsFaultOf, IsOfRecord, IsOtherHead};
+ghost use Rattle.house_logs.specs.Logs.{IsJournalOf, IsNew};
+ghost use Rattle.house_logs.specs.declared.log.LoggedTurn.{LoggedTurn as LoggedTurn'};
 ghost use Rattle.house_logs.specs.declared.log.Making.{Making as Making'};
-ghost use Rattle.house_logs.specs.Reads.{HasRead, HasReadPart, IfFault, IsDue, IsMadeBy, IsTurnBy, OfFault, ReadsFront, ReadsOn, ReadsRecords, StopsAt, told_of};
+ghost use Rattle.house_logs.specs.declared.reader.LogReader.{LogReader as LogReader'};
+ghost use Rattle.house_logs.specs.Orders.{line_of};
+ghost use Rattle.house_logs.specs.PrivateReads.{CanFollow, CanGoOn, CanMake, CanStart, CanTurn, IsAfterHead, IsDue, IsMadeBy, IsTurnBy, IsTurnText, MakesHouse, ReadsChain, StopsAt, known_in};
+ghost use Rattle.house_logs.specs.Reads.{HasRead, IfFault, ReadsFront, ReadsOn, told_of};
 ghost use Rattle.house_logs.specs.Records.{CanBe, Shows};
-ghost use Rattle.house_logs.specs.TurnTexts.{turn_text};
 
 use crate::fault::LogFault;
 use crate::log::{HouseLog, LogEntry, LoggedTurn, Making};
 use crate::order::{LoggedOrder, order_in};
-use crate::text::{TurnText, after_running, turn_in, without};
+use crate::text::{TurnText, is_after_running, turn_in, without};
 use cds_stamps::AllocOr;
 use cell_script::Octets;
 use house_entries::{Body, head_octets, read_body};
@@ -49,7 +52,7 @@ fn octets_of(alloc: Global, octets: &[u8]) -> Result<Octets, AllocError>
 
 // Whether no image is known, or this one.
 fn can_be(known: Option<&Octets>, image: &[u8]) -> bool
-    ensures { OnTrue result (CanBe (option_copied known.entry) image.now) }
+    ensures { Decides result (CanBe (option_copied known.entry) image.now) }
 {
     match known {
         Some(other) => other.list() == image,
@@ -59,8 +62,9 @@ fn can_be(known: Option<&Octets>, image: &[u8]) -> bool
 
 // What a line says, if it says something.
 fn said_by(alloc: Global, line: &[u8]) -> Result<Option<HouseLine>, AllocError>
-    ensures { IfOk result
-        (λ o. IfSome o (λ says. said_in (words_of line.now) ≡ Ok (Some says))) }
+    ensures { IfOk result (λ o. MatchOption o
+        ((says : HouseLine') → said_in (words_of line.now) ≢ Ok (Some says))
+        (λ says. said_in (words_of line.now) ≡ Ok (Some says))) }
 {
     match parse_house_line(alloc, line) {
         Ok(says) => Ok(says),
@@ -77,33 +81,52 @@ fn kept_line(alloc: Global, line: &[u8], order: &LoggedOrder) -> Result<Octets, 
     }
 }
 
-// The first octets of each head, and how many these and a version are.
-const HEAD: &[u8] = b"cdshouse journal ";
-
-const VERSION_END: usize = 19;
-
-// Whether a head begins as one does, and not as this title.
-fn is_of_other_version(head: &[u8], title: &[u8]) -> bool {
-    head.starts_with(HEAD) && !title.starts_with(&head[..head.len().min(VERSION_END)])
+// Whether a record begins as a head, and not as one of this version.
+#[tactic(auto, using(crate::proofs::SegmentLemmas::other_head))]
+fn is_other_head(head: &[u8]) -> bool
+    ensures { Decides result (IsOtherHead head.now) }
+{
+    let Some(_) = without(b"cdshouse journal ", head) else {
+        return false;
+    };
+    let Some(_) = without(b"cdshouse journal 2 ", head) else {
+        return true;
+    };
+    false
 }
 
-// The digest of a head: this title, a digest before it, and the sum of both.
-fn head_digest(title: &[u8], head: &[u8]) -> Option<[u8; DIGEST]> {
-    if head.len() < 2 * DIGEST {
-        return None;
-    }
-    let (text, ends) = head.split_at(head.len() - 2 * DIGEST);
-    if text != title {
+// The digest that a head names, and its own.
+#[derive(Drop)]
+struct Named<'a> {
+    before: &'a [u8],
+    digest: [u8; DIGEST],
+}
+
+// The digests of the head with this title.
+fn head_in<'a>(title: &[u8], head: &'a [u8]) -> Option<Named<'a>>
+    ensures some { IfSome result
+        (λ r. head.now ≡ sealed r.before.now (title.now ++ r.before.now)) }
+    ensures size { IfSome result (λ r. length r.before.now ≡ 32) }
+    ensures digest { IfSome result
+        (λ r. r.digest ≡ digest_after r.before.now (title.now ++ r.before.now)) }
+    ensures none { IfNone result ((given : List ℕ) → length given ≡ 32
+        → head.now ≢ sealed given (title.now ++ given)) }
+{
+    let ends = without(title, head)?;
+    if ends.len() != 2 * DIGEST {
         return None;
     }
     let (before, _) = ends.split_at(DIGEST);
-    let first = unsealed(before, head)?;
-    Some(first.digest)
+    let sealed = unsealed(before, head)?;
+    let digest = sealed.digest;
+    Some(Named { before, digest })
 }
 
 // The turn of these parts, if its line is one of a turn.
 fn turn_of(alloc: Global, clock: u64, parts: TurnText<'_>) -> Result<Option<LoggedTurn>, AllocError>
-    ensures { IfOk result (λ o. IfSome o (IsTurnBy parts.entry clock)) }
+    ensures some { IfOk result (λ o. IfSome o (IsTurnBy parts.entry clock)) }
+    ensures none { IfOk result (λ o. IfNone o ((t : LoggedTurn')
+        → said_in (words_of parts.entry.line.now) ≢ Ok (Some (line_of t.order)))) }
 {
     let TurnText {
         line,
@@ -128,7 +151,9 @@ fn turn_of(alloc: Global, clock: u64, parts: TurnText<'_>) -> Result<Option<Logg
 
 // The house that is made by a turn of these parts.
 fn made_by(alloc: Global, parts: &TurnText<'_>) -> Result<Option<Making>, AllocError>
-    ensures { IfOk result (λ o. IfSome o (IsMadeBy parts.now)) }
+    ensures some { IfOk result (λ o. IfSome o (IsMadeBy parts.now)) }
+    ensures none { IfOk result (λ o. IfNone o (parts.now.posts.items ≡ []
+        → parts.now.answer.now ≡ codes "ok" → ¬ MakesHouse parts.now.line.now)) }
 {
     if !parts.posts.is_empty() {
         return Ok(None);
@@ -146,6 +171,34 @@ fn made_by(alloc: Global, parts: &TurnText<'_>) -> Result<Option<Making>, AllocE
         })),
         _ => Ok(None),
     }
+}
+
+// Whether a record is one of an entry, and no first one of a process or of a segment.
+fn is_entry(body: &Body<'_>) -> bool
+    ensures yes { (r : LogReader') → CanFollow r body.now
+        → OnTrue result (body.now.number ≡ r.number + 1) }
+    ensures no { (r : LogReader') → CanFollow r body.now
+        → OnFalse result (body.now.number ≡ r.number) }
+{
+    match body.image {
+        None => body.text != b"new\n".as_slice(),
+        Some(_) => without(b"segment ", body.text).is_none(),
+    }
+}
+
+// What comes after the head of a segment, and the digest of the head.
+#[derive(Drop)]
+pub(crate) struct Head<'a> {
+    pub(crate) digest: [u8; DIGEST],
+    pub(crate) rest: &'a [u8],
+}
+
+// Where the records of a segment that follow one another end: the digest of the last one, and the
+// place of the next one.
+#[derive(Drop)]
+pub(crate) struct Chain {
+    pub(crate) digest: [u8; DIGEST],
+    pub(crate) place: u64,
 }
 
 impl LogReader {
@@ -195,195 +248,142 @@ impl LogReader {
             → OnOk result (ReadsOn bodies octets.now self.old self.new) }
         ensures stopped { (bodies : List (List ℕ)) → HasRead self.old bodies
             → self.old.segments + 1 < 2 ^ 64 → IfFault result (λ fault.
-            ReadsFront (self.old.segments + 1) bodies octets.now fault self.new) }
+            ReadsFront (self.old.segments + 1) self.old.digest bodies octets.now fault self.new) }
     {
         let Some(number) = self.segments.checked_add(1) else {
             return Err(AllocOr::Fault(LogFault::NotNext(self.segments)));
         };
         let title = head_octets(alloc, number, b"")?;
-        let Some(last) = last_record(&title, octets) else {
-            return Err(self.read_front(alloc, number, &title, octets));
+        let head = match self.read_head(number, &title, octets) {
+            Ok(head) => head,
+            Err(fault) => return Err(AllocOr::Fault(fault)),
         };
-        self.read_records(alloc, number, octets)?;
-        self.digest = last.digest;
+        let chain = self.read_chain(alloc, number, head.digest, head.rest)?;
+        let Some(_) = last_record(&title, octets) else {
+            return Err(AllocOr::Fault(LogFault::Damaged(number, chain.place)));
+        };
+        let digest = chain.digest;
+        self.digest = digest;
         self.segments = number;
         Ok(())
     }
 
-    // Reads the records of a segment of this number.
-    #[tactic(auto, using(crate::proofs::ReadingLemmas::head_next))]
-    fn read_records(
-        &mut self,
-        alloc: Global,
-        number: u64,
-        octets: &[u8],
-    ) -> Result<(), AllocOr<LogFault>>
-        ensures digest { self.new.digest ≡ self.old.digest }
-        ensures segments { self.new.segments ≡ self.old.segments }
-        ensures read { (bodies : List (List ℕ)) → HasRead self.old bodies
-            → OnOk result (ReadsRecords bodies octets.now self.old.digest self.new) }
-        ensures stopped { (bodies : List (List ℕ)) → HasRead self.old bodies
-            → IfFault result (λ fault. ReadsFront number bodies octets.now fault self.new) }
-    {
-        let Some((head, rest)) = first_record(octets) else {
-            return Err(AllocOr::Fault(LogFault::NotNext(number)));
-        };
-        if !self.is_next(head) {
-            return Err(AllocOr::Fault(LogFault::NotNext(number)));
-        }
-        self.read_all(alloc, number, rest)
-    }
-
-    // Reads the records at the front of octets.
-    #[tactic(auto, using(crate::proofs::ReadingLemmas::read_none, crate::proofs::ReadingLemmas::read_one))]
-    fn read_all(
-        &mut self,
-        alloc: Global,
-        number: u64,
-        octets: &[u8],
-    ) -> Result<(), AllocOr<LogFault>>
-        ensures digest { self.new.digest ≡ self.old.digest }
-        ensures segments { self.new.segments ≡ self.old.segments }
-        ensures read { (bodies : List (List ℕ)) → HasRead self.old bodies
-            → OnOk result (HasRead self.new (bodies ++ map body_in (images octets.now))) }
-        ensures stopped { (bodies : List (List ℕ)) → HasRead self.old bodies
-            → IfFault result (λ fault. StopsAt number octets.now bodies fault self.new) }
-    {
-        let mut rest = octets;
-        let mut place: u64 = 1;
-        'records: while let Some((record, behind)) = first_record(rest) {
-            place += 1;
-            self.read_record(alloc, number, place, record)?;
-            rest = behind;
-        }
-        Ok(())
-    }
-
-    // Reads the records at the front of a segment that is damaged. The fault of the first one that
-    // is none, or that does not follow.
-    #[tactic(auto, using(crate::proofs::ReadingLemmas::head_damaged, crate::proofs::ReadingLemmas::head_other, crate::proofs::ReadingLemmas::head_next))]
-    fn read_front(
-        &mut self,
-        alloc: Global,
+    // What comes after the head of the segment with this number, which has to name the digest of
+    // the last record that was read.
+    fn read_head<'a>(
+        &self,
         number: u64,
         title: &[u8],
-        octets: &[u8],
-    ) -> AllocOr<LogFault>
-        ensures digest { self.new.digest ≡ self.old.digest }
-        ensures segments { self.new.segments ≡ self.old.segments }
-        ensures read { (bodies : List (List ℕ)) → HasRead self.old bodies
-            → (IsSegment title.now octets.now → ⊥) → title.now ≡ head_of number []
-            → OfFault result (λ fault. ReadsFront number bodies octets.now fault self.new) }
+        octets: &'a [u8],
+    ) -> Result<Head<'a>, LogFault>
+        ensures is { title.now ≡ head_of number []
+            → IfOk result (IsAfterHead number self.now.digest octets.now) }
+        ensures fault { title.now ≡ head_of number [] → (bodies : List (List ℕ))
+            → IfErr result (IsFaultOf number self.now.digest bodies octets.now []) }
     {
         let Some((head, rest)) = first_record(octets) else {
-            return AllocOr::Fault(LogFault::Damaged(number, 1));
+            return Err(LogFault::Damaged(number, 1));
         };
-        if is_of_other_version(head, title) {
-            return AllocOr::Fault(LogFault::OtherVersion(number));
+        if is_other_head(head) {
+            return Err(LogFault::OtherVersion(number));
         }
-        let Some(digest) = head_digest(title, head) else {
-            return AllocOr::Fault(LogFault::Damaged(number, 1));
+        let Some(named) = head_in(title, head) else {
+            return Err(LogFault::Damaged(number, 1));
         };
-        if !self.is_next(head) {
-            return AllocOr::Fault(LogFault::NotNext(number));
+        if named.before != self.digest.as_slice() {
+            return Err(LogFault::NotNext(number));
         }
-        match self.read_chain(alloc, number, digest, rest) {
-            Ok(place) => AllocOr::Fault(LogFault::Damaged(number, place)),
-            Err(fault) => fault,
-        }
+        let digest = named.digest;
+        Ok(Head { digest, rest })
     }
 
-    // Reads the records at the front of octets that are a chain after this digest. The place of the
-    // first one that is none.
-    #[tactic(auto, using(crate::proofs::ReadingLemmas::read_none, crate::proofs::ReadingLemmas::read_one, crate::proofs::ReadingLemmas::read_some))]
+    // Reads the records at the front of octets that are a chain after this digest, up to the first
+    // one that is none.
     fn read_chain(
         &mut self,
         alloc: Global,
         number: u64,
         before: [u8; DIGEST],
         octets: &[u8],
-    ) -> Result<u64, AllocOr<LogFault>>
+    ) -> Result<Chain, AllocOr<LogFault>>
         ensures digest { self.new.digest ≡ self.old.digest }
         ensures segments { self.new.segments ≡ self.old.segments }
         ensures read { (bodies : List (List ℕ)) → HasRead self.old bodies
-            → IfOk result (λ place. HasReadPart octets.now bodies place self.new) }
+            → IfOk result (λ chain. ReadsChain before octets.now bodies chain self.new) }
         ensures stopped { (bodies : List (List ℕ)) → HasRead self.old bodies
-            → IfFault result (λ fault. StopsAt number octets.now bodies fault self.new) }
+            → IfFault result (λ fault. StopsAt number before octets.now bodies fault self.new) }
     {
         let mut rest = octets;
         let mut digest = before;
-        let mut place: u64 = 1;
+        let mut place: u64 = 2;
         'records: while let Some((sealed, behind)) = first_record(rest) {
-            place += 1;
             let Some(next) = unsealed(&digest, sealed) else {
-                return Ok(place);
+                return Ok(Chain { digest, place });
             };
-            self.read_record(alloc, number, place, sealed)?;
+            self.read_record(alloc, number, place, next.body)?;
             digest = next.digest;
             rest = behind;
+            place += 1;
         }
-        Ok(place + 1)
+        Ok(Chain { digest, place })
     }
 
-    // Whether the head of a segment names the digest of the last record that was read.
-    fn is_next(&self, head: &[u8]) -> bool
-        ensures { OnTrue result (before_in head.now ≡ self.now.digest) }
-    {
-        if head.len() < 2 * DIGEST {
-            return false;
-        }
-        let (_, ends) = head.split_at(head.len() - 2 * DIGEST);
-        let (before, _) = ends.split_at(DIGEST);
-        before == self.digest.as_slice()
-    }
-
-    // Reads a record.
+    // Reads the record with this body, which has this place in the segment with this number.
     fn read_record(
         &mut self,
         alloc: Global,
-        segment: u64,
+        number: u64,
         place: u64,
-        sealed: &[u8],
+        octets: &[u8],
     ) -> Result<(), AllocOr<LogFault>>
         ensures digest { self.new.digest ≡ self.old.digest }
         ensures segments { self.new.segments ≡ self.old.segments }
         ensures read { (bodies : List (List ℕ)) → HasRead self.old bodies
-            → OnOk result (HasRead self.new (bodies ++ body_in sealed.now ∷ [])) }
+            → OnOk result (HasRead self.new (bodies ++ octets.now ∷ [])) }
         ensures stopped { (bodies : List (List ℕ)) → HasRead self.old bodies
             → IfFault result (λ fault. HasRead self.new bodies) }
-        ensures names { IfFault result (IsOfRecord segment place) }
+        ensures why { (bodies : List (List ℕ)) → HasRead self.old bodies
+            → IfFault result (IsOfRecord number place bodies octets.now) }
     {
-        if sealed.len() < DIGEST {
-            return Err(AllocOr::Fault(LogFault::BadRecord(segment, place)));
-        }
-        let (octets, _) = sealed.split_at(sealed.len() - DIGEST);
         let Some(body) = read_body(octets) else {
-            return Err(AllocOr::Fault(LogFault::BadRecord(segment, place)));
+            return Err(AllocOr::Fault(LogFault::BadRecord(number, place)));
         };
         if let Some(due) = self.other_number(&body) {
-            return Err(AllocOr::Fault(LogFault::NotDue(segment, place, body.number, due)));
+            return Err(AllocOr::Fault(LogFault::NotDue(number, place, body.number, due)));
         }
         if self.take_body(alloc, &body)? {
             Ok(())
         } else {
-            Err(AllocOr::Fault(LogFault::BadRecord(segment, place)))
+            Err(AllocOr::Fault(LogFault::BadRecord(number, place)))
         }
     }
 
-    // The number that is due, if a record has another: that of the last entry, if it is none.
-    fn other_number(&self, body: &Body<'_>) -> Option<u64> {
-        let is_entry = body.text != b"new\n".as_slice() && !body.text.starts_with(b"segment ");
-        let due = if is_entry {
-            self.number.checked_add(1)?
-        } else {
-            self.number
-        };
+    // The number that is due, if a record has another one: that of the last entry, or of the next.
+    fn other_number(&self, body: &Body<'_>) -> Option<u64>
+        ensures due { IfSome result (λ due. (due ≡ self.now.number) ⊎ (due ≡ self.now.number + 1)) }
+        ensures other { IfSome result (λ due. body.now.number ≢ due) }
+        ensures none { IfSome result (λ due. ¬ CanFollow self.now body.now) }
+    {
+        let due = self.due_number(body)?;
         if body.number == due { None } else { Some(due) }
+    }
+
+    // The number that is due: that of the next entry, or of the last one; none at the end.
+    fn due_number(&self, body: &Body<'_>) -> Option<u64>
+        ensures is { IfSome result (λ due. (due ≡ self.now.number) ⊎ (due ≡ self.now.number + 1)) }
+        ensures due { IfSome result
+            (λ due. CanFollow self.now body.now → body.now.number ≡ due) }
+    {
+        if !is_entry(body) {
+            return Some(self.number);
+        }
+        let due = self.number.checked_add(1)?;
+        Some(due)
     }
 
     // Whether the number of an entry is the next one.
     fn is_due(&self, number: u64) -> bool
-        ensures { OnTrue result (number ≡ self.now.number + 1) }
+        ensures { Decides result (number ≡ self.now.number + 1) }
     {
         self.number.checked_add(1) == Some(number)
     }
@@ -397,6 +397,7 @@ impl LogReader {
             (λ takes. OnTrue takes (HasRead self.new (bodies ++ octets ∷ []))) }
         ensures kept { (bodies : List (List ℕ)) → HasRead self.old bodies
             → IfOk result (λ takes. OnFalse takes (HasRead self.new bodies)) }
+        ensures refused { IfOk result (λ takes. OnFalse takes (¬ CanFollow self.old body.now)) }
     {
         let Some(image) = body.image else {
             if body.text == b"new\n".as_slice() {
@@ -412,7 +413,7 @@ impl LogReader {
 
     // Whether a record without an image is the first one of a process without a house.
     fn is_new(&self, body: &Body<'_>) -> bool
-        ensures { OnTrue result ((self.now.made ≡ None) × ((body.now.number ≡ 0)
+        ensures { Decides result ((self.now.made ≡ None) × ((body.now.number ≡ 0)
             × ((body.now.clock ≡ 0) × (body.now.text.now ≡ codes "new" ++ 10 ∷ [])))) }
     {
         self.made.is_none()
@@ -423,7 +424,7 @@ impl LogReader {
 
     // Whether a record has the fields of a start, after the text of the last turn.
     fn is_start(&self, body: &Body<'_>, turn: &[u8]) -> bool
-        ensures { OnTrue result ((is_none self.now.made ≡ false)
+        ensures { Decides result ((is_none self.now.made ≡ false)
             × ((body.now.number ≡ self.now.number + 1) × ((body.now.clock ≡ 0)
             × (turn.now ≡ self.now.turn.items)))) }
     {
@@ -449,6 +450,8 @@ impl LogReader {
             → IfOk result (λ takes. OnTrue takes (HasRead self.new (bodies ++ octets ∷ []))) }
         ensures kept { (bodies : List (List ℕ)) → HasRead self.old bodies
             → IfOk result (λ takes. OnFalse takes (HasRead self.new bodies)) }
+        ensures refused { body.now.text.now ≡ codes "start" ++ (10 ∷ turn.now)
+            → IfOk result (λ takes. OnFalse takes (¬ CanStart self.old body.now)) }
     {
         if !self.is_start(body, turn) {
             return Ok(false);
@@ -473,7 +476,7 @@ impl LogReader {
 
     // Whether a record has the number and the clock of the last entry.
     fn is_last(&self, body: &Body<'_>) -> bool
-        ensures { OnTrue result ((is_none self.now.made ≡ false)
+        ensures { Decides result ((is_none self.now.made ≡ false)
             × ((body.now.number ≡ self.now.number) × (body.now.clock ≡ self.now.clock))) }
     {
         self.made.is_some() && body.number == self.number && body.clock == self.clock
@@ -488,6 +491,8 @@ impl LogReader {
             (λ has. OnTrue has (Shows (told_of m self.old) image.now (told_of m self.new))) }
         ensures kept { (bodies : List (List ℕ)) → HasRead self.old bodies
             → IfOk result (λ has. OnFalse has (HasRead self.new bodies)) }
+        ensures refused { IfOk result (λ has. OnFalse has
+            (¬ CanBe (known_in self.old.image self.old.entries.items) image.now)) }
     {
         let shown = octets_of(alloc, image)?;
         let Some(last) = self.entries.pop() else {
@@ -514,6 +519,8 @@ impl LogReader {
             → IfOk result (λ goes. OnTrue goes (HasRead self.new (bodies ++ octets ∷ []))) }
         ensures kept { (bodies : List (List ℕ)) → HasRead self.old bodies
             → IfOk result (λ goes. OnFalse goes (HasRead self.new bodies)) }
+        ensures refused { option_copied body.now.image ≡ Some image.now
+            → IfOk result (λ goes. OnFalse goes (¬ CanGoOn self.old body.now)) }
     {
         if !self.is_last(body) {
             return Ok(false);
@@ -522,7 +529,7 @@ impl LogReader {
         let Some(rest) = without(&line, body.text) else {
             return Ok(false);
         };
-        if after_running(rest) != self.turn.as_slice() {
+        if !is_after_running(rest, &self.turn) {
             return Ok(false);
         }
         self.show(alloc, image)
@@ -537,6 +544,8 @@ impl LogReader {
             → IfOk result (λ takes. OnTrue takes (HasRead self.new (bodies ++ octets ∷ []))) }
         ensures kept { (bodies : List (List ℕ)) → HasRead self.old bodies
             → IfOk result (λ takes. OnFalse takes (HasRead self.new bodies)) }
+        ensures refused { IfOk result (λ takes. OnFalse takes
+            ((¬ CanMake self.old body.now) × (¬ CanTurn self.old body.now))) }
     {
         if !self.is_due(body.number) {
             return Ok(false);
@@ -559,8 +568,8 @@ impl LogReader {
     ) -> Result<bool, AllocError>
         requires none { self.old.made ≡ None }
         requires due { body.now.number ≡ self.old.number + 1 }
-        requires text { body.now.text.now
-            ≡ turn_text parts.now.line.now parts.now.posts.items parts.now.answer.now }
+        requires text { IsTurnText body.now.text.now parts.now.line.now parts.now.posts.items
+            parts.now.answer.now }
         ensures digest { self.new.digest ≡ self.old.digest }
         ensures segments { self.new.segments ≡ self.old.segments }
         ensures read { (bodies : List (List ℕ)) (octets : List ℕ) → HasRead self.old bodies
@@ -568,6 +577,7 @@ impl LogReader {
             → IfOk result (λ takes. OnTrue takes (HasRead self.new (bodies ++ octets ∷ []))) }
         ensures kept { (bodies : List (List ℕ)) → HasRead self.old bodies
             → IfOk result (λ takes. OnFalse takes (HasRead self.new bodies)) }
+        ensures refused { IfOk result (λ takes. OnFalse takes (¬ CanMake self.old body.now)) }
     {
         if body.clock != 0 {
             return Ok(false);
@@ -592,8 +602,8 @@ impl LogReader {
     ) -> Result<bool, AllocError>
         requires some { is_none self.old.made ≡ false }
         requires due { body.now.number ≡ self.old.number + 1 }
-        requires text { body.now.text.now
-            ≡ turn_text parts.line.now parts.posts.items parts.answer.now }
+        requires text { IsTurnText body.now.text.now parts.line.now parts.posts.items
+            parts.answer.now }
         ensures digest { self.new.digest ≡ self.old.digest }
         ensures segments { self.new.segments ≡ self.old.segments }
         ensures read { (bodies : List (List ℕ)) (octets : List ℕ) → HasRead self.old bodies
@@ -601,6 +611,7 @@ impl LogReader {
             → IfOk result (λ takes. OnTrue takes (HasRead self.new (bodies ++ octets ∷ []))) }
         ensures kept { (bodies : List (List ℕ)) → HasRead self.old bodies
             → IfOk result (λ takes. OnFalse takes (HasRead self.new bodies)) }
+        ensures refused { IfOk result (λ takes. OnFalse takes (¬ CanTurn self.old body.now)) }
     {
         let Some(turn) = turn_of(alloc, body.clock, parts)? else {
             return Ok(false);

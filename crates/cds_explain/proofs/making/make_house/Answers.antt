@@ -18,9 +18,9 @@ returns-clause-done c = λ places made.
     let log = c.index-logs-place.result in
     let does = c.in_ok-make.ensures.done made.cs made.has_done in
     made_more c.args.replay.now c.make.new.self logs places c.args.place log made
-    (slice_get_read logs _ c.args.place log refl (omega arith) c.index-logs-place.is) c.in_default.ensures does
+    (slice_get_read logs _ c.args.place log refl (omega arith) c.index-logs-place.is) c.in_default.ensures.house does
     (subst (λ (o : Option (List ℕ)). IfSome o (λ i. image_in (replay (made.cs ++ House log.house.0 log.node ∷ [])) log.house.0 ≡ i)) c.as_ref.ensures.value
-    (c.in_ok-compare_shown.ensures (replay (made.cs ++ House log.house.0 log.node ∷ [])) does.has_done.stands))
+    (c.in_ok-compare_shown.ensures.same (replay (made.cs ++ House log.house.0 log.node ∷ [])) does.has_done.stands))
 
 pub returns-in_err-compare_shown-clause-stopped : goal.returns-in_err-compare_shown-clause-stopped
 returns-in_err-compare_shown-clause-stopped c = λ places made.

@@ -29,4 +29,4 @@ returns-clause-done c = λ cs has.
     in
     start_done old mid c.push.new.self cs h c.deref.result.now c.args.image.now has stepped c.in_ok-push.ensures.text c.push.ensures.lines
     c.push.ensures.replayer (subst (λ (octets : List ℕ). SaysCommand octets (command.Start h)) (sym c.deref.ensures.value) says)
-    (c.in_ok-compare_image.ensures (outcome (replay cs) (model.Start h.0)).cell stepped.step.stands)
+    (c.in_ok-compare_image.ensures.same (outcome (replay cs) (model.Start h.0)).cell stepped.step.stands)

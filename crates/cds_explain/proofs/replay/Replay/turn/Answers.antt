@@ -1,4 +1,4 @@
-use Rattle.std.proofs.Common.{◌≡◌, ◌∷◌, ◌++◌, [], List, ℕ, Option, subst, sym, ◌∙◌}
+use Rattle.std.proofs.Common.{◌≡◌, ◌∷◌, ◌++◌, [], List, ℕ, Option, refl, subst, sym, ◌∙◌}
 use Rattle.std.specs.Prelude.{IfSome}
 use Rattle.cell_runs.specs.Views.{image_in}
 use Rattle.cds_stamps.specs.Members.{members_of}
@@ -37,19 +37,19 @@ returns-clause-done c = λ cs has ready clock.
     let is = said_has (λ (s : Said). IsCommandOf h t.order c.args.serial s.command) o said there known.is in
     let members = c.in_ok-before.ensures g (told _ old.replayer.cell g c.cell.ensures has.stands) in
     let first = c.posted-first.ensures.model g (told _ old.replayer.cell g c.cell-2.ensures has.stands) in
-    let answer = c.in_ok-compare_answer.ensures in
+    let answer = c.in_ok-compare_answer.ensures.same in
     let lists =
     subst (λ xs. IsListedAs after t.order (members_of xs)) c.deref.ensures.value
     (c.if-not-is_given.ensures after (told _ mid.replayer.cell after c.cell-3.ensures stands))
     in
     let posted =
     subst (λ ps. ArePostedAfter after c.posted-first.result ps) c.deref-2.ensures.value
-    (c.if-not-are_posted.ensures after (told _ mid.replayer.cell after c.cell-4.ensures stands))
+    ((c.if-not-are_posted.ensures after (told _ mid.replayer.cell after c.cell-4.ensures stands)).0 refl)
     in
     let posts = subst (λ (n : ℕ). ArePostedAfter after n t.posts.items) first posted in
     let image =
     subst (λ (o : Option (List ℕ)). IfSome o (λ i. image_in after h.0 ≡ i)) c.as_ref.ensures.value
-    (c.in_ok-compare_shown.ensures after stands)
+    (c.in_ok-compare_shown.ensures.same after stands)
     in
     let text : c.push.new.self.text.items ≡ mid.text.items ++ (c.deref-3.result.now ++ 10 ∷ []) = cc (c.in_ok-push.ensures.text, c.note.ensures.text) in
     turn_done old mid c.push.new.self cs said.command c.deref-3.result.now h t c.args.serial (members_of c.in_ok-before.before.items) c.in_ok-answer.answer

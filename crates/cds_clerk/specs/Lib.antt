@@ -1,0 +1,3 @@
+pub mod Heards
+pub mod Agreements
+pub mod Readings

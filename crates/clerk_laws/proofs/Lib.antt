@@ -1,0 +1,3 @@
+pub mod FaceValues
+pub mod FaceLeads
+pub mod ShowsRead

@@ -1,0 +1,5 @@
+use Rattle.clerk_laws.proofs.ShowsRead.{show_heard}
+use Rattle.clerk_laws.proofs.shows_are_read_back.Goals as goal
+
+pub returns : goal.returns
+returns c = show_heard

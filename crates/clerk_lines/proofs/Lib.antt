@@ -1,0 +1,6 @@
+pub mod Rising
+pub mod Adding
+pub mod WordTexts
+pub mod AnswerTexts
+pub mod ReadBack
+mod Examples

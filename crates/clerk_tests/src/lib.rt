@@ -1,0 +1,8 @@
+//! Tests of a clerk, of what no clause says: calls that take memory answer a value where there is
+//! enough.
+#![tactic(auto)]
+
+#[cfg(test)]
+mod lines;
+#[cfg(test)]
+mod reads;
