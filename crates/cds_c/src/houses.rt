@@ -1,11 +1,10 @@
 // The calls of a house.
 ghost use Rattle.std.specs.Prelude.{◌≡◌, ◌≢◌, ◌⊎◌, IfSome, None, Some, false, length, true};
 ghost use Rattle.form_calls.specs.Calls.{put_into};
-ghost use Rattle.house_turns.specs.Openings.{Differs, IsSegmentRecord, MayEnd, Redoes, Resumes, new_house};
+ghost use Rattle.house_turns.specs.Openings.{IsSegmentRecord, MayEnd, Redoes, Resumes, new_house};
 ghost use Rattle.house_turns.specs.declared.house.House.{House};
 ghost use Rattle.house_sessions.specs.Refusals.{why_no_line, why_not, why_not_first};
 ghost use Rattle.house_sessions.specs.Steps.{IsSaid, IsSpent, IsStarted, at_first};
-ghost use Rattle.house_sessions.specs.declared.fault.SessionFault.TheVariants as why;
 ghost use Rattle.house_sessions.specs.declared.session.Session.{Session as Session'};
 ghost use Rattle.cds_c.specs.Codes.{Holds};
 ghost use Rattle.cds_c.specs.Codes as codes;
@@ -31,7 +30,6 @@ const NONE_WAITS: u32 = 24;
 fn code_of(fault: SessionFault) -> u32
     ensures code { result ≡ codes.code_of fault }
     ensures fails { result ≢ 0 }
-    ensures no_record { result ≡ 18 → fault ≡ why.NoRecord }
 {
     match fault {
         SessionFault::OutOfMemory => NO_MEMORY,
@@ -118,8 +116,6 @@ pub extern "C" fn cds_house_redo(alloc: Global, handle: &mut HouseHandle, record
     ensures ok { (s : Session') → handle.old.held ≡ Some s → result ≡ 0
         → Holds handle.new.held (λ t. (why_not_first s.stage ≡ None)
         × Redoes s.house record.now t.house × (t ≡ record s { house = t.house })) }
-    ensures differs { (s : Session') → handle.old.held ≡ Some s → result ≡ 18
-        → Differs s.house record.now }
     ensures refused { (s : Session') → handle.old.held ≡ Some s → IfSome (why_not_first s.stage)
         (λ f. (result ≡ codes.code_of f) × (handle.new.held ≡ Some s)) }
     ensures spent { (s : Session') → handle.old.held ≡ Some s → why_not_first s.stage ≡ None
