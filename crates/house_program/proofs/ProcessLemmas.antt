@@ -370,10 +370,12 @@ module _ (kept0 ever0 kept ever : Files → Type 0) (found : Found) (opened : Ho
         append_assoc (first_bodies next) (bodies_of d.turns) d.over
         ∙ ap (λ (l : List (List ℕ)). first_bodies next ++ l)
         (ap (λ (l : List (List ℕ)). bodies_of d.turns ++ l) (n.bodies ∙ sym (append-nil (bodies_in n.said.body))) ∙ sym (bodies-append d.turns (turn ∷ []))) in
-        NoNext segments (segment_with d.turns) (segment_with turns) turn refl refl (ends_with turns n.next talk)
-        (octets_ahead lines', subst (λ (x : Option (List ℕ)). GrowsByReading x run.left' [] (lines_text (turns_in after_it) ++ ((n.line ++ 10 ∷ []) ++ octets_ahead lines'))) (sym from)
-        (subst (λ (x : Option (List ℕ)). GrowsByReading left x [] (lines_text (turns_in after_it) ++ ((n.line ++ 10 ∷ []) ++ octets_ahead lines'))) (sym to)
-        (subst (λ (l : List ℕ). GrowsByReading left left'' [] (lines_text (turns_in after_it) ++ (l ++ octets_ahead lines'))) c.lacks.line (read_on (c.one ++ octets_ahead lines') c.read))))
+        NoNext segments (segment_with d.turns) (segment_with turns) turn refl refl (ends_with turns n.next talk) (
+          octets_ahead lines',
+          subst (λ (x : Option (List ℕ)). GrowsByReading x run.left' [] (lines_text (turns_in after_it) ++ ((n.line ++ 10 ∷ []) ++ octets_ahead lines'))) (sym from)
+              (subst (λ (x : Option (List ℕ)). GrowsByReading left x [] (lines_text (turns_in after_it) ++ ((n.line ++ 10 ∷ []) ++ octets_ahead lines'))) (sym to)
+              (subst (λ (l : List ℕ). GrowsByReading left left'' [] (lines_text (turns_in after_it) ++ (l ++ octets_ahead lines'))) c.lacks.line (read_on (c.one ++ octets_ahead lines') c.read))),
+        )
         (sized turns (subst (λ (l : List (List ℕ)). 2 ^ 40 < size_with l) bodies c.lacks.large))
 
     -- the next line is none
@@ -662,8 +664,13 @@ module _ (kept0 ever0 kept ever kept' ever' : Files → Type 0) (left left' left
       inr (rests kept0 ever0 kept' ever' l.found l.opened l.said whole_run lines' _ _ _ _
       (passes kept0 ever0 kept ever l.found l.opened l.said left left' written written' lines l.segments l.prior house l.text l.unsaid next l.made l.ready
       kept' ever' house' lines' left'' written'' reads reads' writes writes' result d x is grown) kept' ever' status may.not_ok may.not_faulty
-      (λ full. let large = may.full full in let at = l.ready.number in omega (arith, large, at, length-append l.segments
-      (segment_with kept0 ever0 kept ever l.found l.opened l.said left left' written written' lines l.segments l.prior house l.text l.unsaid next l.made l.ready d.turns ∷ [])))
+      (λ full. let large = may.full full in let at = l.ready.number in omega (
+        arith,
+        large,
+        at,
+        length-append l.segments
+            (segment_with kept0 ever0 kept ever l.found l.opened l.said left left' written written' lines l.segments l.prior house l.text l.unsaid next l.made l.ready d.turns ∷ []),
+      ))
       (λ f k. k) (λ f e. e))
 
 -- ---- errors

@@ -132,4 +132,3 @@ pub record SegmentDone (kept ever kept' ever' : Files → Type 0) (next : Next)
   pub due : (left : Left) → result ≡ Ok left
       → EndsDue (first_bodies next) next.said.items turns over text at lines lines' run left.ending
   pub unmade : (status : Status) → result ≡ Err status → IsUnmade next turns status
-
