@@ -1,9 +1,8 @@
 #!/usr/bin/env python3
 """server.py FOLDER: a house like `cdshouse FOLDER`, as a program in Python over the library, with a disk of its own.
 
-It reads lines and writes answers (docs/LINES.md). Its folder has what `cdshouse` would keep there, so that `cdsexplain` explains it, and
-`tools/cell CELL --program examples/embedded/server.py` runs houses of it: the cell is its net.
-"""
+It reads lines and writes answers (docs/LINES.md). Its folder has what `cdshouse` would keep there, so that `cdsexplain`
+explains it, and `tools/cell CELL --program examples/embedded/server.py` runs houses of it: the cell is its net. """
 
 from __future__ import annotations
 

@@ -1,4 +1,5 @@
-"""A house that its caller steps, by the library for C: he keeps its records on a disk of his own, and carries its messages."""
+"""A house that its caller steps, by the library for C: he keeps its records on a disk of his own, and carries its
+messages."""
 
 from __future__ import annotations
 
@@ -99,7 +100,8 @@ class House:
     """A house between two lines. It is for the thread that made it."""
 
     def __init__(self, records: Iterable[bytes] = (), found: Library | None = None) -> None:
-        """A house that has no record yet, or the one that goes on from all records of its last segment. `start` is next."""
+        """A house that has no record yet, or the one that goes on from all records of its last segment. `start` is
+        next."""
         self._calls = house_calls(found or library())
         self._handle, self._thread, left = Handle(), threading.get_ident(), iter(records)
         first = next(left, None)
@@ -173,7 +175,9 @@ class House:
     def __enter__(self) -> House:
         return self
 
-    def __exit__(self, kind: type[BaseException] | None, error: BaseException | None, trace: TracebackType | None) -> None:
+    def __exit__(
+        self, kind: type[BaseException] | None, error: BaseException | None, trace: TracebackType | None
+    ) -> None:
         self.close()
 
 

@@ -1,4 +1,5 @@
-"""Tests of a house in Python: `python3 -m unittest cds.test_houses` in the folder above, with CDS_LIBRARY if the library is elsewhere."""
+"""Tests of a house in Python: `python3 -m unittest cds.test_houses` in the folder above, with CDS_LIBRARY if the
+library is elsewhere."""
 
 from __future__ import annotations
 
