@@ -1,5 +1,7 @@
-//! server FOLDER: a house like `cdshouse FOLDER`, as a program in plain Rust over the library, with a disk of its own.
-//! It reads lines and writes answers (docs/LINES.md); `cdsexplain` explains its folder. It locks nothing: run one on a folder.
+//! server FOLDER [OCTETS]: a house like `cdshouse FOLDER`, as a program in plain Rust over the library, with a disk of its own.
+//! It reads lines and writes answers (docs/LINES.md); `cdsexplain` explains its folder. A segment is changed after so many
+//! octets, or three times those that it began with. It ends with 3 after octets that are no line, and with 8 if its disk or its
+//! output fails. It locks nothing: run one on a folder.
 //!
 //!     rustc --edition 2021 -O --crate-type rlib --crate-name cds rust/cds/src/lib.rs
 //!     rustc --edition 2021 -O server.rs --extern cds=libcds.rlib -L lib -l static=cds -o server
@@ -21,30 +23,43 @@ struct Disk {
     sum: [u8; 32],
     file: Option<File>,
     size: u64,
+    least: u64,
+    most: u64,
 }
 
 impl Disk {
-    fn open(folder: PathBuf) -> io::Result<Disk> {
+    fn open(folder: PathBuf, least: u64) -> io::Result<Disk> {
         let names = fs::read_dir(&folder)?.filter_map(|it| it.ok()?.file_name().to_str()?.parse().ok());
         let number = names.max().unwrap_or(0);
-        let mut disk = Disk { folder, number, records: Vec::new(), sum: [0; 32], file: None, size: 0 };
+        let mut disk = Disk { folder, number, records: Vec::new(), sum: [0; 32], file: None, size: 0, least, most: 0 };
+        // (an earlier process may have died in front of a sync)
+        File::open(&disk.folder)?.sync_all()?;
         if number > 0 {
-            disk.read(&fs::read(disk.folder.join(number.to_string()))?);
-            File::open(disk.folder.join(number.to_string()))?.sync_all()?;
+            let path = disk.folder.join(number.to_string());
+            File::open(&path)?.sync_all()?;
+            disk.read(&fs::read(path)?).ok_or(io::ErrorKind::InvalidData)?;
         }
         Ok(disk)
     }
 
-    /// Reads a segment: its head, in which the sum before it is, and its records.
-    fn read(&mut self, octets: &[u8]) {
+    /// Reads a segment: its head, in which the sum before it is, and its records; none if it is damaged.
+    fn read(&mut self, octets: &[u8]) -> Option<()> {
         let mut rest = octets;
-        while let [1, a, b, c, d, e, f, g, h, behind @ ..] = rest {
-            let (record, later) = behind.split_at(u64::from_be_bytes([*a, *b, *c, *d, *e, *f, *g, *h]) as usize);
-            self.records.push(record[..record.len() - 32].to_vec());
-            self.sum.copy_from_slice(&record[record.len() - 32..]);
+        while let (1, behind) = (rest.first()?, &rest[1..]) {
+            let (size, behind) = behind.split_first_chunk()?;
+            let (record, later) = behind.split_at_checked(u64::from_be_bytes(*size) as usize)?;
+            let (body, sum) = record.split_last_chunk::<32>()?;
+            let before = if rest.len() == octets.len() { *body.last_chunk()? } else { self.sum };
+            self.sum = sha256(&[&before, body].concat());
+            if self.sum != *sum {
+                return None;
+            }
+            self.records.push(body.to_vec());
             rest = later;
         }
-        self.records.remove(0);
+        // (the head is no record of the house, and a segment has one beside)
+        self.records = self.records.split_off(1.min(self.records.len()));
+        (!self.records.is_empty()).then_some(())
     }
 
     /// A record with its length and its sum, as it is after the gate.
@@ -59,12 +74,13 @@ impl Disk {
         let head = [format!("cdshouse journal 2 {}\n", self.number).as_bytes(), &self.sum].concat();
         let octets = [&[1], self.summed(&head).as_slice(), &[1], self.summed(body).as_slice(), &[0]].concat();
         let (new, path) = (self.folder.join("new"), self.folder.join(self.number.to_string()));
-        let mut file = OpenOptions::new().create(true).truncate(true).read(true).write(true).open(&new)?;
-        file.write_all(&octets)?;
+        let file = OpenOptions::new().create(true).truncate(true).write(true).open(&new)?;
+        file.write_all_at(&octets, 0)?;
         file.sync_all()?;
         fs::rename(new, path)?;
         File::open(&self.folder)?.sync_all()?;
         (self.file, self.size) = (Some(file), octets.len() as u64);
+        self.most = self.least.max(3 * self.size);
         Ok(())
     }
 
@@ -81,9 +97,19 @@ impl Disk {
     }
 }
 
-fn main() -> io::Result<ExitCode> {
+fn main() -> ExitCode {
+    serve().unwrap_or_else(|fault| {
+        eprintln!("server: {fault}");
+        let of_disk = !matches!(fault.kind(), io::ErrorKind::Other | io::ErrorKind::InvalidData);
+        ExitCode::from(if of_disk { 8 } else { 1 })
+    })
+}
+
+/// Serves lines until they end.
+fn serve() -> io::Result<ExitCode> {
     let failed = |fault: HouseFault| io::Error::other(fault.to_string());
-    let mut disk = Disk::open(std::env::args_os().nth(1).unwrap_or_default().into())?;
+    let least = std::env::args().nth(2).and_then(|it| it.parse().ok()).unwrap_or(MOST);
+    let mut disk = Disk::open(std::env::args_os().nth(1).unwrap_or_default().into(), least)?;
     let mut house = House::open(&disk.records).map_err(failed)?;
     let (mut lines, mut out) = (io::stdin().lock(), io::stdout());
     let started = house.start().map_err(failed)?;
@@ -92,7 +118,7 @@ fn main() -> io::Result<ExitCode> {
     loop {
         out.write_all(&text)?;
         out.flush()?;
-        if disk.size > MOST {
+        if disk.size > disk.most {
             let begun = house.next_segment().map_err(failed)?;
             disk.begin(begun.record().unwrap_or_default())?;
             begun.kept().map_err(failed)?;
