@@ -1,11 +1,10 @@
 #!/usr/bin/env python3
-"""server.py FOLDER [OCTETS]: a house like `cdshouse FOLDER`, as a program in Python over the library, with a disk of its
-own.
+"""server.py FOLDER [OCTETS]: a house like `cdshouse FOLDER`, as a program in Python over the library.
 
-It reads lines and writes answers (docs/LINES.md). Its folder has what `cdshouse` would keep there, so that `cdsexplain`
-explains it, and `tools/cell CELL --program examples/embedded/server.py` runs houses of it: the cell is its net. A
-segment is changed after so many octets, or three times those that it began with. It ends with 3 after octets that are
-no line, and with 8 if its disk or its output fails. """
+It has a disk of its own, reads lines and writes answers (docs/LINES.md). Its folder has what `cdshouse` would keep
+there, so that `cdsexplain` explains it, and `tools/cell CELL --program examples/embedded/server.py` runs houses of it:
+the cell is its net. A segment is changed after so many octets, or three times those that it began with. It ends with 3
+after octets that are no line, and with 8 if its disk or its output fails."""
 
 from __future__ import annotations
 
