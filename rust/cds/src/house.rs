@@ -74,6 +74,12 @@ fn done(code: u32) -> Result<(), HouseFault> {
 }
 
 /// A house between two lines. It stays on the thread that made it.
+///
+/// ```compile_fail,E0277
+/// let mut house = cds::House::new()?;
+/// std::thread::scope(|it| it.spawn(|| house.start().is_ok()).join().is_ok());
+/// # Ok::<(), cds::HouseFault>(())
+/// ```
 pub struct House {
     handle: Handle,
     // (neither Send nor Sync)
@@ -89,6 +95,30 @@ impl Drop for House {
 }
 
 /// What a line or a start came to. It borrows the house: the next call waits until it was kept.
+///
+/// ```
+/// let mut house = cds::House::new()?;
+/// assert_eq!(house.start()?.kept()?, b"0 new\n");
+/// # Ok::<(), cds::HouseFault>(())
+/// ```
+///
+/// Another call in front of `kept` does not compile, and neither does a second `kept`:
+///
+/// ```compile_fail,E0499
+/// let mut house = cds::House::new()?;
+/// let reply = house.start()?;
+/// house.line(b"root")?;
+/// reply.kept()?;
+/// # Ok::<(), cds::HouseFault>(())
+/// ```
+///
+/// ```compile_fail,E0382
+/// let mut house = cds::House::new()?;
+/// let reply = house.start()?;
+/// reply.kept()?;
+/// reply.kept()?;
+/// # Ok::<(), cds::HouseFault>(())
+/// ```
 #[must_use = "what was said comes out of `kept`"]
 pub struct Reply<'a> {
     house: &'a mut House,
