@@ -3,6 +3,7 @@ certificate of a machine lets it send. A transport whose programs are not there 
 from __future__ import annotations
 
 import os
+import re
 import shutil
 import subprocess
 import tempfile
@@ -20,6 +21,8 @@ from cds.programs import compiled
 
 INTERFACE = "a0000000-0000-0000-0000-000000000001:1.0"
 LONGEST = 30.0
+# An answer to a line of a door, which numbers what it sends.
+NUMBERED = re.compile(r"\d+\.\d+ ")
 
 
 class Stranger(Machines):
@@ -51,8 +54,8 @@ class Line:
         except BrokenPipeError:
             return told
         for text in self.child.stdout:
-            # (where in the journal an answer is)
-            if not text.startswith("at "):
+            # (where in the journal an answer is; and over a broker, what the machine's own door is answered)
+            if not text.startswith("at ") and not NUMBERED.match(text):
                 told.append(text.rstrip("\n"))
                 if told[-1].split(" ")[0] in ENDS:
                     break

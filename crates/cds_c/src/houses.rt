@@ -1,9 +1,10 @@
 // The calls of a house.
-ghost use Rattle.std.specs.Prelude.{◌≡◌, ◌≢◌, ◌⊎◌, IfSome, None, Some, false, length, true};
+ghost use Rattle.std.specs.Prelude.{◌≡◌, ◌≢◌, ◌⊎◌, [], IfSome, None, Some, false, is_some, length, true};
 ghost use Rattle.form_calls.specs.Calls.{put_into};
-ghost use Rattle.house_turns.specs.Openings.{IsSegmentRecord, MayEnd, Redoes, Resumes, new_house};
+ghost use Rattle.house_turns.specs.Openings.{Differs, IsSegmentRecord, MayEnd, Redoes, Resumes, new_house};
 ghost use Rattle.house_turns.specs.declared.house.House.{House};
 ghost use Rattle.house_sessions.specs.Refusals.{why_no_line, why_not, why_not_first};
+ghost use Rattle.house_sessions.specs.declared.fault.SessionFault.TheVariants as why;
 ghost use Rattle.house_sessions.specs.Steps.{IsSaid, IsSpent, IsStarted, at_first};
 ghost use Rattle.house_sessions.specs.declared.session.Session.{Session as Session'};
 ghost use Rattle.cds_c.specs.Codes.{Holds};
@@ -30,6 +31,7 @@ const NONE_WAITS: u32 = 24;
 fn code_of(fault: SessionFault) -> u32
     ensures code { result ≡ codes.code_of fault }
     ensures fails { result ≢ 0 }
+    ensures none { result ≡ 18 → fault ≡ why.NoRecord }
 {
     match fault {
         SessionFault::OutOfMemory => NO_MEMORY,
@@ -118,6 +120,8 @@ pub extern "C" fn cds_house_redo(alloc: Global, handle: &mut HouseHandle, record
         × Redoes s.house record.now t.house × (t ≡ record s { house = t.house })) }
     ensures refused { (s : Session') → handle.old.held ≡ Some s → IfSome (why_not_first s.stage)
         (λ f. (result ≡ codes.code_of f) × (handle.new.held ≡ Some s)) }
+    ensures differs { (s : Session') → handle.old.held ≡ Some s → why_not_first s.stage ≡ None
+        → result ≡ 18 → Differs s.house record.now }
     ensures spent { (s : Session') → handle.old.held ≡ Some s → why_not_first s.stage ≡ None
         → result ≢ 0 → ((result ≡ 6) ⊎ (result ≡ 18)) × Holds handle.new.held IsSpent }
 {
@@ -198,6 +202,7 @@ pub extern "C" fn cds_house_next_segment(alloc: Global, handle: &mut HouseHandle
     ensures empty { handle.old.held ≡ None → (result ≡ 16) × (handle.new.held ≡ None) }
     ensures ok { (s : Session') → handle.old.held ≡ Some s → result ≡ 0
         → Holds handle.new.held (λ t. (why_not s.stage s.body ≡ None)
+        × (is_some t.body ≡ true) × (t ≡ record s { text = []; body = t.body })
         × IfSome t.body (IsSegmentRecord s.house)) }
     ensures refused { (s : Session') → handle.old.held ≡ Some s → IfSome (why_not s.stage s.body)
         (λ f. (result ≡ codes.code_of f) × (handle.new.held ≡ Some s)) }
@@ -223,7 +228,7 @@ pub extern "C" fn cds_house_next_segment(alloc: Global, handle: &mut HouseHandle
 fn say(octets: &[u8], out: &mut [u8], len: &mut usize) -> u32
     ensures put { out.new ≡ put_into out.old octets.now }
     ensures counted { len.new ≡ length octets.now }
-    ensures code { (result ≡ 0) ⊎ (result ≡ 5) }
+    ensures code { result ≡ codes.room_code (length out.old) octets.now }
 {
     *len = octets.len();
     put(octets, out);
@@ -243,11 +248,13 @@ pub extern "C" fn cds_house_record(
     len: &mut usize,
 ) -> u32
     ensures same { handle.new.held ≡ handle.old.held }
-    ensures empty { handle.old.held ≡ None → result ≡ 16 }
-    ensures none { (s : Session') → handle.old.held ≡ Some s → s.body ≡ None → result ≡ 24 }
+    ensures empty { handle.old.held ≡ None
+        → (result ≡ 16) × (out.new ≡ out.old) × (len.new ≡ 0) }
+    ensures none { (s : Session') → handle.old.held ≡ Some s → s.body ≡ None
+        → (result ≡ 24) × (out.new ≡ out.old) × (len.new ≡ 0) }
     ensures some { (s : Session') → handle.old.held ≡ Some s → IfSome s.body
         (λ body. (out.new ≡ put_into out.old body) × (len.new ≡ length body)
-        × ((result ≡ 0) ⊎ (result ≡ 5))) }
+        × (result ≡ codes.room_code (length out.old) body)) }
 {
     *len = 0;
     let Some(session) = handle.take(alloc) else {
@@ -266,7 +273,7 @@ pub extern "C" fn cds_house_record(
 pub extern "C" fn cds_house_kept(alloc: Global, handle: &mut HouseHandle) -> u32
     ensures empty { handle.old.held ≡ None → (result ≡ 16) × (handle.new.held ≡ None) }
     ensures ok { (s : Session') → handle.old.held ≡ Some s → result ≡ 0
-        → handle.new.held ≡ Some (record s { body = None }) }
+        → (is_some s.body ≡ true) × (handle.new.held ≡ Some (record s { body = None })) }
     ensures none { (s : Session') → handle.old.held ≡ Some s → result ≢ 0
         → (result ≡ 24) × (s.body ≡ None) × (handle.new.held ≡ Some s) }
 {
@@ -294,13 +301,14 @@ pub extern "C" fn cds_house_text(
     out: &mut [u8],
     len: &mut usize,
 ) -> u32
-    ensures empty { handle.old.held ≡ None → result ≡ 16 }
+    ensures empty { handle.old.held ≡ None
+        → (result ≡ 16) × (out.new ≡ out.old) × (len.new ≡ 0) }
     ensures same { handle.new.held ≡ handle.old.held }
     ensures refused { (s : Session') → handle.old.held ≡ Some s → IfSome (why_not s.stage s.body)
-        (λ f. (result ≡ codes.code_of f) × (out.new ≡ out.old)) }
+        (λ f. (result ≡ codes.code_of f) × (out.new ≡ out.old) × (len.new ≡ 0)) }
     ensures said { (s : Session') → handle.old.held ≡ Some s → why_not s.stage s.body ≡ None
         → (out.new ≡ put_into out.old s.text) × (len.new ≡ length s.text)
-        × ((result ≡ 0) ⊎ (result ≡ 5)) }
+        × (result ≡ codes.room_code (length out.old) s.text) }
 {
     *len = 0;
     let Some(session) = handle.take(alloc) else {
