@@ -11,7 +11,7 @@ use Rattle.house_journal.specs.declared.journal.JournalFault.{JournalFault}
 use Rattle.house_journal.specs.declared.journal.JournalFault.TheVariants as journal
 use Rattle.house_journal.specs.JournalRecords.{images}
 use Rattle.house_segments.specs.Chains.{chained}
-use Rattle.house_segments.specs.Reading.{IsLast, IsSegment}
+use Rattle.house_segments.specs.Reading.{EndedLater, IsLast, IsSegment, end_of}
 use Rattle.house_segments.specs.Segments.{HasFaultCause}
 use Rattle.house_serving.specs.Ending.{HasEndingCause}
 use Rattle.house_serving.specs.declared.ending.Ending.{Ending}
@@ -19,7 +19,7 @@ use Rattle.house_serving.specs.declared.ending.Ending.TheVariants as endings
 use Rattle.house_turns.specs.Openings.{Differs, MayEnd, RedoneBy, Resumes}
 use Rattle.house_turns.specs.declared.house.House.{House}
 use Rattle.house_program.specs.Beginnings.{FindsSo, IsLastSegment, begins_otherwise, body_in, status_not_read}
-use Rattle.house_program.specs.Causes.{CannotGoOn, Counts, DoesAnother, DoesOther, HasCause, HasFolderEnd, HasSegmentCause, HeadAlone, IsRefused, NoHouse, NoHouseOf, NoSegment, NoneResumes, Unlawful}
+use Rattle.house_program.specs.Causes.{CannotGoOn, Counts, DoesAnother, DoesOther, HasCause, HasFolderEnd, HasSegmentCause, HeadAlone, IsRefused, IsWholeSegment, NoHouse, NoHouseOf, NoSegment, NoneResumes, Unlawful}
 use Rattle.house_program.specs.Files.{CountsFile, Files, RoseAt, last_file}
 use Rattle.house_program.specs.Statuses.{ends_by_disk, is_disk_fault, status_after, status_not_begun, status_of, status_of_folder}
 use Rattle.house_program.specs.declared.folder.FolderCounts.{FolderCounts}
@@ -129,7 +129,7 @@ by_house kept b n records _ calm r (Unlawful first others begun at split resumes
 by_reason : (kept : Files → Type 0) (b n : Counts) (number : ℕ) (octets : List ℕ) (s : Status) → n ≡ b → IsRefused kept s
     → CannotGoOn number octets s → HasCause (IsRefused kept) b n s
 by_reason kept b n number octets s calm r (NoSegment bad is) = by_version kept b n s (begins_otherwise (images octets)) calm is r
-by_reason kept b n number octets s calm r (NoHouse head records split bad) = by_house kept b n records s calm r bad
+by_reason kept b n number octets s calm r (NoHouse whole head records split bad) = by_house kept b n records s calm r bad
 
 pub folder_end : (kept : Files → Type 0) (r r' w w' : ℕ) (f f' : FolderCounts) (s : Status) → r' ≡ r → w' ≡ w → HasFolderEnd (IsRefused kept) f f' s
     → HasCause (IsRefused kept) (counts r w f) (counts r' w' f') s
@@ -287,6 +287,12 @@ none_ended records first others body begun at r split one resumes redone why =
 
 -- ---- the octets of a segment
 
+-- octets of which the last record was found are a whole segment
+pub whole_segment : (number : ℕ) (title octets body digest : List ℕ) → title ≡ head_of number [] → IsLast title (images octets) body digest
+    → (EndedLater digest (end_of octets) → ⊥) → IsWholeSegment number octets
+whole_segment number title octets body digest head last ended =
+    record { body = body; digest = digest; last = subst (λ (t : List ℕ). IsLast t (images octets) body digest) head last; ended = ended }
+
 -- memory ran out, or no house goes on
 abbrev pub NoneFor : (number : ℕ) → (octets : List ℕ) → Status → Type 0
 NoneFor number octets s = (s ≡ statuses.OutOfMemory) ⊎ CannotGoOn number octets s
@@ -295,11 +301,11 @@ pub no_segment : (number : ℕ) (title octets : List ℕ) (s : Status) → title
     → s ≡ status_not_read (images octets) → NoneFor number octets s
 no_segment number title octets s head bad is = inr (NoSegment (subst (λ (t : List ℕ). IsSegment t octets → ⊥) head bad) is)
 
-pub no_house : (number : ℕ) (octets head records : List ℕ) (e s : Status) → images octets ≡ head ∷ images records → NoHouseFor records e → s ≡ e
-    → NoneFor number octets s
-no_house number octets head records e s split (inl memory) same = inl (same ∙ memory)
-no_house number octets head records e s split (inr bad) same =
-    inr (NoHouse head (images records) split (subst (NoHouseOf (images records)) (sym same) bad))
+pub no_house : (number : ℕ) (octets head records : List ℕ) (e s : Status) → IsWholeSegment number octets → images octets ≡ head ∷ images records
+    → NoHouseFor records e → s ≡ e → NoneFor number octets s
+no_house number octets head records e s whole split (inl memory) same = inl (same ∙ memory)
+no_house number octets head records e s whole split (inr bad) same =
+    inr (NoHouse whole head (images records) split (subst (NoHouseOf (images records)) (sym same) bad))
 
 -- a segment has a head
 has_head : {A : Type 0} (title : List ℕ) (records : List (List ℕ)) (last digest : List ℕ) → IsLast title records last digest → records ≡ [] → A
@@ -361,7 +367,7 @@ house_plain records _ (Unlawful first others begun at split resumes redone bad) 
 
 why_plain : (number : ℕ) (octets : List ℕ) (s : Status) → CannotGoOn number octets s → IsPlain s
 why_plain number octets s (NoSegment bad is) = by_version_plain (begins_otherwise (images octets)) s is
-why_plain number octets s (NoHouse head records split bad) = house_plain records s bad
+why_plain number octets s (NoHouse whole head records split bad) = house_plain records s bad
 
 pub unread_plain : (kept : Files → Type 0) (f f' : FolderCounts) (e s : Status) → HasFolderEnd (IsRefused kept) f f' e → s ≡ e → IsPlain s
 unread_plain kept f f' e s (inl x) is = folder_plain x.0 s (is ∙ x.1)

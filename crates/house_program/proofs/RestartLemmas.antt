@@ -54,7 +54,7 @@ goes_on_from number after s octets status has size began never (NoSegment bad is
       chain = chain;
       ends = λ later. never (record { before = after; others = segment_bodies s; size = size; chain = chain; later = later });
     }))
-goes_on_from number after s octets status has size began never (NoHouse head records split bad) =
+goes_on_from number after s octets status has size began never (NoHouse whole head records split bad) =
     let others : records ≡ chained (digest_after after (head_of number after)) (segment_bodies s) = ap tail_list (sym split ∙ has) in
     no_house records (segment_bodies s) status (ap (map body_in) others ∙ bodies_of_chain (digest_after after (head_of number after)) (segment_bodies s)) began bad
 

@@ -3,7 +3,7 @@ use Rattle.std.specs.Prelude.{◌≡◌, ◌⊎◌, ℕ, List, [], ◌∷◌, �
 use Rattle.cds_base.specs.Counts.{Rose}
 use Rattle.house_entries.specs.Bodies.{head_of}
 use Rattle.house_journal.specs.JournalRecords.{images}
-use Rattle.house_segments.specs.Reading.{IsSegment}
+use Rattle.house_segments.specs.Reading.{EndedLater, IsLast, IsSegment, end_of}
 use Rattle.house_serving.specs.declared.ending.Ending.TheVariants as endings
 use Rattle.house_turns.specs.Openings.{Differs, MayEnd, RedoneBy, Resumes}
 use Rattle.house_turns.specs.declared.house.House.{House}
@@ -43,13 +43,22 @@ pub data NoHouseOf (records : List (List ℕ)) : Status → Type 0 where
       → records ≡ first ∷ others → Resumes (body_in first) begun
       → RedoneBy begun (map body_in others) at → ¬ MayEnd at.home → NoHouseOf records statuses.BadFolder
 
+-- octets are records of a segment of this number that follow each other, and the list never ended
+-- later (own)
+pub record IsWholeSegment (number : ℕ) (octets : List ℕ) : Type 0 where
+  pub body : List ℕ
+  pub digest : List ℕ
+  pub last : IsLast (head_of number []) (images octets) body digest
+  pub ended : EndedLater digest (end_of octets) → ⊥
+
 -- no house goes on from the octets of a segment of this number, and the status says why: they are
 -- no segment; or no house goes on from the records after its head (own)
 pub data CannotGoOn (number : ℕ) (octets : List ℕ) (status : Status) : Type 0 where
   NoSegment : (IsSegment (head_of number []) octets → ⊥)
       → status ≡ status_not_read (images octets) → CannotGoOn number octets status
-  NoHouse : (head : List ℕ) (records : List (List ℕ)) → images octets ≡ head ∷ records
-      → NoHouseOf records status → CannotGoOn number octets status
+  NoHouse : IsWholeSegment number octets → (head : List ℕ) (records : List (List ℕ))
+      → images octets ≡ head ∷ records → NoHouseOf records status
+      → CannotGoOn number octets status
 
 -- no house goes on from the last file, which is this one, whatever a crash leaves (own)
 pub record IsRefused (kept : Files → Type 0) (status : Status) : Type 0 where
