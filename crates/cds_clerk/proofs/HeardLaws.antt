@@ -1,6 +1,10 @@
 -- What is seen by what was heard, and readers that agree with it.
-use Rattle.std.proofs.Common.{◌≡◌, ℕ, Bool, true, List, [], ◌∷◌, refl, sym, ap, subst, ◌∙◌}
-use Rattle.std.specs.Prelude.{Option, Some, None, unwrap_or}
+use Rattle.std.proofs.Common.{◌≡◌, ◌<◌, ℕ, zero, suc, Bool, true, false, List, [], ◌∷◌, length, map, refl, sym, ap, subst, ◌∙◌, arith}
+use Rattle.std.proofs.Math.ListN.{get_or}
+use Rattle.std.proofs.lemmas.Bool.Decides.{nat_tests}
+use Rattle.std.specs.Prelude.{◌==◌, ◌||◌, IfSome, Option, Some, None, unwrap_or}
+use Rattle.std.specs.List.{list_any}
+use Rattle.cds_stamps.specs.declared.numbers.HouseNo.{HouseNo}
 use Rattle.std.specs.Option.{option_map, option_map_or}
 use Rattle.cell_names.specs.ChildPointers.{Pointer}
 use Rattle.directory.specs.declared.entry.Kind.{Kind}
@@ -28,7 +32,7 @@ use Rattle.cds_clerk.specs.declared.heard.Looked.TheVariants as looked
 use Rattle.cds_clerk.specs.declared.walking.Walked.{Walked}
 use Rattle.cds_clerk.specs.declared.walking.Walked.TheVariants as walked
 use Rattle.cds_clerk.specs.Agreements.{Agrees, IfEnded}
-use Rattle.cds_clerk.specs.Heards.{IfSeen, heard_root, heard_sight, heard_values, lead_sight, near_of, seen_among, seen_by, seen_first, sight_after, told_of}
+use Rattle.cds_clerk.specs.Heards.{IfLacks, IfSeen, IsAmong, heard_root, heard_sight, heard_values, lead_sight, near_of, seen_among, seen_by, seen_first, sight_after, told_of}
 use Rattle.cds_clerk.specs.Readings.{IfFound, IsShown, least_reader, values_read}
 
 -- ---- looks
@@ -46,6 +50,36 @@ look_sees (looked.Lacks x) later seen is = tt
 -- what is known of a look that sees this
 pub if_seen : (l : Looked) (s : Seen) (P : Seen → Type 0) → l ≡ looked.Seen s → IfSeen l P → P s
 if_seen l s P is there = subst (λ (k : Looked). IfSeen k P) is there
+
+-- a number is the same as itself
+same_number : (n : ℕ) → (n == n) ≡ true
+same_number n = grind (arith, nat_tests)
+
+one_more : (a b : Bool) → b ≡ true → (a || b) ≡ true
+one_more true b is = refl
+one_more false b is = is
+
+first_one : (a b : Bool) → a ≡ true → (a || b) ≡ true
+first_one true b is = refl
+first_one false b is = absurd (cc)
+
+-- the house at a place of a list is among them
+among_at : (houses : List HouseNo) (i : ℕ) (d : HouseNo) → i < length houses → IsAmong (get_or houses i d).0 (map (λ h. h.0) houses)
+among_at [] i d under = absurd (omega arith)
+among_at (h ∷ hs) zero d under =
+    first_one (h.0 == h.0) (list_any (λ y. y == h.0) (map (λ h. h.0) hs)) (same_number h.0)
+among_at (h ∷ hs) (suc i) d under =
+    one_more (h.0 == (get_or hs i d).0) (list_any (λ y. y == (get_or hs i d).0) (map (λ h. h.0) hs)) (among_at hs i d (omega arith))
+
+-- so is what a look lacks, if it lacks what that house says
+pub lacks_among : (o : Option Looked) (l : Looked) (houses : List HouseNo) (i : ℕ) (d : HouseNo) → o ≡ Some l → i < length houses
+    → IfSome o (λ l. IfLacks l (λ x. x.0 ≡ (get_or houses i d).0)) → IfLacks l (λ x. IsAmong x.0 (map (λ h. h.0) houses))
+lacks_among None l houses i d is under of_house = absurd (cc)
+lacks_among (Some k) l houses i d is under of_house = by_look l (subst (λ (o : Option Looked). IfSome o (λ l. IfLacks l (λ x. x.0 ≡ (get_or houses i d).0))) is of_house)
+  where
+    by_look : (l : Looked) → IfLacks l (λ x. x.0 ≡ (get_or houses i d).0) → IfLacks l (λ x. IsAmong x.0 (map (λ h. h.0) houses))
+    by_look (looked.Seen s) same = tt
+    by_look (looked.Lacks x) same = subst (λ (n : ℕ). IsAmong n (map (λ h. h.0) houses)) (sym same) (among_at houses i d under)
 
 -- ---- walks
 

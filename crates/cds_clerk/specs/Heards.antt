@@ -1,5 +1,5 @@
 -- What a clerk heard of houses, and what that says of a name.
-use Rattle.std.specs.Prelude.{◌≡◌, ℕ, Bool, ◌&&◌, ◌==◌, if◌then◌else◌, List, [], ◌∷◌, nat_eq, Option, Some, None}
+use Rattle.std.specs.Prelude.{◌≡◌, ℕ, Bool, true, ◌&&◌, ◌==◌, if◌then◌else◌, List, [], ◌∷◌, nat_eq, Option, Some, None}
 use Rattle.std.specs.Cmp.Lexicographic.{pointwise}
 use Rattle.std.specs.List.{list_any}
 use Rattle.std.specs.Option.{option_and_then, option_map}
@@ -66,6 +66,10 @@ seen_among answers dir name (x ∷ xs) later =
 abbrev pub near_of : Option ℕ → List ℕ → Option ℕ
 near_of near houses =
     option_and_then (λ x. if list_any (λ y. y == x) houses then Some x else None) near
+
+-- a house is one of these
+abbrev pub IsAmong : (house : ℕ) → (houses : List ℕ) → Type 0
+IsAmong house houses = list_any (λ y. y == house) houses ≡ true
 
 -- by what this house said, if there is one, and by later ones
 abbrev pub seen_first : List Answered → (dir : ℕ) → (name : List ℕ) → Option ℕ

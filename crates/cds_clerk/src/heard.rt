@@ -4,7 +4,7 @@ ghost use Rattle.std.specs.List.{list_any};
 ghost use Rattle.std.specs.Option.{option_map};
 ghost use Rattle.cell_names.specs.ChildPointers.{pointer_in};
 ghost use Rattle.resolver.specs.Readers.{Sight, sight_of};
-ghost use Rattle.cds_clerk.specs.Heards.{IfLacks, IfSeen, heard_sight, is_about, lead_sight, near_of, seen_among, seen_by, seen_near, sight_after, told_of};
+ghost use Rattle.cds_clerk.specs.Heards.{IsAmong, IfLacks, IfSeen, heard_sight, is_about, lead_sight, near_of, seen_among, seen_by, seen_near, sight_after, told_of};
 
 use cds_stamps::{DirId, HouseNo, SimpleName};
 use cell_names::{ChildPointer, HouseList};
@@ -158,6 +158,7 @@ impl Heard {
             ≡ sight_after o later) }
         ensures lacks { IfOk result (λ o. IfSome o (λ l. IfLacks l (λ x.
             told_of self.now.answers dir.0 x.0 name.now ≡ None))) }
+        ensures house { IfOk result (λ o. IfSome o (λ l. IfLacks l (λ x. x.0 ≡ house.0))) }
     {
         match self.answers.told(dir, house, name) {
             None => Ok(Some(Looked::Lacks(house))),
@@ -181,6 +182,8 @@ impl Heard {
             ≡ sight_after o later) }
         ensures lacks { IfOk result (λ o. IfSome o (λ l. IfLacks l (λ x.
             told_of self.now.answers dir.0 x.0 name.now ≡ None))) }
+        ensures among { IfOk result (λ o. IfSome o (λ l. IfLacks l (λ x.
+            IsAmong x.0 (map (λ h. h.0) houses.now)))) }
     {
         for house in houses {
             if let Some(looked) = self.look_at(alloc, dir, *house, name)? {
@@ -203,6 +206,8 @@ impl Heard {
             (at.now.houses.master ∷ at.now.houses.others) later ≡ sight_after o later) }
         ensures lacks { IfOk result (λ o. IfSome o (λ l. IfLacks l (λ x.
             told_of self.now.answers at.now.dir.0 x.0 name.now ≡ None))) }
+        ensures listed { IfOk result (λ o. IfSome o (λ l. IfLacks l (λ x.
+            IsAmong x.0 (at.now.houses.master ∷ at.now.houses.others)))) }
     {
         match self.look_at(alloc, at.dir, at.houses.master(), name)? {
             Some(looked) => Ok(Some(looked)),
@@ -236,6 +241,8 @@ impl Heard {
     ) -> Result<Option<Looked>, AllocError>
         ensures lacks { IfOk result (λ o. IfSome o (λ l. IfLacks l (λ x.
             told_of self.now.answers at.now.dir.0 x.0 name.now ≡ None))) }
+        ensures listed { IfOk result (λ o. IfSome o (λ l. IfLacks l (λ x.
+            IsAmong x.0 (at.now.houses.master ∷ at.now.houses.others)))) }
         ensures seen { IfOk result (λ o. (later : Option Sight)
             → seen_near self.now (pointer_in at.now) name.now later ≡ sight_after o later) }
     {
@@ -257,6 +264,10 @@ impl Heard {
             (λ seen. heard_sight self.now (pointer_in at.now) name.now ≡ Some (sight_of seen))) }
         ensures lacks { IfOk result (λ l. IfLacks l (λ x.
             told_of self.now.answers at.now.dir.0 x.0 name.now ≡ None)) }
+        ensures listed { IfOk result (λ l. IfLacks l (λ x.
+            IsAmong x.0 (at.now.houses.master ∷ at.now.houses.others))) }
+        ensures waits { IfOk result (λ l. IfLacks l (λ _.
+            heard_sight self.now (pointer_in at.now) name.now ≡ None)) }
     {
         if let Some(looked) = self.look_near(alloc, at, name)? {
             return Ok(looked);
