@@ -31,7 +31,7 @@ use Rattle.cds_clerk.specs.declared.heard.Looked.{Looked}
 use Rattle.cds_clerk.specs.declared.heard.Looked.TheVariants as looked
 use Rattle.cds_clerk.specs.declared.walking.Walked.{Walked}
 use Rattle.cds_clerk.specs.declared.walking.Walked.TheVariants as walked
-use Rattle.cds_clerk.specs.Agreements.{Agrees, IfEnded}
+use Rattle.cds_clerk.specs.Agreements.{Agrees, IfEnded, IfWants, IsNeeded}
 use Rattle.cds_clerk.specs.Heards.{IfLacks, IfSeen, IsAmong, heard_root, heard_sight, heard_values, lead_sight, near_of, seen_among, seen_by, seen_first, sight_after, told_of}
 use Rattle.cds_clerk.specs.Readings.{IfFound, IsShown, least_reader, values_read}
 
@@ -50,6 +50,10 @@ look_sees (looked.Lacks x) later seen is = tt
 -- what is known of a look that sees this
 pub if_seen : (l : Looked) (s : Seen) (P : Seen → Type 0) → l ≡ looked.Seen s → IfSeen l P → P s
 if_seen l s P is there = subst (λ (k : Looked). IfSeen k P) is there
+
+-- what is known of a look that lacks what this house says
+pub if_lacks : (l : Looked) (x : HouseNo) (P : HouseNo → Type 0) → l ≡ looked.Lacks x → IfLacks l P → P x
+if_lacks l x P is there = subst (λ (k : Looked). IfLacks k P) is there
 
 -- a number is the same as itself
 same_number : (n : ℕ) → (n == n) ≡ true
@@ -97,6 +101,19 @@ pub rooted_walk : (h : Heard) (last : Bool) (name : List (List ℕ)) (root : Poi
 rooted_walk h last name root w (walked.Ended e) there first ends = λ r agrees. rooted r last name root w e (agrees.root (Some root) there) first (ends r agrees)
 rooted_walk h last name root w walked.LacksRoot there first ends = tt
 rooted_walk h last name root w (walked.Lacks q) there first ends = tt
+
+-- what a walk needs from where it begins, it needs from the root directory on
+pub needed_from : (h : Heard) (last : Bool) (name : List (List ℕ)) (root : Pointer) (w : Walker) (x : Walked) → heard_root h.root ≡ Some (Some root)
+    → w ≡ first_walker root name → IfWants x (IsNeeded h last w)
+    → IfWants x (λ q. (other : Pointer) → heard_root h.root ≡ Some (Some other) → IsNeeded h last (first_walker other name) q)
+needed_from h last name root w (walked.Ended e) there first needs = tt
+needed_from h last name root w walked.LacksRoot there first needs = tt
+needed_from h last name root w (walked.Lacks q) there first needs = λ other is.
+    let same : root ≡ other = one_root root other (sym there ∙ is) in
+    subst (λ (v : Walker). IsNeeded h last v q) (first ∙ ap (λ (p : Pointer). first_walker p name) same) needs
+  where
+    one_root : (p q : Pointer) → ◌≡◌ {A = Option (Option Pointer)} (Some (Some p)) (Some (Some q)) → p ≡ q
+    one_root p q e = cc (e)
 
 -- what is known of a walk that comes to its end
 pub if_ended : (x : Walked) (e : End) (P : End → Type 0) → x ≡ walked.Ended e → IfEnded x P → P e

@@ -1,5 +1,5 @@
 -- Readers that agree with what was heard.
-use Rattle.std.specs.Prelude.{◌≡◌, ℕ, List, Option, Some}
+use Rattle.std.specs.Prelude.{◌≡◌, ℕ, Bool, List, ◌∷◌, Option, Some, None}
 use Rattle.cell_names.specs.ChildPointers.{Pointer}
 use Rattle.resolver.specs.declared.seen.Found.{Found}
 use Rattle.resolver.specs.declared.walk.End.{End}
@@ -8,7 +8,9 @@ use Rattle.cds_clerk.specs.declared.heard.Heard.{Heard}
 use Rattle.cds_clerk.specs.declared.heard.Lack.{Lack}
 use Rattle.cds_clerk.specs.declared.walking.Walked.{Walked}
 use Rattle.cds_clerk.specs.declared.walking.Walked.TheVariants as walked
-use Rattle.cds_clerk.specs.Heards.{heard_root, heard_sight, heard_values}
+use Rattle.resolver.specs.ChangingReaders.{look_of}
+use Rattle.resolver.specs.Walks.{Walker, EndsFrom}
+use Rattle.cds_clerk.specs.Heards.{IsAmong, heard_root, heard_sight, heard_values}
 
 -- a reader tells all that was heard
 pub record Agrees (r : Reader) (h : Heard) : Type 0 where
@@ -17,6 +19,19 @@ pub record Agrees (r : Reader) (h : Heard) : Type 0 where
       → r.sees at name ≡ s
   pub values : (f : Found) (attr : List ℕ) (vs : List (List ℕ)) → heard_values h f attr ≡ Some vs
       → r.values f attr ≡ vs
+
+-- a walk from here on needs this: it comes to a look-up of the name, as each reader that agrees with
+-- what was heard has it; the house is one of that directory's; and what was heard does not tell what
+-- is seen there
+pub record IsNeeded (h : Heard) (last : Bool) (start : Walker) (q : Lack) : Type 0 where
+  pub there : Walker
+  pub at : Pointer
+  pub comes : (r : Reader) → Agrees r h → (e : End) → EndsFrom r last there e
+      → EndsFrom r last start e
+  pub look : look_of there ≡ Some (at, q.name)
+  pub dir : at.dir ≡ q.dir.0
+  pub house : IsAmong q.house.0 (at.master ∷ at.others)
+  pub waits : heard_sight h at q.name ≡ None
 
 -- what a walk comes to, if it comes to its end
 abbrev pub IfEnded : Walked → (End → Type 0) → Type 0

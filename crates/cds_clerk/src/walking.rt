@@ -1,11 +1,11 @@
 // The walk of a full name over what was heard.
 ghost use Rattle.std.specs.Prelude.{◌≡◌, Some, None, IfOk};
-ghost use Rattle.cell_names.specs.ChildPointers.{pointer_in};
+ghost use Rattle.cell_names.specs.ChildPointers.{Pointer, pointer_in};
 ghost use Rattle.resolver.specs.Readers.{Reader};
 ghost use Rattle.resolver.specs.Walks.{Ends, EndsFrom};
-ghost use Rattle.resolver.specs.PassWords.{walker_of};
+ghost use Rattle.resolver.specs.PassWords.{first_walker, walker_of};
 ghost use Rattle.cds_clerk.specs.Heards.{IsUnheard, heard_root};
-ghost use Rattle.cds_clerk.specs.Agreements.{Agrees, IfEnded, IfRootless, IfWants};
+ghost use Rattle.cds_clerk.specs.Agreements.{Agrees, IfEnded, IfRootless, IfWants, IsNeeded};
 
 use crate::heard::{Heard, Lack, Looked, Root};
 use cds_stamps::DirId;
@@ -23,7 +23,7 @@ pub enum Walked {
 }
 
 /// Walks a full name by what was heard. Each reader that agrees with what was heard has that end,
-/// whatever else it tells; and what lacks was not heard.
+/// whatever else it tells. What lacks was not heard, and the walk comes to a look-up of it.
 pub fn walk(
     alloc: Global,
     heard: &Heard,
@@ -33,6 +33,9 @@ pub fn walk(
     ensures done { IfOk result (λ w. IfEnded w (λ end. (r : Reader) → Agrees r heard.now
         → Ends r follow_last name.now end)) }
     ensures asks { IfOk result (λ w. IfWants w (IsUnheard heard.now)) }
+    ensures needs { IfOk result (λ w. IfWants w (λ q. (root : Pointer)
+        → heard_root heard.now.root ≡ Some (Some root)
+        → IsNeeded heard.now follow_last (first_walker root name.now) q)) }
     ensures root { IfOk result (λ w. IfRootless w (heard_root heard.now.root ≡ None)) }
 {
     if name.len() == 0 {
@@ -54,6 +57,8 @@ fn walk_from(alloc: Global, heard: &Heard, mut walk: Walk<'_>) -> Result<Walked,
     ensures done { IfOk result (λ w. IfEnded w (λ end. (r : Reader) → Agrees r heard.now
         → EndsFrom r walk.entry.follow_last (walker_of walk.entry) end)) }
     ensures asks { IfOk result (λ w. IfWants w (IsUnheard heard.now)) }
+    ensures needs { IfOk result (λ w. IfWants w
+        (IsNeeded heard.now walk.entry.follow_last (walker_of walk.entry))) }
     ensures root { IfOk result (λ w. IfRootless w (heard_root heard.now.root ≡ None)) }
 {
     'steps: loop {

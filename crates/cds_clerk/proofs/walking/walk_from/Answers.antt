@@ -1,4 +1,4 @@
-use Rattle.std.proofs.Common.{◌≡◌, ap, sym, ◌∙◌}
+use Rattle.std.proofs.Common.{◌≡◌, List, ◌∷◌, ℕ, ap, refl, subst, sym, ◌∙◌}
 use Rattle.std.specs.Prelude.{Some, None}
 use Rattle.cell_names.specs.ChildPointers.{pointer_in}
 use Rattle.resolver.specs.declared.refusal.Refusal.TheVariants.{RootName}
@@ -7,8 +7,8 @@ use Rattle.resolver.specs.Readers.{sight_of}
 use Rattle.resolver.specs.Walks.{stops, goes}
 use Rattle.resolver.specs.PassWords.{walker_of}
 use Rattle.resolver.proofs.PassLaws.{none_left, saw_by, heard}
-use Rattle.cds_clerk.specs.Heards.{heard_sight}
-use Rattle.cds_clerk.proofs.HeardLaws.{if_seen}
+use Rattle.cds_clerk.specs.Heards.{IsAmong, heard_sight}
+use Rattle.cds_clerk.proofs.HeardLaws.{if_lacks, if_seen}
 use Rattle.cds_clerk.proofs.walking.walk_from.Goals as goal
 
 pub returns-in_default-clause-done : goal.returns-in_default-clause-done
@@ -41,3 +41,19 @@ steps-preserved c = record {
   root = c.in_ok-end.ensures.root ∙ c.steps.invariant.root;
   last = c.in_ok-end.ensures.last ∙ c.steps.invariant.last;
 }
+
+pub returns-in-Lacks-clause-needs : goal.returns-in-Lacks-clause-needs
+returns-in-Lacks-clause-needs c =
+    let h = c.args.heard.now in
+    let at = pointer_in c.in-Some.dir.now in
+    let copied = c.in_ok-copy-in-Lacks.ensures in
+    record {
+      there = walker_of c.steps.walk;
+      at = at;
+      comes = c.steps.invariant.ends;
+      look = sym c.in-Some.ensures.look ∙ ap (λ (n : List ℕ). Some (at, n)) (sym copied);
+      dir = refl;
+      house = if_lacks c.in_ok-seen.field-0 c.in-Lacks.house (λ x. IsAmong x.0 (at.master ∷ at.others)) c.in-Lacks.is c.in_ok-seen.ensures.listed;
+      waits = subst (λ (n : List ℕ). heard_sight h at n ≡ None) (sym copied)
+          (if_lacks c.in_ok-seen.field-0 c.in-Lacks.house (λ _. heard_sight h at c.in-Some.component.now ≡ None) c.in-Lacks.is c.in_ok-seen.ensures.waits);
+    }
