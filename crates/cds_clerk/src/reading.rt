@@ -5,7 +5,9 @@ ghost use Rattle.resolver.specs.Walks.{found_of};
 ghost use Rattle.resolver.specs.WalkEnds.{walk_end};
 ghost use Rattle.clerk_lines.specs.declared.hearing.Told.TheVariants.{Shows};
 ghost use Rattle.cds_clerk.specs.Heards.{IsUnheard, heard_root, heard_values, told_of};
-ghost use Rattle.cds_clerk.specs.Agreements.{Agrees};
+ghost use Rattle.cell_names.specs.ChildPointers.{Pointer};
+ghost use Rattle.resolver.specs.PassWords.{first_walker};
+ghost use Rattle.cds_clerk.specs.Agreements.{Agrees, IsNeeded};
 ghost use Rattle.cds_clerk.specs.Readings.{IfFound, IfSaid, IfUnknown, IfUnrooted, IsShown, values_read};
 
 use crate::heard::{Heard, Lack};
@@ -83,8 +85,8 @@ fn read_at(alloc: Global, heard: &Heard, end: End, attr: &AttrName) -> Result<An
 }
 
 /// The values of an attribute of the entry that a name leads to, links followed, by what was heard.
-/// Each reader that agrees with what was heard has that answer, whatever else it tells; and what
-/// lacks was not heard.
+/// Each reader that agrees with what was heard has that answer, whatever else it tells. What lacks was
+/// not heard, and the walk comes to a look-up of it.
 pub fn read(
     alloc: Global,
     heard: &Heard,
@@ -94,6 +96,9 @@ pub fn read(
     ensures done { IfOk result (λ x. IfSaid x (λ a. (r : Reader) → Agrees r heard.now
         → a ≡ values_read r attr.now (walk_end r true name.now))) }
     ensures asks { IfOk result (λ x. IfUnknown x (IsUnheard heard.now)) }
+    ensures needs { IfOk result (λ x. IfUnknown x (λ q. (root : Pointer)
+        → heard_root heard.now.root ≡ Some (Some root)
+        → IsNeeded heard.now true (first_walker root name.now) q)) }
     ensures root { IfOk result (λ x. IfUnrooted x (heard_root heard.now.root ≡ None)) }
 {
     ends_are_seen();
