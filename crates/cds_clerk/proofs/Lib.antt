@@ -1,1 +1,3 @@
 pub mod HeardLaws
+pub mod SearchLaws
+pub mod ClosedLaws

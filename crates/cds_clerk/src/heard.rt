@@ -257,6 +257,8 @@ impl Heard {
             (λ seen. heard_sight self.now (pointer_in at.now) name.now ≡ Some (sight_of seen))) }
         ensures lacks { IfOk result (λ l. IfLacks l (λ x.
             told_of self.now.answers at.now.dir.0 x.0 name.now ≡ None)) }
+        ensures unseen { IfOk result (λ l. IfLacks l (λ _.
+            heard_sight self.now (pointer_in at.now) name.now ≡ None)) }
     {
         if let Some(looked) = self.look_near(alloc, at, name)? {
             return Ok(looked);
