@@ -20,9 +20,8 @@ pub record Agrees (r : Reader) (h : Heard) : Type 0 where
   pub values : (f : Found) (attr : List ℕ) (vs : List (List ℕ)) → heard_values h f attr ≡ Some vs
       → r.values f attr ≡ vs
 
--- a walk from here on needs this: it comes to a look-up of the name, as each reader that agrees with
--- what was heard has it; the house is one of that directory's; and what was heard does not tell what
--- is seen there
+-- a walk from here on needs this: over each reader that agrees with what was heard it comes to a
+-- look-up of the name, at a house of that directory, and what was heard does not tell what is seen
 pub record IsNeeded (h : Heard) (last : Bool) (start : Walker) (q : Lack) : Type 0 where
   pub there : Walker
   pub at : Pointer

@@ -85,8 +85,8 @@ fn read_at(alloc: Global, heard: &Heard, end: End, attr: &AttrName) -> Result<An
 }
 
 /// The values of an attribute of the entry that a name leads to, links followed, by what was heard.
-/// Each reader that agrees with what was heard has that answer, whatever else it tells. What lacks was
-/// not heard, and the walk comes to a look-up of it.
+/// Each reader that agrees with what was heard has that answer, whatever else it tells. What lacks
+/// was not heard, and the walk comes to a look-up of it.
 pub fn read(
     alloc: Global,
     heard: &Heard,
