@@ -3,13 +3,12 @@ use Rattle.std.proofs.Common.{◌≡◌, ℕ, ◌+◌, ◌-◌, ◌≤◌, List,
 use Rattle.std.proofs.lemmas.List.{take_at, length-append}
 use Rattle.record_fields.specs.declared.fault.Rule.{Rule}
 use Rattle.record_fields.specs.declared.fault.Broken.{Broken}
-use Rattle.record_fields.specs.declared.fault.RecordFault.{RecordFault}
 use Rattle.cds_stamps.specs.declared.alloc_or.AllocOr.{AllocOr}
 use Rattle.cds_stamps.specs.declared.alloc_or.AllocOr.TheVariants.{Fault, OutOfMemory}
 use Rattle.record_fields.specs.Layouts.{Layout, done, field, next, Stands, Breaks}
 use Rattle.record_fields.specs.LayoutReading.{read}
 use Rattle.record_fields.specs.FieldReaders.{Reads}
-use Rattle.record_fields.specs.Decoding.{fault_at, error_of, IsLeftWithin, IsWhole, Decodes}
+use Rattle.record_fields.specs.Decoding.{fault_of, error_of, IsLeftWithin, IsWhole, Decodes}
 use Rattle.record_fields.proofs.LayoutLaws.{ok_is, stands_read, read_stands, breaks_read, read_breaks, front_stands}
 
 -- a whole front is read in front of any rest
@@ -54,23 +53,23 @@ decoded l octets value rest n e n_is =
     }
 
 -- a rule that was broken is the fault of the octets
-pub not_decoded : {A : Type 0} (l : Layout A) (octets : List ℕ) (b : Broken) (fault : RecordFault) → read l octets ≡ Err b
-    → fault ≡ fault_at b.rule (length octets - b.left + 1) → Decodes l octets (Err (Fault fault))
-not_decoded l octets b fault e named =
+pub not_decoded : {A : Type 0} (l : Layout A) (octets : List ℕ) (b : Broken) → read l octets ≡ Err b
+    → Decodes l octets (Err (Fault (fault_of (length octets) b)))
+not_decoded l octets b e =
     let breaks = read_breaks l octets b e in
     let within = left_within l octets b.rule b.left breaks in
     record {
       within = tt;
       whole = tt;
       only = λ other own more h is. absurd (let again : Ok (other, more) ≡ Err b = sym (whole_read l other own more h) ∙ ap (read l) (sym is) ∙ e in cc);
-      fault = record { rule = b.rule; left = b.left; place = length octets - b.left + 1; breaks = breaks; at = omega arith; named = named };
+      fault = record { left = b.left; breaks = breaks; at = omega arith };
       each_fault = λ other h.
-          let fails : Err (record { rule = h.rule; left = h.left }) ≡ Err b = sym (breaks_read l octets h.rule h.left h.breaks) ∙ e in
-          let same : record { rule = h.rule; left = h.left } ≡ b = cc in
-          let rule_is : h.rule ≡ b.rule = ap (λ (c : Broken). c.rule) same in
+          let fails : Err (record { rule = other.rule; left = h.left }) ≡ Err b = sym (breaks_read l octets other.rule h.left h.breaks) ∙ e in
+          let same : record { rule = other.rule; left = h.left } ≡ b = cc in
+          let rule_is : other.rule ≡ b.rule = ap (λ (c : Broken). c.rule) same in
           let left_is : h.left ≡ b.left = ap (λ (c : Broken). c.left) same in
-          let place_is : h.place ≡ length octets - b.left + 1 = omega (arith, h.at) in
-          ap Err (h.named ∙ (λ i. fault_at (rule_is i) (place_is i)) ∙ sym named);
+          let place_is : other.place ≡ length octets - b.left + 1 = omega (arith, h.at) in
+          (λ i. Err (record { rule = rule_is i; place = place_is i }));
     }
 
 pub no_memory : {A : Type 0} (l : Layout A) (octets : List ℕ) → Decodes {A = A} l octets (Err OutOfMemory)
@@ -91,5 +90,5 @@ error_within l octets z OutOfMemory h = tt
 -- a reader's error is what the octets decode to
 pub error_decodes : {A : Type 0} (l : Layout A) (octets z : List ℕ) (e : AllocOr Broken) → Reads (λ (x : A). x) l octets z (Err e)
     → Decodes l octets (Err (error_of (length octets) e))
-error_decodes l octets z (Fault b) h = not_decoded l octets b (fault_at b.rule (length octets - b.left + 1)) h refl
+error_decodes l octets z (Fault b) h = not_decoded l octets b h
 error_decodes l octets z OutOfMemory h = no_memory l octets

@@ -9,12 +9,12 @@ use Rattle.record_fields.specs.declared.fault.Broken.{Broken}
 use Rattle.record_fields.specs.declared.fault.RecordFault.{RecordFault}
 use Rattle.record_fields.specs.Layouts.{Layout}
 use Rattle.record_fields.specs.LayoutReading.{read}
-use Rattle.record_fields.specs.Decoding.{fault_at, Decodes, decode_by, with_memory}
+use Rattle.record_fields.specs.Decoding.{fault_of, Decodes, decode_by, with_memory}
 use Rattle.record_fields.proofs.DecodingLaws.{decoded, not_decoded}
 
 -- what a reading comes to
 abbrev pub of_read : {A : Type 0} → ℕ → Result (A × List ℕ) Broken → Result (A × ℕ) RecordFault
-of_read len = result_map_both (λ r. (r.0, len - length r.1)) (λ b. fault_at b.rule (len - b.left + 1))
+of_read len = result_map_both (λ r. (r.0, len - length r.1)) (fault_of len)
 
 -- what is answered is what the function says
 pub decoding_decodes : {A : Type 0} (l : Layout A) (octets : List ℕ) → Decodes l octets (with_memory (decode_by l octets))
@@ -22,7 +22,7 @@ decoding_decodes {A} l octets = go (read l octets) refl
   where
     go : (r : Result (A × List ℕ) Broken) → read l octets ≡ r → Decodes l octets (with_memory (of_read (length octets) r))
     go (Ok (value, rest)) is = decoded l octets value rest (length octets - length rest) is refl
-    go (Err b) is = not_decoded l octets b (fault_at b.rule (length octets - b.left + 1)) is refl
+    go (Err b) is = not_decoded l octets b is
 
 -- each answer is what is decoded, or out of memory
 pub answers_decoding : {A : Type 0} (l : Layout A) (octets : List ℕ) (r : Result (A × ℕ) (AllocOr RecordFault)) → Decodes l octets r

@@ -4,28 +4,18 @@ use Rattle.std.specs.Result.{result_map_both}
 use Rattle.cds_stamps.specs.declared.alloc_or.AllocOr.{AllocOr}
 use Rattle.cds_stamps.specs.declared.alloc_or.AllocOr.TheVariants.{Fault, OutOfMemory}
 use Rattle.cds_stamps.specs.Outcomes.{Answers}
-use Rattle.record_fields.specs.declared.fault.Rule.{Rule}
-use Rattle.record_fields.specs.declared.fault.Rule.TheVariants as rule
 use Rattle.record_fields.specs.declared.fault.Broken.{Broken}
 use Rattle.record_fields.specs.declared.fault.RecordFault.{RecordFault}
-use Rattle.record_fields.specs.declared.fault.RecordFault.TheVariants.{Short, BadTag, BadLength, BadName, OutOfOrder, BadFlag, NotAbove, BadHeld}
 use Rattle.record_fields.specs.Layouts.{Layout, Stands, Breaks}
 use Rattle.record_fields.specs.LayoutReading.{read}
 
--- the fault of a rule at a place
-abbrev pub fault_at : Rule → ℕ → RecordFault
-fault_at rule.Short place = Short place
-fault_at rule.BadTag place = BadTag place
-fault_at rule.BadLength place = BadLength place
-fault_at rule.BadName place = BadName place
-fault_at rule.OutOfOrder place = OutOfOrder place
-fault_at rule.BadFlag place = BadFlag place
-fault_at rule.NotAbove place = NotAbove place
-fault_at rule.BadHeld place = BadHeld place
+-- the fault of a field among so many octets, by its place
+abbrev pub fault_of : ℕ → Broken → RecordFault
+fault_of len b = record { rule = b.rule; place = len - b.left + 1 }
 
 -- a reader's error among so many octets, by its place
 abbrev pub error_of : ℕ → AllocOr Broken → AllocOr RecordFault
-error_of len (Fault b) = Fault (fault_at b.rule (len - b.left + 1))
+error_of len (Fault b) = Fault (fault_of len b)
 error_of len OutOfMemory = OutOfMemory
 
 -- what an error says is left is no more than there was
@@ -40,12 +30,9 @@ IsWhole l value octets = Stands l octets value []
 -- the first fault of octets that do not begin so: that of the first field that breaks a rule, at
 -- the place of its first octet, or at the place after the last octet where the field is not whole
 pub record IsFault {A : Type 0} (l : Layout A) (octets : List ℕ) (fault : RecordFault) : Type 0 where
-  pub rule : Rule
   pub left : ℕ
-  pub place : ℕ
-  pub breaks : Breaks l octets rule left
-  pub at : place + left ≡ length octets + 1
-  pub named : fault ≡ fault_at rule place
+  pub breaks : Breaks l octets fault.rule left
+  pub at : fault.place + left ≡ length octets + 1
 
 -- a fault that was answered is such a one
 abbrev pub IfFault : {T E : Type 0} → (E → Type 0) → Result T (AllocOr E) → Type 0
@@ -68,8 +55,7 @@ pub record Decodes {A : Type 0} (l : Layout A) (octets : List ℕ) (result : Res
 -- the same as a function: what reading by the layout gives, with the number of its octets, or the
 -- fault by its place
 abbrev pub decode_by : {A : Type 0} → Layout A → List ℕ → Result (A × ℕ) RecordFault
-decode_by l octets =
-    result_map_both (λ r. (r.0, length octets - length r.1)) (λ b. fault_at b.rule (length octets - b.left + 1)) (read l octets)
+decode_by l octets = result_map_both (λ r. (r.0, length octets - length r.1)) (fault_of (length octets)) (read l octets)
 
 -- this as a call answers it that wants for no memory
 abbrev pub with_memory : {T E : Type 0} → Result T E → Result T (AllocOr E)

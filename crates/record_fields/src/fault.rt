@@ -2,42 +2,38 @@
 use cds_stamps::AllocOr;
 use thiserror::Error;
 
+/// A rule that a field of a record breaks: that it is there whole, or what its value is to be; or
+/// the rule of callers that want an image and nothing after it, which no field breaks.
+#[derive(Clone, Copy, Debug, PartialEq, Eq, Drop, Error)]
+pub enum Rule {
+    #[error("the octets end in a field")]
+    Short,
+    #[error("no format or tag that is known")]
+    BadTag,
+    #[error("a length or a count out of its range")]
+    BadLength,
+    #[error("octets that no name has")]
+    BadName,
+    #[error("a key or a stamp out of order")]
+    OutOfOrder,
+    #[error("a flag or a kind that is not known")]
+    BadFlag,
+    #[error("a stamp that is not later than the one that the record is above")]
+    NotAbove,
+    #[error("a count that is not how much the replica holds")]
+    BadHeld,
+    #[error("octets behind the image")]
+    Trailing,
+}
+
 /// Why octets begin with no message or no image, and where: the place of the first octet of the
 /// field that breaks its rule, counted from 1; of Short the number of octets and one more. Trailing
 /// is told by callers that want an image and nothing after it: the readers here leave what follows.
 #[derive(Clone, Copy, Debug, PartialEq, Eq, Drop, Error)]
-pub enum RecordFault {
-    #[error("the octets end in a field, at {0}")]
-    Short(usize),
-    #[error("no format or tag that is known, at {0}")]
-    BadTag(usize),
-    #[error("a length or a count out of its range, at {0}")]
-    BadLength(usize),
-    #[error("octets that no name has, at {0}")]
-    BadName(usize),
-    #[error("a key or a stamp out of order, at {0}")]
-    OutOfOrder(usize),
-    #[error("a flag or a kind that is not known, at {0}")]
-    BadFlag(usize),
-    #[error("a stamp that is not later than the one that the record is above, at {0}")]
-    NotAbove(usize),
-    #[error("a count that is not how much the replica holds, at {0}")]
-    BadHeld(usize),
-    #[error("octets behind the image, at {0}")]
-    Trailing(usize),
-}
-
-/// A rule that a field of a record breaks: that it is there whole, or what its value is to be.
-#[derive(Clone, Copy, Debug, PartialEq, Eq)]
-pub enum Rule {
-    Short,
-    BadTag,
-    BadLength,
-    BadName,
-    OutOfOrder,
-    BadFlag,
-    NotAbove,
-    BadHeld,
+#[error("{rule}, at {place}")]
+pub struct RecordFault {
+    pub rule: Rule,
+    pub place: usize,
 }
 
 /// A field that breaks a rule, by the number of octets that are left from its first one on; none,
