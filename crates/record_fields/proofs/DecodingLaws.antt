@@ -47,8 +47,8 @@ decoded l octets value rest n e n_is =
           let count : length own ≡ n = omega (arith, ap length is, length-append own more, ap length rest_is) in
           (λ i. Ok (ap (λ p. p.0) same i, count i));
       fault = tt;
-      each_fault = λ fault h.
-          let fails : read l octets ≡ Err (record { rule = h.rule; left = h.left }) = breaks_read l octets h.rule h.left h.breaks in
+      each_fault = λ other h.
+          let fails : read l octets ≡ Err (record { rule = other.rule; left = h.left }) = breaks_read l octets other.rule h.left h.breaks in
           absurd cc;
     }
 
