@@ -127,6 +127,16 @@ impl<K: Ord, V> CompactMap<K, V> {
         }
     }
 
+    /// Asks for room for so many more entries before they come, or for as many as a vector holds.
+    /// An insertion asks for what this could not get.
+    pub fn reserve(&mut self, count: usize)
+        ensures { self.new ≡ self.old }
+    {
+        if let Table::Few(few) = &mut self.table {
+            few.reserve(count.min(FEW));
+        }
+    }
+
     /// Gives a key this value. The value that it had. If there is no memory, the entry comes back.
     pub fn insert(&mut self, key: K, value: V) -> Result<Option<V>, AllocFailed<(K, V)>>
     where

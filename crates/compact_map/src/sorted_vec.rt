@@ -81,6 +81,15 @@ impl<K: Ord, V> SortedVec<K, V> {
         place_of(&self.entries, key)
     }
 
+    /// The same, and the last entry is asked first: most keys come in ascending order.
+    #[inline]
+    fn place(&self, key: &K) -> Result<usize, usize>
+        ensures place { result ≡ seek (K.cmp key.now) self.now }
+        ensures ordered { IsOrdered K.cmp self.now }
+    {
+        place_from_last(&self.entries, key)
+    }
+
     pub(crate) fn get(&self, key: &K) -> Option<&V>
         ensures { option_copied result ≡ get K.cmp self.now key.now }
     {
@@ -101,6 +110,13 @@ impl<K: Ord, V> SortedVec<K, V> {
         Some((&entry.0, &entry.1))
     }
 
+    /// Asks for room for so many more entries. An insertion asks for what this could not get.
+    pub(crate) fn reserve(&mut self, count: usize)
+        ensures { self.new ≡ self.old }
+    {
+        let _ = self.entries.reserve_exact(count);
+    }
+
     /// Gives a key this value. The value that it had.
     pub(crate) fn insert(&mut self, key: K, value: V) -> Result<Option<V>, AllocFailed<(K, V)>>
     where
@@ -114,7 +130,7 @@ impl<K: Ord, V> SortedVec<K, V> {
         ensures ordered { IsOrdered K.cmp self.new }
         ensures was_ordered { IsOrdered K.cmp self.old }
     {
-        match self.find(&key) {
+        match self.place(&key) {
             Ok(at) => {
                 let entry = &mut self.entries[at];
                 Ok(Some(replace(&mut entry.1, value)))
@@ -225,6 +241,22 @@ fn place_of<K: Ord, V>(entries: &[(K, V)], key: &K) -> Result<usize, usize>
         }
     }
     Err(at)
+}
+
+/// The same among entries that ascend, and the last one is asked first.
+#[inline]
+fn place_from_last<K: Ord, V>(entries: &[(K, V)], key: &K) -> Result<usize, usize>
+    requires { IsOrdered K.cmp entries.now }
+    ensures { result ≡ seek (K.cmp key.now) entries.now }
+{
+    let Some((last, rest)) = entries.split_last() else {
+        return Err(0);
+    };
+    match key.cmp(&last.0) {
+        Ordering::Less => place_of(rest, key),
+        Ordering::Equal => Ok(rest.len()),
+        Ordering::Greater => Err(entries.len()),
+    }
 }
 
 /// Whether the keys ascend.

@@ -42,7 +42,7 @@ insert-requires g c =
 
 pub returns-in_err-insert-in-Err-clause-absent : goal.returns-in_err-insert-in-Err-clause-absent
 returns-in_err-insert-in-Err-clause-absent g c =
-    on_err c.from_residual.result (sym (none_there g.met.K.Ord.total c.args.key c.args.self.now c.find.ensures.ordered c.in-Err.at c.in-Err.ensures.place))
+    on_err c.from_residual.result (sym (none_there g.met.K.Ord.total c.args.key c.args.self.now c.place.ensures.ordered c.in-Err.at c.in-Err.ensures.place))
 
 pub invariant_of-self-in-Err : goal.invariant_of-self-in-Err
 invariant_of-self-in-Err g c = rw (c.in_ok-insert-in-Err.ensures.items, c.make_room.ensures.items)
@@ -51,7 +51,7 @@ invariant_of-self-in-Err g c = rw (c.in_ok-insert-in-Err.ensures.items, c.make_r
 
 pub returns-in_ok-insert-in-Err-clause-old : goal.returns-in_ok-insert-in-Err-clause-old
 returns-in_ok-insert-in-Err-clause-old g c =
-    none_there g.met.K.Ord.total c.args.key c.args.self.now c.find.ensures.ordered c.in-Err.at c.in-Err.ensures.place
+    none_there g.met.K.Ord.total c.args.key c.args.self.now c.place.ensures.ordered c.in-Err.at c.in-Err.ensures.place
 
 pub returns-in_ok-insert-in-Err-clause-updates : goal.returns-in_ok-insert-in-Err-clause-updates
 returns-in_ok-insert-in-Err-clause-updates g c = rw (c.in_ok-insert-in-Err.ensures.items, c.make_room.ensures.items, ← c.self.view_is)
