@@ -33,7 +33,7 @@ pub record LinesRead {S : Type 0} (rule : LineRule S) (state : S) (run : Run) : 
   pub out : List ℕ
   pub leads : LeadsTo rule 1 state lines text at
   pub taken : Consumes run.left run.left' (text_of lines ++ rest)
-  pub written : Appends run.held run.held' out
+  pub written : Appends run.written run.written' out
 
 -- the number of the line that follows
 abbrev pub next_number : {S : Type 0} {rule : LineRule S} {state : S} {run : Run} → LinesRead rule state run → ℕ
