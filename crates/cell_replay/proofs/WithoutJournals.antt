@@ -20,7 +20,8 @@ use Rattle.line_forms.specs.declared.endings.Status.{Status}
 use Rattle.line_forms.specs.declared.endings.Status.TheVariants.{Ok as AllRead, Usage, BadInput, ReadFault, WriteFault, OutOfMemory, JournalFull}
 use Rattle.line_forms.specs.Demand.{Demand, LineRule, Verdict, Sound, Faulty, CutShort, Filled, at_end, demand, faulty_with, first_fault, pieces_of}
 use Rattle.line_forms.specs.Demand.{line_demand, then_rest, unless_fault}
-use Rattle.line_forms.specs.Runs.{Run, Ended}
+use Rattle.cds_base.specs.Runs.{Run}
+use Rattle.line_forms.specs.Runs.{Ended}
 use Rattle.cell_replay.specs.declared.forms.Form.{Form}
 use Rattle.cell_replay.specs.declared.forms.Form.TheVariants as form
 use Rattle.cell_replay.specs.declared.limits.TheConstants.{MOST_WHOLE}

@@ -3,7 +3,8 @@ ghost use Rattle.std.specs.Prelude.{◌≡◌, ◌≤◌, ◌↔◌, ℕ, None, 
 ghost use Rattle.cell_model.specs.Cells.{empty_cell};
 ghost use Rattle.line_forms.specs.Leaving.{Leaves};
 ghost use Rattle.line_forms.specs.Readings.{by_lines};
-ghost use Rattle.line_forms.specs.Runs.{Ended, run_of};
+ghost use Rattle.cds_base.specs.Runs.{run_of};
+ghost use Rattle.line_forms.specs.Runs.{Ended};
 ghost use Rattle.script_replay.specs.LineRules.{dialogue_rule};
 ghost use Rattle.script_replay.specs.Scripts.{IsReplay, IsReplayBy};
 ghost use Rattle.clerk_replay.specs.Clerking.{clerk_dialogue, start};
@@ -43,13 +44,13 @@ pub fn run_journal<S: Source, K: Sink>(
 ) -> Status
     requires { AreNew disks.old.items }
     ensures ends { Ended (by_lines journal_rule empty_state)
-        (run_of S.left S.faults K.written K.faults source.old source.new sink.old sink.new) result }
+        (run_of S.Source K.Sink source.old source.new sink.old sink.new) result }
     ensures transcript { result ≡ Status.Ok
         → IsJournalReplay
-        (run_of S.left S.faults K.written K.faults source.old source.new sink.old sink.new) }
+        (run_of S.Source K.Sink source.old source.new sink.old sink.new) }
     ensures disks { Leaves journal_rule (AreOnDisks disks.new.items) (ArePut disks.new.items)
         empty_state
-        (run_of S.left S.faults K.written K.faults source.old source.new sink.old sink.new) result }
+        (run_of S.Source K.Sink source.old source.new sink.old sink.new) result }
     ensures usable { AreUsable disks.new.items }
 {
     match Journals::new(alloc, disks) {
@@ -72,7 +73,7 @@ fn serve_by_clerk<S: Source, K: Sink>(
     requires least { 1 ≤ room }
     requires most { room ≤ MOST_KEPT }
     ensures { Ended (by_lines (dialogue_rule clerk_dialogue) (start room))
-        (run_of S.left S.faults K.written K.faults source.old source.new sink.old sink.new) result }
+        (run_of S.Source K.Sink source.old source.new sink.old sink.new) result }
 {
     match ClerkReplayer::new(alloc, room as usize) {
         Ok(replayer) => serve_lines(alloc, replayer, source, sink),
@@ -83,7 +84,7 @@ fn serve_by_clerk<S: Source, K: Sink>(
 /// The form `journal` over disks of its own.
 fn journal_over_new_disks<S: Source, K: Sink>(alloc: Global, source: &mut S, sink: &mut K) -> Status
     ensures { Ended (by_lines journal_rule empty_state)
-        (run_of S.left S.faults K.written K.faults source.old source.new sink.old sink.new) result }
+        (run_of S.Source K.Sink source.old source.new sink.old sink.new) result }
 {
     match new_disks(alloc) {
         Ok(mut disks) => run_journal(alloc, source, sink, &mut disks),
@@ -109,9 +110,9 @@ pub fn new_disks(alloc: Global) -> Result<Vec<MemDisk>, AllocError>
 fn serve<S: Source, K: Sink>(alloc: Global, form: Form, source: &mut S, sink: &mut K) -> Status
     requires { IsForm form }
     ensures ends { Ended (reading_of form)
-        (run_of S.left S.faults K.written K.faults source.old source.new sink.old sink.new) result }
+        (run_of S.Source K.Sink source.old source.new sink.old sink.new) result }
     ensures few { ReadsFew form
-        (run_of S.left S.faults K.written K.faults source.old source.new sink.old sink.new) }
+        (run_of S.Source K.Sink source.old source.new sink.old sink.new) }
     ensures unread { ReadsNothing (Some form) → source.new ≡ source.old }
 {
     match form {
@@ -142,22 +143,22 @@ pub fn run<S: Source, K: Sink>(
     ensures unused { result ≡ Status.Usage → (source.new ≡ source.old) × (sink.new ≡ sink.old) }
     ensures unread { ReadsNothing (form_of (map string_bytes words.now)) → source.new ≡ source.old }
     ensures ends { IfSome (form_of (map string_bytes words.now)) (λ form. Ended (reading_of form)
-        (run_of S.left S.faults K.written K.faults source.old source.new sink.old sink.new) result) }
+        (run_of S.Source K.Sink source.old source.new sink.old sink.new) result) }
     ensures few { IfSome (form_of (map string_bytes words.now)) (λ form. ReadsFew form
-        (run_of S.left S.faults K.written K.faults source.old source.new sink.old sink.new)) }
+        (run_of S.Source K.Sink source.old source.new sink.old sink.new)) }
     ensures transcript { form_of (map string_bytes words.now) ≡ Some Form.Run → result ≡ Status.Ok
-        → IsReplay (run_of S.left S.faults K.written K.faults source.old source.new sink.old sink.new) }
+        → IsReplay (run_of S.Source K.Sink source.old source.new sink.old sink.new) }
     ensures inquired { form_of (map string_bytes words.now) ≡ Some Form.Inquire
         → result ≡ Status.Ok → IsReplayBy inquire_dialogue empty_cell
-        (run_of S.left S.faults K.written K.faults source.old source.new sink.old sink.new) }
+        (run_of S.Source K.Sink source.old source.new sink.old sink.new) }
     ensures clerked { (room : ℕ) → form_of (map string_bytes words.now) ≡ Some (Form.Clerk room)
         → result ≡ Status.Ok
         → IsReplayBy clerk_dialogue (start room)
-        (run_of S.left S.faults K.written K.faults source.old source.new sink.old sink.new) }
+        (run_of S.Source K.Sink source.old source.new sink.old sink.new) }
     ensures journaled { form_of (map string_bytes words.now) ≡ Some Form.Journal
         → result ≡ Status.Ok
         → IsJournalReplay
-        (run_of S.left S.faults K.written K.faults source.old source.new sink.old sink.new) }
+        (run_of S.Source K.Sink source.old source.new sink.old sink.new) }
 {
     match form_in(words) {
         Some(form) => serve(alloc, form, source, sink),

@@ -6,7 +6,8 @@ ghost use Rattle.cds_base.specs.Counts.{HasCause};
 ghost use Rattle.cds_base.specs.SourceReading.{GrowsByReading};
 ghost use Rattle.cell_replay.specs.StreamTexts.{stream_fault_text};
 ghost use Rattle.cell_replay.specs.FormReadings.{by_towers};
-ghost use Rattle.line_forms.specs.Runs.{Ended, run_of};
+ghost use Rattle.cds_base.specs.Runs.{run_of};
+ghost use Rattle.line_forms.specs.Runs.{Ended};
 ghost use Rattle.line_forms.specs.Endings.{StopsWith, side_of};
 ghost use Rattle.cell_replay.specs.PrivateSights.{Sees, seen_fault};
 
@@ -156,7 +157,7 @@ fn print_each<S: Source, K: Sink>(
     requires empty { window.octets ≡ [] }
     requires room { window.room ≡ TOWER_SIGHT }
     ensures { Ended by_towers
-        (run_of S.left S.faults K.written K.faults source.old source.new sink.old sink.new) result }
+        (run_of S.Source K.Sink source.old source.new sink.old sink.new) result }
 {
     let mut waiting = Waiting::new(alloc);
     let mut number = 1;
@@ -192,7 +193,7 @@ pub(crate) fn print_towers<S: Source, K: Sink>(
     sink: &mut K,
 ) -> Status
     ensures { Ended by_towers
-        (run_of S.left S.faults K.written K.faults source.old source.new sink.old sink.new) result }
+        (run_of S.Source K.Sink source.old source.new sink.old sink.new) result }
 {
     match Window::new(alloc, TOWER_SIGHT) {
         Ok(window) => print_each(alloc, window, source, sink),

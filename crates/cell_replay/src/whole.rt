@@ -3,7 +3,8 @@ ghost use Rattle.std.specs.Prelude.{◌≡◌, [], IfOk, IfErr, OnOk, Err};
 ghost use Rattle.cell_replay.specs.declared.limits.TheConstants.{WHOLE_SIGHT};
 ghost use Rattle.cell_replay.specs.FormReadings.{HasReadFew, by_whole};
 ghost use Rattle.cell_replay.specs.WholeDemand.{Migrating, Auditing, said_of, too_long_text};
-ghost use Rattle.line_forms.specs.Runs.{Ended, run_of};
+ghost use Rattle.cds_base.specs.Runs.{run_of};
+ghost use Rattle.line_forms.specs.Runs.{Ended};
 ghost use Rattle.line_forms.specs.Endings.{Finishes, side_of};
 ghost use Rattle.cell_replay.specs.PrivateWholes.{IsPartRead, IsSaid, SaysEnd, StopsWithin, task_of};
 
@@ -155,9 +156,9 @@ pub(crate) fn say_whole<S: Source, K: Sink>(
     sink: &mut K,
 ) -> Status
     ensures ends { Ended (by_whole (task_of whole))
-        (run_of S.left S.faults K.written K.faults source.old source.new sink.old sink.new) result }
+        (run_of S.Source K.Sink source.old source.new sink.old sink.new) result }
     ensures few { HasReadFew
-        (run_of S.left S.faults K.written K.faults source.old source.new sink.old sink.new) }
+        (run_of S.Source K.Sink source.old source.new sink.old sink.new) }
 {
     let mut held = Vec::new(alloc);
     match read_whole(alloc, &mut held, source) {

@@ -13,7 +13,8 @@ use Rattle.cell_replay.specs.declared.forms.Form.{Form}
 use Rattle.cell_replay.specs.declared.forms.Form.TheVariants as form
 use Rattle.clerk_replay.specs.Clerking.{clerk_dialogue, start}
 use Rattle.inquire_replay.specs.Inquiring.{inquire_dialogue}
-use Rattle.line_forms.specs.Runs.{Ended, Run}
+use Rattle.cds_base.specs.Runs.{Run}
+use Rattle.line_forms.specs.Runs.{Ended}
 use Rattle.line_forms.specs.declared.endings.Status.{Status}
 use Rattle.line_forms.specs.declared.endings.Status.TheVariants as ends
 use Rattle.script_replay.specs.Scripts.{IsReplay, IsReplayBy}

@@ -9,7 +9,8 @@ use Rattle.cds_base.proofs.KnownOctets.{appends_more, appends_none, consumes_sel
 use Rattle.house_entries.specs.Bodies.{head_of}
 use Rattle.house_segments.specs.Chains.{last_digest}
 use Rattle.house_segments.specs.Segments.{HasBodies, size_with}
-use Rattle.house_serving.specs.Serving.{HasFront, IsFaulty, IsOver, Run}
+use Rattle.cds_base.specs.Runs.{Run}
+use Rattle.house_serving.specs.Serving.{HasFront, IsFaulty, IsOver}
 use Rattle.house_serving.specs.Turns.{Dialogue, Turn, bodies_in, bodies_of, lines_text, texts_of}
 use Rattle.house_serving.specs.declared.ending.Ending.{Ending}
 use Rattle.house_serving.specs.declared.ending.Ending.TheVariants.{BadInput, Grown, InputEnds}

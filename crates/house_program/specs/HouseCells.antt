@@ -1,7 +1,7 @@
 -- The folders that houses leave, and the cell that these are.
 use Rattle.std.specs.Prelude.{◌⊎◌, List, [], ◌∷◌, ◌++◌}
 use Rattle.house_runs.specs.Folders.{FolderSegment}
-use Rattle.house_serving.specs.Serving.{Run}
+use Rattle.cds_base.specs.Runs.{Run}
 use Rattle.house_program.specs.Files.{Files}
 use Rattle.house_program.specs.HouseFolders.{IsHouseFolder}
 use Rattle.house_program.specs.Lives.{Lived}

@@ -7,7 +7,8 @@ use Rattle.script_answers.specs.Texts as texts
 use Rattle.house_runs.specs.Folders.{AreSegments, FolderSegment, OpensFrom, folder_bodies}
 use Rattle.house_segments.specs.Segments.{size_with}
 use Rattle.house_serving.specs.Faults.{line_fault_text}
-use Rattle.house_serving.specs.Serving.{IsFaulty, Run}
+use Rattle.cds_base.specs.Runs.{Run}
+use Rattle.house_serving.specs.Serving.{IsFaulty}
 use Rattle.house_serving.specs.Turns.{Turn, lines_text, texts_of}
 use Rattle.house_turns.specs.Openings.{HasTurn, after_start, first_lines, new_house}
 use Rattle.house_turns.specs.declared.house.House.{House}

@@ -9,7 +9,8 @@ use Rattle.house_journal.specs.Journals.{LeavesOnly}
 use Rattle.house_segments.specs.Chains.{last_digest}
 use Rattle.house_segments.specs.Segments.{HasBodies, IsAt, disk_of, size_with}
 use Rattle.house_segments.specs.declared.segment.Segment.{Segment}
-use Rattle.house_serving.specs.Serving.{HasFront, IsFaulty, IsOver, LacksRoom, Run}
+use Rattle.cds_base.specs.Runs.{Run}
+use Rattle.house_serving.specs.Serving.{HasFront, IsFaulty, IsOver, LacksRoom}
 use Rattle.house_serving.specs.Turns.{Dialogue, Turn, bodies_of, lines_text, texts_of}
 use Rattle.house_serving.specs.declared.ending.Ending.{Ending}
 use Rattle.house_serving.specs.declared.ending.Ending.TheVariants.{BadInput, Full, Grown, InputEnds}

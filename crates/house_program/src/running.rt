@@ -1,6 +1,6 @@
 // The process of a house, from its folder's lock to its last line.
 ghost use Rattle.std.specs.Prelude.{◌≡◌, ◌⊎◌, ◌+◌, ◌^◌, ◌≤◌, [], true, IfErr, IfOk};
-ghost use Rattle.house_serving.specs.Serving.{run_of};
+ghost use Rattle.cds_base.specs.Runs.{run_of};
 ghost use Rattle.house_program.specs.Beginnings.{FindsSo};
 ghost use Rattle.house_program.specs.Causes.{HasCause, IsRefused, counts_of};
 ghost use Rattle.house_program.specs.HouseFolders.{LeavesHouse};
@@ -72,7 +72,7 @@ fn serve_all<F: Folder, S: Source, K: Sink>(
     requires locked { F.locked folder.old ≡ true }
     requires found { FindsSo (F.kept folder.old) found }
     ensures lived { Lived (F.kept folder.old) (F.left_ever folder.old) (F.kept folder.new)
-        (F.left_ever folder.new) (run_of S.left S.faults K.written K.faults source.old source.new
+        (F.left_ever folder.new) (run_of S.Source K.Sink source.old source.new
         sink.old sink.new) (status_of result) }
     ensures cause { HasCause (λ s. ⊥) (counts_of S.faults K.faults F.faults
         source.old sink.old folder.old) (counts_of S.faults K.faults F.faults source.new sink.new
@@ -101,7 +101,7 @@ fn process<F: Folder, S: Source, K: Sink>(
     sink: &mut K,
 ) -> Result<Status, Status>
     ensures lived { Lived (F.kept folder.old) (F.left_ever folder.old) (F.kept folder.new)
-        (F.left_ever folder.new) (run_of S.left S.faults K.written K.faults source.old source.new
+        (F.left_ever folder.new) (run_of S.Source K.Sink source.old source.new
         sink.old sink.new) (status_of result) }
     ensures cause { HasCause (IsRefused (F.kept folder.new)) (counts_of S.faults K.faults F.faults
         source.old sink.old folder.old) (counts_of S.faults K.faults F.faults source.new sink.new
@@ -120,7 +120,7 @@ pub fn run<F: Folder, S: Source, K: Sink>(
     sink: &mut K,
 ) -> Status
     ensures lived { Lived (F.kept folder.old) (F.left_ever folder.old) (F.kept folder.new)
-        (F.left_ever folder.new) (run_of S.left S.faults K.written K.faults source.old source.new
+        (F.left_ever folder.new) (run_of S.Source K.Sink source.old source.new
         sink.old sink.new) result }
     ensures cause { HasCause (IsRefused (F.kept folder.new)) (counts_of S.faults K.faults F.faults
         source.old sink.old folder.old) (counts_of S.faults K.faults F.faults source.new sink.new

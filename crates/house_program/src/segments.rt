@@ -5,7 +5,7 @@ ghost use Rattle.house_journal.specs.Disks.{Only};
 ghost use Rattle.cds_stamps.specs.declared.alloc_or.AllocOr.TheVariants.{Fault};
 ghost use Rattle.house_segments.specs.Segments.{HasFaultCause, IsAt, disk_of, size_with};
 ghost use Rattle.house_serving.specs.Ending.{HasEndingCause};
-ghost use Rattle.house_serving.specs.Serving.{run_of};
+ghost use Rattle.cds_base.specs.Runs.{run_of};
 ghost use Rattle.house_program.specs.Beginnings.{first_bodies};
 ghost use Rattle.house_program.specs.Causes.{HasSegmentCause, counts_of};
 ghost use Rattle.house_program.specs.Files.{CountsFile, NumberedFile, Quiet, last_file, number_in};
@@ -138,7 +138,7 @@ fn speak_and_serve<S: Source, K: Sink, D: Disk>(
     ensures spoken { (before : List ℕ) (bodies : List (List ℕ))
         → IsAt D.Disk segment.old before bodies
         → Spoken D.Disk before bodies said.now house.old house.new segment.old segment.new
-        lines.old lines.new (run_of S.left S.faults K.written K.faults source.old source.new
+        lines.old lines.new (run_of S.Source K.Sink source.old source.new
         sink.old sink.new) result }
     ensures cause { HasEndingCause (S.faults source.old) (S.faults source.new) (K.faults sink.old)
         (K.faults sink.new) (D.Disk.faults (disk_of segment.old))
@@ -169,7 +169,7 @@ pub(crate) fn serve_on<F: Folder, S: Source, K: Sink>(
     requires unbroken { fault_of_lines lines.old ≡ None }
     ensures done { SegmentDone (F.kept folder.old) (F.left_ever folder.old) (F.kept folder.new)
         (F.left_ever folder.new) next.now house.old house.new lines.old lines.new
-        (run_of S.left S.faults K.written K.faults source.old source.new sink.old sink.new)
+        (run_of S.Source K.Sink source.old source.new sink.old sink.new)
         result }
     ensures locked { F.locked folder.new ≡ true }
     ensures cause { HasSegmentCause (counts_of S.faults K.faults F.faults source.old sink.old

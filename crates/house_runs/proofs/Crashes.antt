@@ -8,7 +8,8 @@ use Rattle.house_journal.specs.Journals.{LeavesOnly}
 use Rattle.house_journal.proofs.Moments.{weaker}
 use Rattle.house_segments.specs.Segments.{HasBodies, disk_of}
 use Rattle.house_segments.specs.declared.segment.Segment.{Segment}
-use Rattle.house_serving.specs.Serving.{HasFront, IsOver, Run, Served}
+use Rattle.cds_base.specs.Runs.{Run}
+use Rattle.house_serving.specs.Serving.{HasFront, IsOver, Served}
 use Rattle.house_serving.specs.Turns.{Dialogue, Said, Turn, bodies_in, bodies_of}
 use Rattle.house_serving.specs.declared.ending.Ending.{Ending}
 use Rattle.house_serving.proofs.Fronts.{front_later}

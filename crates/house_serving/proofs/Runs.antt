@@ -16,7 +16,8 @@ use Rattle.house_serving.specs.Ending.{HasEndingCause}
 use Rattle.house_serving.specs.Ending as one_line
 use Rattle.house_serving.specs.Faults.{line_fault_text, shown, too_long}
 use Rattle.house_serving.specs.PrivateParts.{LineEndsSo, LineServed, Stops}
-use Rattle.house_serving.specs.Serving.{EndsSo, IsFaulty, IsOver, IsSettled, LacksRoom, Run, Served, Work}
+use Rattle.cds_base.specs.Runs.{Run}
+use Rattle.house_serving.specs.Serving.{EndsSo, IsFaulty, IsOver, IsSettled, LacksRoom, Served, Work}
 use Rattle.house_serving.specs.declared.faults.TheConstants.{MOST_LINE}
 use Rattle.house_serving.specs.Turns.{Said, Turn, bodies_of, lines_text, texts_of}
 use Rattle.house_serving.specs.declared.ending.Ending.{Ending}

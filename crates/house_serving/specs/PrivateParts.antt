@@ -12,7 +12,8 @@ use Rattle.house_segments.specs.Segments.{IsAt, disk_of, size_with}
 use Rattle.house_segments.specs.declared.segment.Segment.{Segment}
 use Rattle.house_serving.specs.Ending.{HasLineCause}
 use Rattle.house_serving.specs.Faults.{line_fault_text, shown, too_long}
-use Rattle.house_serving.specs.Serving.{HasFront, IsFront, IsOver, IsSettled, LacksRoom, Work}
+use Rattle.cds_base.specs.Runs.{IsFront}
+use Rattle.house_serving.specs.Serving.{HasFront, IsOver, IsSettled, LacksRoom, Work}
 use Rattle.house_serving.specs.Turns.{Said, Turn, bodies_in, bodies_of, lines_text, texts_of}
 use Rattle.house_serving.specs.declared.ending.Ending.{Ending}
 use Rattle.house_serving.specs.declared.ending.Ending.TheVariants.{BadInput, ReadFault, WriteFault, OutOfMemory, Full, DiskFault}

@@ -3,6 +3,7 @@ use Rattle.std.specs.Prelude.{◌≡◌, ◌⊎◌, ℕ, ◌+◌, ◌^◌, ◌<�
 use Rattle.std.specs.Io.KnownBytes.{Appends, IsAtEnd}
 use Rattle.cds_base.specs.LineFaults.{IsLine}
 use Rattle.cds_base.specs.Lines.{HasFault, lines_so_far, octets_ahead, fault_of_lines}
+use Rattle.cds_base.specs.Runs.{IsFront, Run}
 use Rattle.cds_base.specs.SourceReading.{GrowsByReading}
 use Rattle.cds_base.specs.declared.lines.Lines.{Lines}
 use Rattle.cds_base.specs.declared.scan.LineFault.{LineFault}
@@ -16,34 +17,6 @@ use Rattle.house_serving.specs.Turns.{Dialogue, Said, Turn, bodies_in, bodies_of
 use Rattle.house_serving.specs.declared.ending.Ending.{Ending}
 use Rattle.house_serving.specs.declared.ending.Ending.TheVariants.{InputEnds, BadInput, ReadFault, WriteFault, OutOfMemory, Full, DiskFault, Grown}
 use Rattle.house_serving.specs.declared.faults.TheConstants.{MOST_LINE}
-
--- the two ends of a run, before it and after it: the octets that its source had left, and has;
--- those that its sink octets_ahead, and holds, each where it tells them; and how often a read and a
--- write had failed, and have
-pub record Run : Type 0 where
-  pub left : Option (List ℕ)
-  pub left' : Option (List ℕ)
-  pub written : Option (List ℕ)
-  pub written' : Option (List ℕ)
-  pub reads : ℕ
-  pub reads' : ℕ
-  pub writes : ℕ
-  pub writes' : ℕ
-
--- the run of a source and a sink
-abbrev pub run_of : {S K : Type 0} → (left : S → Option (List ℕ)) → (reads : S → ℕ) → (written : K → Option (List ℕ)) → (writes : K → ℕ)
-    → (source source' : S) → (sink sink' : K) → Run
-run_of left reads written writes source source' sink sink' =
-    record {
-      left = left source;
-      left' = left source';
-      written = written sink;
-      written' = written sink';
-      reads = reads source;
-      reads' = reads source';
-      writes = writes sink;
-      writes' = writes sink';
-    }
 
 -- octets of a segment with these bodies, and with a front of these others
 pub record HasFront (before : List ℕ) (bodies more : List (List ℕ)) (octets : List ℕ) : Type 0 where
@@ -61,10 +34,6 @@ pub record Work {H D : Type 0} (responds : H → ℕ → List ℕ → Said → H
   pub wrote : Appends written written' text
   pub crash : LeavesOnly g disk disk' (HasFront before bodies (bodies_of turns ++ over))
   pub acknowledged : (c : List ℕ) → g.may_leave disk' c → HasFront before (bodies ++ bodies_of turns) over c
-
--- xs is a front of ys
-abbrev pub IsFront : List ℕ → List ℕ → Type 0
-IsFront xs ys = (more : List ℕ) × (ys ≡ xs ++ more)
 
 -- the house is the one after the turns, all their records are synced, and all that is due was
 -- written

@@ -20,7 +20,7 @@ use Rattle.line_forms.specs.declared.endings.Status.TheVariants.{Ok as AllRead, 
 use Rattle.line_forms.specs.Leaving.{IsLeft, LeadsTo, Leaves, LinesRead, NoneFollows, text_of}
 use Rattle.line_forms.specs.Demand.{LineRule}
 use Rattle.line_forms.specs.Endings.{Finishes, IsQueued, StopsWith, between, side}
-use Rattle.line_forms.specs.Runs.{IsFront, Run}
+use Rattle.cds_base.specs.Runs.{IsFront, Run}
 use Rattle.line_forms.proofs.Progress.{reads_on}
 use Rattle.line_forms.proofs.Turns.{is_read}
 
@@ -38,7 +38,7 @@ clean_same number place (x ∷ xs) (y ∷ ys) r s first second is =
     cc (same, rest)
 
 -- clean octets begin with no whole line
-clean_unended : (number place : ℕ) (octets_ahead xs r : List ℕ) → AreClean number place octets_ahead → AreClean number place xs → octets_ahead ≡ xs ++ 10 ∷ r → ⊥
+clean_unended : (number place : ℕ) (held xs r : List ℕ) → AreClean number place held → AreClean number place xs → held ≡ xs ++ 10 ∷ r → ⊥
 clean_unended number place [] [] r clean first is = absurd (cc (is))
 clean_unended number place [] (x ∷ xs) r clean first is = absurd (cc (is))
 clean_unended number place (h ∷ hs) [] r clean first is = let same : h ≡ 10 = cc in absurd (clean.0 same)
@@ -93,12 +93,12 @@ module _ {S : Type 0} (rule : LineRule S) where
   NoneAnswered number at rest = (line more : List ℕ) → rest ≡ (line ++ 10 ∷ []) ++ more → IsLine number line
       → (text : List ℕ) × (rule.response number at line ≡ Stops text)
 
-  after_clean : (number : ℕ) (at : S) (octets_ahead : List ℕ) → AreClean number 1 octets_ahead → NoneAnswered number at octets_ahead
-  after_clean number at octets_ahead clean xs more is there =
-      absurd (clean_unended number 1 octets_ahead xs more clean there.0 (is ∙ joined xs more))
+  after_clean : (number : ℕ) (at : S) (held : List ℕ) → AreClean number 1 held → NoneAnswered number at held
+  after_clean number at held clean xs more is there =
+      absurd (clean_unended number 1 held xs more clean there.0 (is ∙ joined xs more))
 
-  after_fault : (number : ℕ) (at : S) (octets_ahead : List ℕ) (fault : LineFault) → ShowsFault number fault octets_ahead → NoneAnswered number at octets_ahead
-  after_fault number at octets_ahead fault shows xs more is there =
+  after_fault : (number : ℕ) (at : S) (held : List ℕ) (fault : LineFault) → ShowsFault number fault held → NoneAnswered number at held
+  after_fault number at held fault shows xs more is there =
       absurd (fault_unended number 1 fault shows.front xs more shows.rest shows.octet shows.clean there.0 shows.shown there.1
       (sym shows.split ∙ is ∙ joined xs more))
 
@@ -116,19 +116,19 @@ module _ {S : Type 0} (rule : LineRule S) where
   -- ---- the lines so far
 
   -- the lines that were answered so far, the state after them, and what of their text was written
-  pub record LinesSo (state : S) (first left old new : Option (List ℕ)) (octets_ahead waits : List ℕ) (count : ℕ) (at : S) : Type 0 where
+  pub record LinesSo (state : S) (first left old new : Option (List ℕ)) (held waits : List ℕ) (count : ℕ) (at : S) : Type 0 where
     pub lines : List (List ℕ)
     pub text : List ℕ
     pub out : List ℕ
     pub leads : LeadsTo rule 1 state lines text at
     pub counts : count ≡ length lines
-    pub taken : Consumes first left (text_of lines ++ octets_ahead)
+    pub taken : Consumes first left (text_of lines ++ held)
     pub written : Appends old new out
     pub said : out ++ waits ≡ text
 
-  pub none_so : (state : S) (first old : Option (List ℕ)) (octets_ahead waits : List ℕ) (count : ℕ) → octets_ahead ≡ [] → waits ≡ [] → count ≡ 0
-      → LinesSo state first first old old octets_ahead waits count state
-  none_so state first old octets_ahead waits count none nothing zero_count = record {
+  pub none_so : (state : S) (first old : Option (List ℕ)) (held waits : List ℕ) (count : ℕ) → held ≡ [] → waits ≡ [] → count ≡ 0
+      → LinesSo state first first old old held waits count state
+  none_so state first old held waits count none nothing zero_count = record {
     lines = [];
     text = [];
     out = [];
@@ -165,11 +165,11 @@ module _ {S : Type 0} (rule : LineRule S) where
             (subst (λ n. rule.response n at line ≡ GoesOn said next) more responds),
       )
 
-  module _ (state : S) (first left old new : Option (List ℕ)) (octets_ahead waits : List ℕ) (count : ℕ) (at : S)
-      (s : LinesSo state first left old new octets_ahead waits count at) where
+  module _ (state : S) (first left old new : Option (List ℕ)) (held waits : List ℕ) (count : ℕ) (at : S)
+      (s : LinesSo state first left old new held waits count at) where
     -- a part of what waits went out
     pub flushed_so : (new' : Option (List ℕ)) (waits' : List ℕ) (ready : Bool) → Flushes new new' waits waits' ready
-        → LinesSo state first left old new' octets_ahead waits' count at
+        → LinesSo state first left old new' held waits' count at
     flushed_so new' waits' ready writes = record {
       lines = s.lines;
       text = s.text;
@@ -187,9 +187,9 @@ module _ {S : Type 0} (rule : LineRule S) where
 
     -- a line more is answered
     module _ (left' : Option (List ℕ)) (held' line' : List ℕ) (number : ℕ) (is_next : number ≡ count + 1) (is_line : IsLine number line')
-        (grows : GrowsByReading left left' octets_ahead ((line' ++ 10 ∷ []) ++ held')) where
+        (grows : GrowsByReading left left' held ((line' ++ 10 ∷ []) ++ held')) where
       took : Consumes first left' (text_of s.lines ++ ((line' ++ 10 ∷ []) ++ held'))
-      took = reads_on first left left' (text_of s.lines) octets_ahead ((line' ++ 10 ∷ []) ++ held') s.taken grows
+      took = reads_on first left left' (text_of s.lines) held ((line' ++ 10 ∷ []) ++ held') s.taken grows
 
       pub answered_so : (said : List ℕ) (next : S) (waits' : List ℕ) → rule.response number at line' ≡ GoesOn said next → waits' ≡ waits ++ said
           → LinesSo state first left' old new held' waits' (count + 1) next
@@ -506,9 +506,9 @@ module _ {S : Type 0} (rule : LineRule S) where
 
   -- a write failed between two lines
   pub write_fails_so : (At : S → Type 0) (Broken : ℕ → S → List ℕ → Type 0) (state : S) (first left old new : Option (List ℕ))
-      (octets_ahead waits : List ℕ) (count : ℕ) (at : S) (s : LinesSo state first left old new octets_ahead waits count at) (new' : Option (List ℕ))
+      (held waits : List ℕ) (count : ℕ) (at : S) (s : LinesSo state first left old new held waits count at) (new' : Option (List ℕ))
       (reads reads' writes writes' k : ℕ) → Appends new new' (take k waits) → At at
       → Leaves rule At Broken state (between (side first reads) (side left reads') (side old writes) (side new' writes')) WriteFault
-  write_fails_so At Broken state first left old new octets_ahead waits count at s new' reads reads' writes writes' k went stands =
-      unwritten_so state first left old new octets_ahead waits count at s At Broken left new' reads reads' writes writes writes' octets_ahead s.taken k waits went
-      (inl (part_waits state first left old new octets_ahead waits count at s At Broken left new' reads reads' writes writes writes' octets_ahead s.taken k)) (inl stands)
+  write_fails_so At Broken state first left old new held waits count at s new' reads reads' writes writes' k went stands =
+      unwritten_so state first left old new held waits count at s At Broken left new' reads reads' writes writes writes' held s.taken k waits went
+      (inl (part_waits state first left old new held waits count at s At Broken left new' reads reads' writes writes writes' held s.taken k)) (inl stands)

@@ -63,10 +63,10 @@ module _ {S : Type 0} (rule : LineRule S) where
   lines_stop count at = record { demand = at_end rule (count + 1) at []; behind = demand_part rule (count + 1) at [] tt; none = refl; unbroken = tt }
 
   -- before the first line
-  pub first_line : (state : S) (first old : Option (List ℕ)) (octets_ahead waits : List ℕ) (count : ℕ) → octets_ahead ≡ [] → waits ≡ [] → count ≡ 0
-      → Reached (by_lines rule state) first first old old octets_ahead waits (BehindLines count state)
-  first_line state first old octets_ahead waits count none nothing zero_count =
-      started (by_lines rule state) first old octets_ahead waits (BehindLines count state) none nothing
+  pub first_line : (state : S) (first old : Option (List ℕ)) (held waits : List ℕ) (count : ℕ) → held ≡ [] → waits ≡ [] → count ≡ 0
+      → Reached (by_lines rule state) first first old old held waits (BehindLines count state)
+  first_line state first old held waits count none nothing zero_count =
+      started (by_lines rule state) first old held waits (BehindLines count state) none nothing
       (λ r d behind. demanded_scanned rule state r ∙ ap (λ (n : ℕ). scanned rule (n + 1) state [] r) (sym zero_count) ∙ behind) (lines_stop count state)
 
   -- the form is where the lines so far bring it, no fault was met, and no call failed

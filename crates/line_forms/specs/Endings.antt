@@ -6,7 +6,8 @@ use Rattle.line_forms.specs.declared.endings.Status.{Status}
 use Rattle.line_forms.specs.declared.endings.Status.TheVariants.{Ok as AllRead, Usage, BadInput, ReadFault, WriteFault, OutOfMemory, JournalFull}
 use Rattle.line_forms.specs.Demand.{Demand}
 use Rattle.line_forms.specs.Readings.{Reading}
-use Rattle.line_forms.specs.Runs.{Run, Ended, IsFilled, IsWhole, IsFaulty, IsPart}
+use Rattle.cds_base.specs.Runs.{Run}
+use Rattle.line_forms.specs.Runs.{Ended, IsFilled, IsWhole, IsFaulty, IsPart}
 
 -- a source or a sink: the octets that it has left or that it took, where it tells them, and how
 -- often it failed
@@ -28,8 +29,8 @@ between source source' sink sink' =
     record {
       left = source.octets;
       left' = source'.octets;
-      held = sink.octets;
-      held' = sink'.octets;
+      written = sink.octets;
+      written' = sink'.octets;
       reads = source.faults;
       reads' = source'.faults;
       writes = sink.faults;

@@ -6,7 +6,7 @@ use Rattle.reply_buffer.specs.Responses.{GoesOn, Stops, Fills}
 use Rattle.reply_buffer.specs.declared.replies.LineEnd.{LineEnd}
 use Rattle.reply_buffer.specs.declared.replies.LineEnd.TheVariants as line
 use Rattle.line_forms.specs.Demand.{LineRule}
-use Rattle.line_forms.specs.Runs.{IsFront, Run}
+use Rattle.cds_base.specs.Runs.{IsFront, Run}
 use Rattle.line_forms.specs.declared.endings.Status.{Status}
 use Rattle.line_forms.specs.declared.endings.Status.TheVariants.{Ok as AllRead, Usage, BadInput, ReadFault, WriteFault, OutOfMemory, JournalFull}
 
@@ -33,7 +33,7 @@ pub record LinesRead {S : Type 0} (rule : LineRule S) (state : S) (run : Run) : 
   pub out : List ℕ
   pub leads : LeadsTo rule 1 state lines text at
   pub taken : Consumes run.left run.left' (text_of lines ++ rest)
-  pub written : Appends run.held run.held' out
+  pub written : Appends run.written run.written' out
 
 -- the number of the line that follows
 abbrev pub next_number : {S : Type 0} {rule : LineRule S} {state : S} {run : Run} → LinesRead rule state run → ℕ

@@ -2,14 +2,11 @@
 use Rattle.std.specs.Prelude.{◌≡◌, ◌⊎◌, ℕ, ◌≤◌, ◌<◌, List, [], ◌++◌, length, Option}
 use Rattle.std.specs.Io.KnownBytes.{Consumes, Appends}
 use Rattle.cds_base.specs.Counts.{Rose}
+use Rattle.cds_base.specs.Runs.{IsFront, Run}
 use Rattle.line_forms.specs.declared.endings.Status.{Status}
 use Rattle.line_forms.specs.declared.endings.Status.TheVariants.{Ok as AllRead, Usage, BadInput, ReadFault, WriteFault, OutOfMemory, JournalFull}
 use Rattle.line_forms.specs.Demand.{Demand, Sound, Faulty, CutShort, Filled, IsUnbroken}
 use Rattle.line_forms.specs.Readings.{Reading}
-
--- xs is a front of ys
-abbrev pub IsFront : List ℕ → List ℕ → Type 0
-IsFront xs ys = (more : List ℕ) × (ys ≡ xs ++ more)
 
 -- xs is a front of ys, and something is missing
 abbrev pub Lacks : List ℕ → List ℕ → Type 0
@@ -26,34 +23,6 @@ code_of OutOfMemory = 6
 code_of JournalFull = 7
 
 -- ---- a run from outside
-
--- The two ends of a run, before it and after it: the octets that its source had left, and has;
--- those that its sink held, and holds, each where it tells them; and how often a read and a write
--- had failed, and have
-pub record Run : Type 0 where
-  pub left : Option (List ℕ)
-  pub left' : Option (List ℕ)
-  pub held : Option (List ℕ)
-  pub held' : Option (List ℕ)
-  pub reads : ℕ
-  pub reads' : ℕ
-  pub writes : ℕ
-  pub writes' : ℕ
-
--- the run of a source and a sink, by what tells their octets and their failures
-abbrev pub run_of : {S K : Type 0} → (left : S → Option (List ℕ)) → (reads : S → ℕ) → (held : K → Option (List ℕ)) → (writes : K → ℕ)
-    → (source source' : S) → (sink sink' : K) → Run
-run_of left reads held writes source source' sink sink' =
-    record {
-      left = left source;
-      left' = left source';
-      held = held sink;
-      held' = held sink';
-      reads = reads source;
-      reads' = reads source';
-      writes = writes sink;
-      writes' = writes sink';
-    }
 
 -- no call failed: neither count rose
 abbrev pub IsCalm : Run → Type 0
@@ -110,7 +79,7 @@ pub record Wrote (form : Reading) (run : Run) (P : Demand → List ℕ → Type 
   pub text : List ℕ
   pub demand : Demand
   pub taken : Consumes run.left run.left' read
-  pub written : Appends run.held run.held' text
+  pub written : Appends run.written run.written' text
   pub demands : form.demands read demand
   pub due : P demand text
 
@@ -123,7 +92,7 @@ pub record WroteAllBefore (form : Reading) (run : Run) : Type 0 where
   pub demand : Demand
   pub with_came : Demand
   pub taken : Consumes run.left run.left' (octets ++ came)
-  pub written : Appends run.held run.held' text
+  pub written : Appends run.written run.written' text
   pub demands : form.demands octets demand
   pub due : IsBody demand text
   pub late : form.came_late octets came
@@ -139,7 +108,7 @@ pub record WroteSoon (form : Reading) (run : Run) : Type 0 where
   pub text : List ℕ
   pub demand : Demand
   pub taken : Consumes run.left run.left' (front ++ (one ++ behind))
-  pub written : Appends run.held run.held' text
+  pub written : Appends run.written run.written' text
   pub demands : form.demands front demand
   pub answered : IsFront demand.body text
   pub at_once : (one ≡ []) ⊎ form.is_taken_at_once one
@@ -160,7 +129,7 @@ pub record AnswersFront (form : Reading) (left left' : Option (List ℕ)) (text 
 
 -- such a text was written
 abbrev pub WroteAnswers : Reading → Run → Type 0
-WroteAnswers form run = (text : List ℕ) × Appends run.held run.held' text × AnswersFront form run.left run.left' text
+WroteAnswers form run = (text : List ℕ) × Appends run.written run.written' text × AnswersFront form run.left run.left' text
 
 -- ---- how a run ends
 

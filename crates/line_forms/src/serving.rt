@@ -2,7 +2,8 @@
 ghost use Rattle.std.specs.Prelude.{◌≡◌, ◌≢◌};
 ghost use Rattle.cds_base.specs.Lines.{IsFresh};
 ghost use Rattle.line_forms.specs.Readings.{by_lines};
-ghost use Rattle.line_forms.specs.Runs.{Ended, run_of};
+ghost use Rattle.cds_base.specs.Runs.{run_of};
+ghost use Rattle.line_forms.specs.Runs.{Ended};
 ghost use Rattle.line_forms.specs.Leaving.{HoldsAt, Leaves};
 ghost use Rattle.line_forms.specs.Endings.{StopsWith, side_of};
 
@@ -64,10 +65,10 @@ fn answer_lines<F: LineForm, S: Source, K: Sink>(
     requires fresh { IsFresh lines.old }
     requires start { F.counted form.old ≡ 0 }
     ensures ends { (state : F.State) → F.is_at form.old state → Ended (by_lines F.rule state)
-        (run_of S.left S.faults K.written K.faults source.old source.new sink.old sink.new) result }
+        (run_of S.Source K.Sink source.old source.new sink.old sink.new) result }
     ensures leaves { (state : F.State) → F.is_at form.old state
         → Leaves F.rule (F.is_kept form.new) (F.is_broken form.new) state
-        (run_of S.left S.faults K.written K.faults source.old source.new sink.old sink.new) result }
+        (run_of S.Source K.Sink source.old source.new sink.old sink.new) result }
     ensures holds { (state : F.State) → F.is_at form.old state → F.holds LineEnd.GoesOn form.old
         → HoldsAt (λ end. F.holds end form.new) result }
 {
@@ -101,10 +102,10 @@ pub fn serve_form<F: LineForm, S: Source, K: Sink>(
 ) -> Status
     requires start { F.counted form.old ≡ 0 }
     ensures ends { (state : F.State) → F.is_at form.old state → Ended (by_lines F.rule state)
-        (run_of S.left S.faults K.written K.faults source.old source.new sink.old sink.new) result }
+        (run_of S.Source K.Sink source.old source.new sink.old sink.new) result }
     ensures leaves { (state : F.State) → F.is_at form.old state
         → Leaves F.rule (F.is_kept form.new) (F.is_broken form.new) state
-        (run_of S.left S.faults K.written K.faults source.old source.new sink.old sink.new) result }
+        (run_of S.Source K.Sink source.old source.new sink.old sink.new) result }
     ensures holds { (state : F.State) → F.is_at form.old state → F.holds LineEnd.GoesOn form.old
         → HoldsAt (λ end. F.holds end form.new) result }
 {
@@ -123,7 +124,7 @@ pub fn serve_lines<F: LineForm + Drop, S: Source, K: Sink>(
 ) -> Status
     requires start { F.counted form ≡ 0 }
     ensures { (state : F.State) → F.is_at form state → Ended (by_lines F.rule state)
-        (run_of S.left S.faults K.written K.faults source.old source.new sink.old sink.new) result }
+        (run_of S.Source K.Sink source.old source.new sink.old sink.new) result }
 {
     serve_form(alloc, &mut form, source, sink)
 }

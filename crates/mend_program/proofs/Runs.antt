@@ -17,7 +17,8 @@ use Rattle.line_forms.specs.Demand.{Demand, Sound, line_demand}
 use Rattle.mend_program.specs.MendForm.{mend_form}
 use Rattle.mend_replay.specs.MendRules.{mend_rule, mending}
 use Rattle.script_replay.specs.Headline.{cell_after_script, commands_from}
-use Rattle.line_forms.specs.Runs.{IsWhole, Run, Wrote}
+use Rattle.cds_base.specs.Runs.{Run}
+use Rattle.line_forms.specs.Runs.{IsWhole, Wrote}
 use Rattle.script_replay.specs.Scripts.{state_after_lines}
 use Rattle.script_replay.proofs.Scripts.{faultless_script, script_due, told_with}
 use Rattle.mend_replay.specs.SayableCommands.{IsDirectory}

@@ -11,7 +11,7 @@ use Rattle.script_answers.specs.declared.answer.Answer.{Answer}
 use Rattle.script_answers.specs.declared.answer.Answer.TheVariants as answer
 use Rattle.script_replay.specs.Replies.{Numbered, reply_to}
 use Rattle.script_replay.specs.Headline.{cell_after_script, commands_of, line_place}
-use Rattle.line_forms.specs.Runs.{Run}
+use Rattle.cds_base.specs.Runs.{Run}
 use Rattle.script_replay.specs.Scripts.{IsScript}
 use Rattle.line_forms.specs.Leaving.{text_of}
 use Rattle.mend_model.specs.Leaving.{new_master, smaller_list}

@@ -2,7 +2,8 @@
 ghost use Rattle.std.specs.Prelude.{◌≡◌, ◌↔◌, None, Some, IfOk, IfSome, ℕ, map, string_bytes};
 ghost use Rattle.std.specs.Option.{option_map};
 ghost use Rattle.mend_program.specs.MendForm.{mend_form};
-ghost use Rattle.line_forms.specs.Runs.{Ended, run_of};
+ghost use Rattle.cds_base.specs.Runs.{run_of};
+ghost use Rattle.line_forms.specs.Runs.{Ended};
 ghost use Rattle.line_forms.specs.declared.endings.Status.{Status as Status'};
 ghost use Rattle.cell_script.specs.Words.{most_directory, most_house, number_to};
 ghost use Rattle.house_directory.specs.HouseMessages.{numbers_of};
@@ -103,11 +104,11 @@ pub fn run<S: Source, K: Sink>(
     ensures unused { result ≡ Status.Usage → (source.new ≡ source.old) × (sink.new ≡ sink.old) }
     ensures ends { IfSome (directory_named (map string_bytes words.now))
         (λ dir. Ended (mend_form dir (houses_named (map string_bytes words.now)))
-        (run_of S.left S.faults K.written K.faults source.old source.new sink.old sink.new) result) }
+        (run_of S.Source K.Sink source.old source.new sink.old sink.new) result) }
     ensures mends { (dir : ℕ) → directory_named (map string_bytes words.now) ≡ Some dir
         → result ≡ Status.Ok
         → IsMending dir (houses_named (map string_bytes words.now))
-        (run_of S.left S.faults K.written K.faults source.old source.new sink.old sink.new) }
+        (run_of S.Source K.Sink source.old source.new sink.old sink.new) }
 {
     match directory_in(words) {
         Some(dir) => mend_by_words(alloc, words, dir, source, sink),
@@ -124,7 +125,7 @@ fn mend_by_words<S: Source, K: Sink>(
     sink: &mut K,
 ) -> Status
     ensures { Ended (mend_form dir.0 (houses_named (map string_bytes words.now)))
-        (run_of S.left S.faults K.written K.faults source.old source.new sink.old sink.new) result }
+        (run_of S.Source K.Sink source.old source.new sink.old sink.new) result }
 {
     match houses_in(alloc, words) {
         Ok(without) => mend_directory(alloc, dir, without, source, sink),

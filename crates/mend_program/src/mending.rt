@@ -1,6 +1,7 @@
 // The form of `cdsmend`: a script is replayed, and what mends a directory after it is written.
 ghost use Rattle.mend_program.specs.MendForm.{mend_form};
-ghost use Rattle.line_forms.specs.Runs.{Ended, run_of};
+ghost use Rattle.cds_base.specs.Runs.{run_of};
+ghost use Rattle.line_forms.specs.Runs.{Ended};
 ghost use Rattle.house_directory.specs.HouseMessages.{numbers_of};
 
 use cds_base::{Sink, Source};
@@ -19,7 +20,7 @@ pub fn mend_directory<S: Source, K: Sink>(
     sink: &mut K,
 ) -> Status
     ensures { Ended (mend_form dir.0 (numbers_of without.items))
-        (run_of S.left S.faults K.written K.faults source.old source.new sink.old sink.new) result }
+        (run_of S.Source K.Sink source.old source.new sink.old sink.new) result }
 {
     serve_lines(alloc, Mender::new(alloc, dir, without), source, sink)
 }

@@ -13,7 +13,8 @@ use Rattle.reply_buffer.specs.Responses.{ResponseOf, GoesOn, Stops, Fills, in_st
 use Rattle.line_forms.specs.Demand.{Demand, LineRule, Sound, line_demand, unless_fault, then_rest, with_front, whole}
 use Rattle.line_forms.specs.Leaving.{text_of}
 use Rattle.line_forms.specs.Readings.{by_lines}
-use Rattle.line_forms.specs.Runs.{Run, Wrote, IsWhole}
+use Rattle.cds_base.specs.Runs.{Run}
+use Rattle.line_forms.specs.Runs.{Wrote, IsWhole}
 use Rattle.line_forms.proofs.Scanning.{scanned, demanded_scanned, clean_more, is_ten, no_ten}
 use Rattle.line_forms.proofs.Demands.{demand_line, demand_part}
 use Rattle.script_replay.specs.Dialogues.{Dialogue, NumberedOf, reply_of, transcript_by}

@@ -12,7 +12,7 @@ use Rattle.cell_script.specs.Words.{words_of}
 use Rattle.cell_script.specs.CommandRows.{said_in}
 use Rattle.script_replay.specs.Headline.{Finds, TellsCompleted, cell_after_script, commands_of}
 use Rattle.line_forms.specs.Leaving.{text_of}
-use Rattle.line_forms.specs.Runs.{Run}
+use Rattle.cds_base.specs.Runs.{Run}
 use Rattle.script_replay.specs.Dialogues.{Dialogue, NumberedOf, transcript_by}
 use Rattle.script_replay.specs.Replies.{Numbered, run_dialogue}
 

@@ -3,7 +3,7 @@ use Rattle.journal_replay.specs.CellDisks.{AreNew, AreUsable}
 use Rattle.journal_replay.specs.CellJournals.{empty_state}
 use Rattle.journal_replay.specs.JournalRules.{AreOnDisks, ArePut, IsAfter, journal_rule}
 use Rattle.line_forms.specs.Leaving.{Leaves}
-use Rattle.line_forms.specs.Runs.{run_of}
+use Rattle.cds_base.specs.Runs.{run_of}
 use Rattle.journal_replay.proofs.Usable.{new_usable}
 use Rattle.reply_buffer.specs.declared.replies.LineEnd.{LineEnd}
 use Rattle.line_forms.proofs.Holding.{always_holds}
@@ -23,7 +23,7 @@ returns-in-Ok-clause-transcript g c ok =
 
 pub returns-in-Ok-clause-disks : goal.returns-in-Ok-clause-disks
 returns-in-Ok-clause-disks g c =
-    subst (λ ds. Leaves journal_rule (AreOnDisks ds) (ArePut ds) empty_state (run_of g.S.Source.left g.S.Source.faults g.K.Sink.written g.K.Sink.faults
+    subst (λ ds. Leaves journal_rule (AreOnDisks ds) (ArePut ds) empty_state (run_of g.S.Source g.K.Sink
     c.args.source.now c.serve_form-status.new.source c.args.sink.now c.serve_form-status.new.sink) c.serve_form-status.result) (sym c.into_disks.ensures)
     (c.serve_form-status.ensures.leaves empty_state c.in-Ok.ensures.stands)
 

@@ -1,6 +1,6 @@
 use Rattle.std.proofs.Common.{◌≡◌, ◌-◌, List, ℕ, true}
 use Rattle.house_runs.specs.Folders.{FolderSegment}
-use Rattle.house_serving.specs.Serving.{run_of}
+use Rattle.cds_base.specs.Runs.{run_of}
 use Rattle.house_turns.specs.declared.house.House.{House}
 use Rattle.house_program.specs.Beginnings.{FindsSo}
 use Rattle.house_program.specs.Causes.{Counts, counts_of}
@@ -18,7 +18,7 @@ abbrev pub invariant-segments : goal.invariant-segments
 invariant-segments g l =
     IsServing
     (IsLiving (g.F.Folder.kept l.fn.folder) (g.F.Folder.left_ever l.fn.folder) (g.F.Folder.kept l.folder) (g.F.Folder.left_ever l.folder)
-    (run_of g.S.Source.left g.S.Source.faults g.K.Sink.written g.K.Sink.faults l.fn.source l.source l.fn.sink l.sink) l.lines l.house l.next)
+    (run_of g.S.Source g.K.Sink l.fn.source l.source l.fn.sink l.sink) l.lines l.house l.next)
     (g.F.Folder.locked l.folder ≡ true)
     (counts_of g.S.Source.faults g.K.Sink.faults g.F.Folder.faults l.fn.source l.fn.sink l.fn.folder)
     (counts_of g.S.Source.faults g.K.Sink.faults g.F.Folder.faults l.source l.sink l.folder)

@@ -4,7 +4,7 @@ use Rattle.cds_base.specs.Lines.{lines_so_far, fault_of_lines}
 use Rattle.cds_base.specs.declared.lines.Lines.{Lines}
 use Rattle.house_segments.specs.Segments.{IsAt, size_of}
 use Rattle.house_segments.specs.declared.segment.Segment.{Segment}
-use Rattle.house_serving.specs.Serving.{run_of}
+use Rattle.cds_base.specs.Runs.{run_of}
 use Rattle.house_serving.proofs.Runs.{IsBetween}
 use Rattle.house_serving.proofs.serving.serve.Given as goal
 
@@ -20,7 +20,7 @@ invariant-lines g l =
     IsGoingOn
     (λ before bodies. IsAt g.D.Disk l.fn.segment before bodies)
     (λ before bodies. IsBetween g.R.Responder.responds g.D.Disk before bodies l.fn.house l.house l.fn.segment l.segment l.fn.lines l.lines
-    (run_of g.S.Source.left g.S.Source.faults g.K.Sink.written g.K.Sink.faults l.fn.source l.source l.fn.sink l.sink))
+    (run_of g.S.Source g.K.Sink l.fn.source l.source l.fn.sink l.sink))
     l.lines l.fn.segment l.segment l.most
 
 abbrev pub decreases-lines : goal.decreases-lines
