@@ -136,7 +136,8 @@ add_is : says (codes "add 1 1 lpr A 5072") ≡ Ok
 unfolding said_by check_count take_words number_of decode_pairs
 add_is = refl
 
-link_is : says (codes "link 1 1 up /.:") ≡ Ok (Some (line.Cell (command.Link (record { 0 = 1 }) (record { 0 = 1 }) (codes "up") [])))
+link_is : says (codes "link 1 1 up /.:") ≡ Ok
+    (Some (line.Cell (command.Update (record { 0 = 1 }) (record { 0 = 1 }) (update.MakeLink (codes "up") []))))
 unfolding said_by check_count take_words number_of
 link_is = refl
 
