@@ -12,8 +12,6 @@ use Rattle.script_answers.specs.declared.answer.ScriptRefusal.{ScriptRefusal}
 use Rattle.house_directory.specs.HouseMessages.{numbers_of}
 use Rattle.cds_cell.specs.declared.cell.Cell.{Cell}
 use Rattle.cds_cell.specs.declared.house.CellHouse.{CellHouse}
-use Rattle.cds_cell.specs.declared.step.Step.{Step}
-use Rattle.cds_cell.specs.declared.step.Step.TheVariants as step
 use Rattle.cds_cell.specs.Scripted.{answer_of, refusal_of}
 use Rattle.cds_cell.specs.ModelCells.{GrowsBy, StandsAs, UnlessDone}
 
@@ -22,21 +20,6 @@ abbrev pub IsPlaceOf : List CellHouse → ℕ → ℕ → Type 0
 IsPlaceOf [] x i = ⊥
 IsPlaceOf (h ∷ hs) x zero = h.house.0 ≡ x
 IsPlaceOf (h ∷ hs) x (suc i) = (h.house.0 ≢ x) × IsPlaceOf hs x i
-
--- the command of the model that a step of the program is
-abbrev pub step_meant : Step → command.Command
-step_meant (step.House h node) = command.House h.0 node
-step_meant (step.Clock h time) = command.Clock h.0 time
-step_meant (step.Root m ls) = command.Root m.0 (numbers_of (houses_in ls)) (numbers_of (secondaries_in ls))
-step_meant (step.Mkdir h d n m ls) = command.Mkdir h.0 d.0 n m.0 (numbers_of (houses_in ls)) (numbers_of (secondaries_in ls))
-step_meant (step.Repoint h d n m rs) = command.Repoint h.0 d.0 n m.0 (numbers_of rs)
-step_meant (step.Update h d u) = command.Accept h.0 d.0 (change_of u)
-step_meant (step.Epoch d m ls) = command.Epoch d.0 m.0 (numbers_of (houses_in ls)) (numbers_of (secondaries_in ls))
-step_meant (step.Skulk h d) = command.Skulk h.0 d.0
-step_meant (step.Deliver n) = command.Deliver n
-step_meant (step.Lose n) = command.Lose n
-step_meant (step.Crash h) = command.Crash h.0
-step_meant (step.Start h) = command.Start h.0
 
 -- a step is allowed by these tests, or the first refusal is told whose test holds
 abbrev pub IsAllowed : {T : Type 0} → Result T ScriptRefusal → List (Bool × command.Refusal) → Type 0

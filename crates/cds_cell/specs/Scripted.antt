@@ -2,7 +2,7 @@
 use Rattle.std.specs.Prelude.{[], Option, Some, None}
 use Rattle.directory.specs.declared.update.UpdateRefusal.{UpdateRefusal}
 use Rattle.directory.specs.declared.update.UpdateRefusal.TheVariants as update
-use Rattle.directory.specs.Updates as updates
+use Rattle.directory.specs.Updates.{change_of}
 use Rattle.cell_model.specs.Commands as model
 use Rattle.cell_script.specs.declared.command.Command.{Command}
 use Rattle.cell_script.specs.declared.command.Command.TheVariants as command
@@ -20,13 +20,7 @@ step_of (command.Clock h time) = model.Clock h.0 time
 step_of (command.Root m ls) = model.Root m.0 (numbers_of (houses_in ls)) (numbers_of (secondaries_in ls))
 step_of (command.Mkdir h d n m ls) = model.Mkdir h.0 d.0 n m.0 (numbers_of (houses_in ls)) (numbers_of (secondaries_in ls))
 step_of (command.Repoint h d n m rs) = model.Repoint h.0 d.0 n m.0 (numbers_of rs)
-step_of (command.Create h d n) = model.Accept h.0 d.0 (updates.Create n)
-step_of (command.Link h d n target) = model.Accept h.0 d.0 (updates.MakeLink n target)
-step_of (command.Delete h d n) = model.Accept h.0 d.0 (updates.Delete n)
-step_of (command.Add h d n a v) = model.Accept h.0 d.0 (updates.Add n a v)
-step_of (command.Remove h d n a v) = model.Accept h.0 d.0 (updates.Remove n a v)
-step_of (command.Put h d n a v) = model.Accept h.0 d.0 (updates.Put n a v)
-step_of (command.Clear h d n a) = model.Accept h.0 d.0 (updates.Clear n a)
+step_of (command.Update h d u) = model.Accept h.0 d.0 (change_of u)
 step_of (command.Epoch d m ls) = model.Epoch d.0 m.0 (numbers_of (houses_in ls)) (numbers_of (secondaries_in ls))
 step_of (command.Skulk h d) = model.Skulk h.0 d.0
 step_of (command.Deliver n) = model.Deliver n

@@ -13,16 +13,16 @@ ghost use Rattle.house_directory.specs.DirectorySteps.{IsBegunAnswer, IsEpochAns
 ghost use Rattle.cds_cell.specs.declared.house.CellHouse.{CellHouse};
 ghost use Rattle.cds_cell.specs.PrivateActs.{ActsAt, KeepsRest, Posts};
 ghost use Rattle.cds_cell.specs.PrivateHouses.{IsNewEpoch, leaves_by, posted_at};
-ghost use Rattle.cds_cell.specs.PrivateSteps.{ComesTo, IsPlaceOf, Leaves, step_meant};
+ghost use Rattle.cds_cell.specs.PrivateSteps.{ComesTo, IsPlaceOf, Leaves};
+ghost use Rattle.cds_cell.specs.Scripted.{step_of};
 ghost use Rattle.cds_cell.specs.ModelCells.{HasRoom, Stands};
 
 use crate::answers::{begun_in_script, epoch_refusal_in_script, refusal_in_script};
 use crate::cell::Cell;
 use crate::console::Listing;
 use crate::members::{leaving, member_list};
-use crate::step::Step;
 use cds_stamps::{DirId, EpochNo, HouseNo, Members, Stamp};
-use cell_script::Listeds;
+use cell_script::{Command, Listeds};
 use clearinghouse::{Begun, EpochRefusal, Outgoing};
 use directory::{Update, UpdateRefusal};
 use script_answers::{Answer, ScriptRefusal, Serials};
@@ -30,30 +30,30 @@ use std::alloc::{AllocError, Global};
 
 impl Cell {
     /// Does a step that nothing was said against.
-    pub(crate) fn act(&mut self, alloc: Global, step: Step) -> Result<Answer, AllocError>
+    pub(crate) fn act(&mut self, alloc: Global, command: Command) -> Result<Answer, AllocError>
         requires room { HasRoom self.old }
         ensures leaves { Leaves self.old self.new result }
         ensures step { (g : model.Cell) → Stands self.old g
-            → first_refusal (refusals_of g (step_meant step)) ≡ None
-            → ComesTo result self.new (effect g (step_meant step)) }
+            → first_refusal (refusals_of g (step_of command)) ≡ None
+            → ComesTo result self.new (effect g (step_of command)) }
     {
-        match step {
-            Step::House(house, node) => self.make_house(alloc, house, node),
-            Step::Clock(house, time) => Ok(self.set_clock(house, time)),
-            Step::Root(master, others) => self.make_root(alloc, master, &others),
-            Step::Mkdir(house, dir, name, master, others) => {
+        match command {
+            Command::House(house, node) => self.make_house(alloc, house, node),
+            Command::Clock(house, time) => Ok(self.set_clock(house, time)),
+            Command::Root(master, others) => self.make_root(alloc, master, &others),
+            Command::Mkdir(house, dir, name, master, others) => {
                 self.make_directory(alloc, house, dir, name, master, &others)
             }
-            Step::Repoint(house, dir, name, master, others) => {
+            Command::Repoint(house, dir, name, master, others) => {
                 self.repoint(alloc, house, dir, name, master, others.list())
             }
-            Step::Update(house, dir, update) => self.accept(alloc, house, dir, &update),
-            Step::Epoch(dir, master, others) => self.new_epoch(alloc, dir, master, &others),
-            Step::Skulk(house, dir) => self.begin_skulk(alloc, house, dir),
-            Step::Deliver(serial) => self.deliver(alloc, serial),
-            Step::Lose(serial) => Ok(self.lose(serial)),
-            Step::Crash(house) => self.crash(alloc, house),
-            Step::Start(house) => self.start(alloc, house),
+            Command::Update(house, dir, update) => self.accept(alloc, house, dir, &update),
+            Command::Epoch(dir, master, others) => self.new_epoch(alloc, dir, master, &others),
+            Command::Skulk(house, dir) => self.begin_skulk(alloc, house, dir),
+            Command::Deliver(serial) => self.deliver(alloc, serial),
+            Command::Lose(serial) => Ok(self.lose(serial)),
+            Command::Crash(house) => self.crash(alloc, house),
+            Command::Start(house) => self.start(alloc, house),
         }
     }
 

@@ -18,13 +18,7 @@ impl Cell {
         match command {
             Command::House(house, _)
             | Command::Repoint(house, _, _, _, _)
-            | Command::Create(house, _, _)
-            | Command::Link(house, _, _, _)
-            | Command::Delete(house, _, _)
-            | Command::Add(house, _, _, _, _)
-            | Command::Remove(house, _, _, _, _)
-            | Command::Put(house, _, _, _, _)
-            | Command::Clear(house, _, _, _)
+            | Command::Update(house, _, _)
             | Command::Skulk(house, _) => (Some(*house), None),
             Command::Root(master, _) | Command::Epoch(_, master, _) => (Some(*master), None),
             Command::Mkdir(house, _, _, master, _) => (Some(*house), Some(*master)),

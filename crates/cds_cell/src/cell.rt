@@ -9,7 +9,7 @@ ghost use Rattle.cell_model.specs.Steps.{message_at, outcome};
 ghost use Rattle.cds_cell.specs.Accepting.{IsAccepting, accept_in_turn};
 ghost use Rattle.cds_cell.specs.Bags.{letter_at};
 ghost use Rattle.cds_cell.specs.CellHouses.{is_up_state};
-ghost use Rattle.cds_cell.specs.PrivateSteps.{IsPlaceOf, step_meant};
+ghost use Rattle.cds_cell.specs.PrivateSteps.{IsPlaceOf};
 ghost use Rattle.cds_cell.specs.Recorded.{octets_of};
 ghost use Rattle.cds_cell.specs.Scripted.{step_of};
 ghost use Rattle.cds_cell.specs.ModelCells.{GrowsBy, GrowsByUpdates, HasRoom, IsCall, IsGreatestEpoch, IsStep, IsWithin, Stands, UnlessDone};
@@ -18,7 +18,6 @@ ghost use Rattle.cds_cell.specs.ModelCells.{directory_count, directory_of, great
 use crate::bag::Bag;
 use crate::console::Listing;
 use crate::house::{CellHouse, HouseState};
-use crate::step::{Step, step_in};
 use crate::updating::AcceptedAll;
 use cds_stamps::{DirId, HouseNo};
 use cell_script::Command;
@@ -134,7 +133,7 @@ impl Cell {
             → IfOk result (λ a. IsStep a self.new (outcome g (step_of command))) }
     {
         self.usable()?;
-        let done = self.take(alloc, step_in(command));
+        let done = self.take(alloc, command);
         self.spent = done.is_err();
         done
     }
@@ -180,16 +179,16 @@ impl Cell {
     }
 
     // Refuses a step, or does it.
-    fn take(&mut self, alloc: Global, step: Step) -> Result<Answer, AllocError>
+    fn take(&mut self, alloc: Global, command: Command) -> Result<Answer, AllocError>
         requires room { HasRoom self.old }
         ensures spent { self.new.spent ≡ self.old.spent }
         ensures grows { OnOk result (GrowsBy self.old self.new) }
         ensures same { IfOk result (λ a. UnlessDone a (self.new ≡ self.old)) }
         ensures step { (g : model.Cell) → Stands self.old g
-            → IfOk result (λ a. IsStep a self.new (outcome g (step_meant step))) }
+            → IfOk result (λ a. IsStep a self.new (outcome g (step_of command))) }
     {
-        match self.allows(&step) {
-            Ok(()) => self.act(alloc, step),
+        match self.allows(&command) {
+            Ok(()) => self.act(alloc, command),
             Err(refusal) => Ok(Answer::Refused(refusal)),
         }
     }

@@ -17,7 +17,6 @@ mod pointing;
 mod reader;
 mod refusing;
 mod restarting;
-mod step;
 mod updating;
 
 pub use answers::refusal_in_script;

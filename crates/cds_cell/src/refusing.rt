@@ -9,38 +9,39 @@ ghost use Rattle.cell_model.specs.Commands as command;
 ghost use Rattle.cell_model.specs.Steps.{is_bad_list, is_down, is_missing, is_taken, is_unknown, refusals_of};
 ghost use Rattle.house_directory.specs.HouseMessages.{numbers_of};
 ghost use Rattle.cds_cell.specs.CellHouses.{is_up_state};
-ghost use Rattle.cds_cell.specs.PrivateSteps.{IsAllowed, step_meant};
+ghost use Rattle.cds_cell.specs.PrivateSteps.{IsAllowed};
+ghost use Rattle.cds_cell.specs.Scripted.{step_of};
 ghost use Rattle.cds_cell.specs.ModelCells.{Stands, directory_of, house_of};
 
 use crate::cell::Cell;
 use crate::house::HouseState;
 use crate::members::is_bad_list;
-use crate::step::Step;
 use cds_stamps::{DirId, HouseNo, Node};
+use cell_script::Command;
 use script_answers::ScriptRefusal;
 
 impl Cell {
     /// That a step is allowed, or the first reason against it.
-    pub(crate) fn allows(&self, step: &Step) -> Result<(), ScriptRefusal>
+    pub(crate) fn allows(&self, command: &Command) -> Result<(), ScriptRefusal>
         ensures { (g : model.Cell) → Stands self.now g
-            → IsAllowed result (refusals_of g (step_meant step.now)) }
+            → IsAllowed result (refusals_of g (step_of command.now)) }
     {
-        match step {
-            Step::House(house, node) => self.untaken(*house, *node),
-            Step::Clock(house, _) => self.made(*house, &[]),
-            Step::Root(master, others) => self.allows_root(*master, others.houses()),
-            Step::Mkdir(house, dir, _, master, others) => {
+        match command {
+            Command::House(house, node) => self.untaken(*house, *node),
+            Command::Clock(house, _) => self.made(*house, &[]),
+            Command::Root(master, others) => self.allows_root(*master, others.houses()),
+            Command::Mkdir(house, dir, _, master, others) => {
                 self.allows_child(*house, *dir, *master, others.houses())
             }
-            Step::Repoint(house, dir, _, master, others) => {
+            Command::Repoint(house, dir, _, master, others) => {
                 self.allows_repoint(*house, *dir, *master, others.list())
             }
-            Step::Update(house, dir, _) => self.allows_at(*house, *dir),
-            Step::Epoch(dir, master, others) => self.allows_epoch(*dir, *master, others.houses()),
-            Step::Skulk(house, dir) => self.allows_at(*house, *dir),
-            Step::Deliver(_) | Step::Lose(_) => Ok(()),
-            Step::Crash(house) => self.allows_crash(*house),
-            Step::Start(house) => self.allows_start(*house),
+            Command::Update(house, dir, _) => self.allows_at(*house, *dir),
+            Command::Epoch(dir, master, others) => self.allows_epoch(*dir, *master, others.houses()),
+            Command::Skulk(house, dir) => self.allows_at(*house, *dir),
+            Command::Deliver(_) | Command::Lose(_) => Ok(()),
+            Command::Crash(house) => self.allows_crash(*house),
+            Command::Start(house) => self.allows_start(*house),
         }
     }
 

@@ -10,8 +10,8 @@ ghost use Rattle.cds_cell.specs.PrivateSteps.{ComesTo, Leaves};
 ghost use Rattle.cds_cell.specs.ModelCells.{GrowsBy, IsCall, IsStep, Stands, UnlessDone};
 
 use crate::cell::Cell;
-use crate::step::Step;
 use cds_stamps::HouseNo;
+use cell_script::Command;
 use script_answers::{Answer, ScriptRefusal};
 use std::alloc::{AllocError, Global};
 
@@ -49,7 +49,7 @@ impl Cell {
         ensures step { (g : model.Cell) → Stands self.old g → octets.now ≡ octets_at g house.0
             → IfOk result (λ a. IsStep a self.new (outcome g (command.Start house.0))) }
     {
-        match self.allows(&Step::Start(house)) {
+        match self.allows(&Command::Start(house)) {
             Ok(()) => self.begin_from(alloc, house, octets),
             Err(refusal) => Ok(Answer::Refused(refusal)),
         }
@@ -102,7 +102,7 @@ impl Cell {
         ensures crash { (g : model.Cell) → Stands self.old g
             → OnOk result (Stands self.new (outcome g (command.Crash house.0)).cell) }
     {
-        match self.allows(&Step::Crash(house)) {
+        match self.allows(&Command::Crash(house)) {
             Ok(()) => {
                 self.crash(alloc, house)?;
                 Ok(())

@@ -12,6 +12,7 @@ use Rattle.tower_codec.specs.BindingReading.{cut_at_mark, digits_of, object_at, 
 use Rattle.tower_codec.specs.BindingReading.{number_of as number_in}
 use Rattle.cell_script.specs.declared.command.ScriptLine.{ScriptLine}
 use Rattle.cell_script.specs.declared.command.ScriptLine.TheVariants as line
+use Rattle.directory.specs.declared.update.Update.TheVariants as update
 use Rattle.cell_script.specs.declared.command.Command.TheVariants as command
 use Rattle.cell_script.specs.declared.command.Question.TheVariants as question
 use Rattle.cell_script.specs.declared.fault.ParseFault.{ParseFault}
@@ -131,11 +132,12 @@ unfolding said_by check_count take_words number_of decode_pairs
 house_is = refl
 
 add_is : says (codes "add 1 1 lpr A 5072") ≡ Ok
-    (Some (line.Cell (command.Add (record { 0 = 1 }) (record { 0 = 1 }) (codes "lpr") (codes "A") (80 ∷ 114 ∷ []))))
+    (Some (line.Cell (command.Update (record { 0 = 1 }) (record { 0 = 1 }) (update.Add (codes "lpr") (codes "A") (80 ∷ 114 ∷ [])))))
 unfolding said_by check_count take_words number_of decode_pairs
 add_is = refl
 
-link_is : says (codes "link 1 1 up /.:") ≡ Ok (Some (line.Cell (command.Link (record { 0 = 1 }) (record { 0 = 1 }) (codes "up") [])))
+link_is : says (codes "link 1 1 up /.:") ≡ Ok
+    (Some (line.Cell (command.Update (record { 0 = 1 }) (record { 0 = 1 }) (update.MakeLink (codes "up") []))))
 unfolding said_by check_count take_words number_of
 link_is = refl
 
@@ -313,7 +315,7 @@ one_round = refl
 -- its number makes it add a value to the entry `e14`, of which one house is told; the skulk after
 -- it is the last part
 the_round : drop 56 (script 1)
-    ≡ command.Add (record { 0 = 1 }) (record { 0 = 1 }) (codes "e14") (codes "A") (103 ∷ [])
+    ≡ command.Update (record { 0 = 1 }) (record { 0 = 1 }) (update.Add (codes "e14") (codes "A") (103 ∷ []))
     ∷ command.Deliver 35 ∷ command.Lose 35 ∷ command.Lose 36
     ∷ command.Skulk (record { 0 = 1 }) (record { 0 = 1 })
     ∷ (map command.Deliver (37 ∷ 38 ∷ 39 ∷ 40 ∷ 41 ∷ 42 ∷ 43 ∷ 44 ∷ 45 ∷ 46 ∷ [])
@@ -326,6 +328,6 @@ the_opening : take 11 (script 1)
     ≡ command.House (record { 0 = 1 }) 1 ∷ command.House (record { 0 = 2 }) 2 ∷ command.House (record { 0 = 3 }) 3
     ∷ command.Root (record { 0 = 1 }) (listed 2 false ∷ listed 3 false ∷ [])
     ∷ command.Deliver 1 ∷ command.Deliver 2 ∷ command.Lose 1 ∷ command.Lose 2
-    ∷ command.Create (record { 0 = 1 }) (record { 0 = 1 }) (codes "e0") ∷ command.Lose 3 ∷ command.Lose 4 ∷ []
+    ∷ command.Update (record { 0 = 1 }) (record { 0 = 1 }) (update.Create (codes "e0")) ∷ command.Lose 3 ∷ command.Lose 4 ∷ []
 unfolding digits
 the_opening = refl

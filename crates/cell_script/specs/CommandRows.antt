@@ -2,6 +2,8 @@
 use Rattle.std.specs.Prelude.{ℕ, if◌then◌else◌, List, [], ◌∷◌, ◌++◌, nat_eq, Some, None, Option, Ok, Err, Result, codes}
 use Rattle.std.specs.List.{starts_with}
 use Rattle.std.specs.Str.{bytes_eq}
+use Rattle.directory.specs.declared.update.Update.{Update}
+use Rattle.directory.specs.declared.update.Update.TheVariants as update
 use Rattle.cell_script.specs.declared.command.Command.{Command}
 use Rattle.cell_script.specs.declared.command.Command.TheVariants as command
 use Rattle.cell_script.specs.declared.command.Question.{Question}
@@ -76,21 +78,26 @@ making_rows =
     ∷ step (codes "repoint") (House ∷ Directory ∷ SimpleName ∷ House ∷ Houses ∷ []) command.Repoint
     ∷ []
 
+-- an update of an entry: the house and the directory, then what the update is of
+abbrev pub updates : List ℕ → (forms : List Form) → Builds forms Update → Row
+updates word forms build =
+    step word (House ∷ Directory ∷ forms) (λ h d. followed_by (command.Update h d) forms build)
+
 -- the updates of an entry
 abbrev pub entry_rows : List Row
 entry_rows =
-    step (codes "create") (House ∷ Directory ∷ SimpleName ∷ []) command.Create
-    ∷ step (codes "link") (House ∷ Directory ∷ SimpleName ∷ FullName ∷ []) command.Link
-    ∷ step (codes "delete") (House ∷ Directory ∷ SimpleName ∷ []) command.Delete
+    updates (codes "create") (SimpleName ∷ []) update.Create
+    ∷ updates (codes "link") (SimpleName ∷ FullName ∷ []) update.MakeLink
+    ∷ updates (codes "delete") (SimpleName ∷ []) update.Delete
     ∷ []
 
 -- the changes of an entry's values
 abbrev pub value_rows : List Row
 value_rows =
-    step (codes "add") (House ∷ Directory ∷ SimpleName ∷ AttrName ∷ Value ∷ []) command.Add
-    ∷ step (codes "remove") (House ∷ Directory ∷ SimpleName ∷ AttrName ∷ Value ∷ []) command.Remove
-    ∷ step (codes "put") (House ∷ Directory ∷ SimpleName ∷ AttrName ∷ Value ∷ []) command.Put
-    ∷ step (codes "clear") (House ∷ Directory ∷ SimpleName ∷ AttrName ∷ []) command.Clear
+    updates (codes "add") (SimpleName ∷ AttrName ∷ Value ∷ []) update.Add
+    ∷ updates (codes "remove") (SimpleName ∷ AttrName ∷ Value ∷ []) update.Remove
+    ∷ updates (codes "put") (SimpleName ∷ AttrName ∷ Value ∷ []) update.Put
+    ∷ updates (codes "clear") (SimpleName ∷ AttrName ∷ []) update.Clear
     ∷ []
 
 -- the commands about all replicas of a directory

@@ -5,6 +5,8 @@ use Rattle.std.specs.List.{enumerate_from, flat_map, range_with_len}
 use Rattle.std.specs.Fmt.{decimal}
 use Rattle.cds_stamps.specs.declared.numbers.HouseNo.{HouseNo}
 use Rattle.cds_stamps.specs.declared.numbers.DirId.{DirId}
+use Rattle.directory.specs.declared.update.Update.{Update}
+use Rattle.directory.specs.declared.update.Update.TheVariants as update
 use Rattle.cell_script.specs.declared.command.Command.{Command}
 use Rattle.cell_script.specs.declared.command.Command.TheVariants as command
 use Rattle.cell_script.specs.declared.command.ScriptLine.{ScriptLine}
@@ -65,21 +67,25 @@ first_part = record { commands = map house_made (range_with_len 1 3) ++ root_mad
 abbrev pub entry_name : ℕ → List ℕ
 entry_name k = codes "e" ++ decimal k
 
+-- an update of the directory at house 1
+abbrev pub updated : Update → Command
+updated = command.Update (house 1) the_root
+
 -- entry k is made at house 1
 abbrev pub entry_made : ℕ → Command
-entry_made k = command.Create (house 1) the_root (entry_name k)
+entry_made k = updated (update.Create (entry_name k))
 
 -- entry k is deleted at house 1
 abbrev pub entry_deleted : ℕ → Command
-entry_deleted k = command.Delete (house 1) the_root (entry_name k)
+entry_deleted k = updated (update.Delete (entry_name k))
 
 -- its attribute `A` gets or loses a value of one octet
 abbrev pub value_added : (k v : ℕ) → Command
-value_added k v = command.Add (house 1) the_root (entry_name k) (codes "A") (v ∷ [])
+value_added k v = updated (update.Add (entry_name k) (codes "A") (v ∷ []))
 
 -- the attribute `A` of entry k loses a value of one octet
 abbrev pub value_removed : (k v : ℕ) → Command
-value_removed k v = command.Remove (house 1) the_root (entry_name k) (codes "A") (v ∷ [])
+value_removed k v = updated (update.Remove (entry_name k) (codes "A") (v ∷ []))
 
 -- entry k, of which nobody is told
 abbrev pub entry : ℕ → Part

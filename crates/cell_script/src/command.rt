@@ -1,8 +1,8 @@
 // The commands of a script.
 use crate::lists::{HouseNos, Listeds, Note, Octets, StringBindings, Uuids};
-use attr_sets::Value;
 use cds_stamps::{AttrName, DirId, HouseNo, Node, SimpleName};
 use cell_names::FullName;
+use directory::Update;
 use tower_codec::Interface;
 use uuid::Uuid;
 
@@ -15,13 +15,8 @@ pub enum Command {
     Root(HouseNo, Listeds),
     Mkdir(HouseNo, DirId, SimpleName, HouseNo, Listeds),
     Repoint(HouseNo, DirId, SimpleName, HouseNo, HouseNos),
-    Create(HouseNo, DirId, SimpleName),
-    Link(HouseNo, DirId, SimpleName, FullName),
-    Delete(HouseNo, DirId, SimpleName),
-    Add(HouseNo, DirId, SimpleName, AttrName, Value),
-    Remove(HouseNo, DirId, SimpleName, AttrName, Value),
-    Put(HouseNo, DirId, SimpleName, AttrName, Value),
-    Clear(HouseNo, DirId, SimpleName, AttrName),
+    /// Makes or changes an entry of a directory: never a child.
+    Update(HouseNo, DirId, Update),
     /// A new epoch of a directory: its master, and the other houses.
     Epoch(DirId, HouseNo, Listeds),
     Skulk(HouseNo, DirId),

@@ -6,16 +6,17 @@ ghost use Rattle.cell_script.specs.PrivateRows.{Says, by_entry_rows, by_value_ro
 
 use crate::command::{Command, ScriptLine};
 use crate::words::{Parsed, Words};
+use directory::Update;
 use std::alloc::Global;
 
 pub(crate) fn create(alloc: Global, words: &mut Words<'_>) -> Parsed<ScriptLine>
     ensures { Says result (by_entry_rows (codes "create") words.old) }
 {
     words.exactly(3)?;
-    Ok(ScriptLine::Cell(Command::Create(
+    Ok(ScriptLine::Cell(Command::Update(
         words.house()?,
         words.directory()?,
-        words.simple_name(alloc)?,
+        Update::Create(words.simple_name(alloc)?),
     )))
 }
 
@@ -23,11 +24,10 @@ pub(crate) fn link(alloc: Global, words: &mut Words<'_>) -> Parsed<ScriptLine>
     ensures { Says result (by_entry_rows (codes "link") words.old) }
 {
     words.exactly(4)?;
-    Ok(ScriptLine::Cell(Command::Link(
+    Ok(ScriptLine::Cell(Command::Update(
         words.house()?,
         words.directory()?,
-        words.simple_name(alloc)?,
-        words.full_name(alloc)?,
+        Update::MakeLink(words.simple_name(alloc)?, words.full_name(alloc)?),
     )))
 }
 
@@ -35,10 +35,10 @@ pub(crate) fn delete(alloc: Global, words: &mut Words<'_>) -> Parsed<ScriptLine>
     ensures { Says result (by_entry_rows (codes "delete") words.old) }
 {
     words.exactly(3)?;
-    Ok(ScriptLine::Cell(Command::Delete(
+    Ok(ScriptLine::Cell(Command::Update(
         words.house()?,
         words.directory()?,
-        words.simple_name(alloc)?,
+        Update::Delete(words.simple_name(alloc)?),
     )))
 }
 
@@ -47,12 +47,10 @@ pub(crate) fn add(alloc: Global, words: &mut Words<'_>) -> Parsed<ScriptLine>
     ensures { Says result (by_value_rows (codes "add") words.old) }
 {
     words.exactly(5)?;
-    Ok(ScriptLine::Cell(Command::Add(
+    Ok(ScriptLine::Cell(Command::Update(
         words.house()?,
         words.directory()?,
-        words.simple_name(alloc)?,
-        words.attr_name(alloc)?,
-        words.value(alloc)?,
+        Update::Add(words.simple_name(alloc)?, words.attr_name(alloc)?, words.value(alloc)?),
     )))
 }
 
@@ -61,12 +59,10 @@ pub(crate) fn remove(alloc: Global, words: &mut Words<'_>) -> Parsed<ScriptLine>
     ensures { Says result (by_value_rows (codes "remove") words.old) }
 {
     words.exactly(5)?;
-    Ok(ScriptLine::Cell(Command::Remove(
+    Ok(ScriptLine::Cell(Command::Update(
         words.house()?,
         words.directory()?,
-        words.simple_name(alloc)?,
-        words.attr_name(alloc)?,
-        words.value(alloc)?,
+        Update::Remove(words.simple_name(alloc)?, words.attr_name(alloc)?, words.value(alloc)?),
     )))
 }
 
@@ -75,12 +71,10 @@ pub(crate) fn put(alloc: Global, words: &mut Words<'_>) -> Parsed<ScriptLine>
     ensures { Says result (by_value_rows (codes "put") words.old) }
 {
     words.exactly(5)?;
-    Ok(ScriptLine::Cell(Command::Put(
+    Ok(ScriptLine::Cell(Command::Update(
         words.house()?,
         words.directory()?,
-        words.simple_name(alloc)?,
-        words.attr_name(alloc)?,
-        words.value(alloc)?,
+        Update::Put(words.simple_name(alloc)?, words.attr_name(alloc)?, words.value(alloc)?),
     )))
 }
 
@@ -89,10 +83,9 @@ pub(crate) fn clear(alloc: Global, words: &mut Words<'_>) -> Parsed<ScriptLine>
     ensures { Says result (by_value_rows (codes "clear") words.old) }
 {
     words.exactly(4)?;
-    Ok(ScriptLine::Cell(Command::Clear(
+    Ok(ScriptLine::Cell(Command::Update(
         words.house()?,
         words.directory()?,
-        words.simple_name(alloc)?,
-        words.attr_name(alloc)?,
+        Update::Clear(words.simple_name(alloc)?, words.attr_name(alloc)?),
     )))
 }

@@ -9,6 +9,7 @@ use crate::command::Command;
 use crate::lists::{Listed, Listeds};
 use attr_sets::Value;
 use cds_stamps::{AttrName, DirId, HouseNo, Node, SimpleName};
+use directory::Update;
 use std::alloc::{AllocError, Global};
 
 // The master of the directory.
@@ -65,44 +66,47 @@ fn house_made(alloc: Global, house: u8) -> Result<Command, AllocError>
     Ok(Command::Root(MASTER, Listeds::of(alloc, others)?))
 }
 
+// An update of the directory at its master.
+fn updated(update: Update) -> Command
+    ensures { result ≡ script.updated update }
+{
+    Command::Update(MASTER, DirId::ROOT, update)
+}
+
 fn entry_made(alloc: Global, entry: u8) -> Result<Command, AllocError>
     requires { entry < 16 }
     ensures { IfOk result (λ c. c ≡ script.entry_made entry) }
 {
-    Ok(Command::Create(MASTER, DirId::ROOT, entry_name(alloc, entry)?))
+    Ok(updated(Update::Create(entry_name(alloc, entry)?)))
 }
 
 fn entry_deleted(alloc: Global, entry: u8) -> Result<Command, AllocError>
     requires { entry < 16 }
     ensures { IfOk result (λ c. c ≡ script.entry_deleted entry) }
 {
-    Ok(Command::Delete(MASTER, DirId::ROOT, entry_name(alloc, entry)?))
+    Ok(updated(Update::Delete(entry_name(alloc, entry)?)))
 }
 
 fn value_added(alloc: Global, entry: u8, value: u8) -> Result<Command, AllocError>
     requires { entry < 16 }
     ensures { IfOk result (λ c. c ≡ script.value_added entry value) }
 {
-    Ok(Command::Add(
-        MASTER,
-        DirId::ROOT,
+    Ok(updated(Update::Add(
         entry_name(alloc, entry)?,
         AttrName::known(alloc, b"A")?,
         Value::known(alloc, &[value])?,
-    ))
+    )))
 }
 
 fn value_removed(alloc: Global, entry: u8, value: u8) -> Result<Command, AllocError>
     requires { entry < 16 }
     ensures { IfOk result (λ c. c ≡ script.value_removed entry value) }
 {
-    Ok(Command::Remove(
-        MASTER,
-        DirId::ROOT,
+    Ok(updated(Update::Remove(
         entry_name(alloc, entry)?,
         AttrName::known(alloc, b"A")?,
         Value::known(alloc, &[value])?,
-    ))
+    )))
 }
 
 impl Work {

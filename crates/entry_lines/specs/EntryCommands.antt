@@ -2,26 +2,11 @@
 use Rattle.std.specs.Prelude.{◌≡◌, ℕ, List, Option, Some, None}
 use Rattle.cds_stamps.specs.declared.numbers.DirId.{DirId}
 use Rattle.cds_stamps.specs.declared.numbers.HouseNo.{HouseNo}
-use Rattle.directory.specs.declared.update.Update.{Update}
-use Rattle.directory.specs.declared.update.Update.TheVariants as update
 use Rattle.cell_script.specs.declared.command.Command.{Command}
 use Rattle.cell_script.specs.declared.command.Command.TheVariants as command
 use Rattle.cell_script.specs.declared.lists.Listed.{Listed}
 use Rattle.house_logs.specs.declared.order.LoggedOrder.{LoggedOrder}
 use Rattle.house_logs.specs.declared.order.LoggedOrder.TheVariants as order
-
--- the command of an update of the directory d at the house h; no line makes or changes a child by
--- an update
-abbrev pub update_command : (h : HouseNo) → (d : DirId) → Update → Option Command
-update_command h d (update.Create n) = Some (command.Create h d n)
-update_command h d (update.MakeLink n target) = Some (command.Link h d n target)
-update_command h d (update.MakeChild n pointer) = None
-update_command h d (update.Delete n) = Some (command.Delete h d n)
-update_command h d (update.Add n a v) = Some (command.Add h d n a v)
-update_command h d (update.Remove n a v) = Some (command.Remove h d n a v)
-update_command h d (update.Put n a v) = Some (command.Put h d n a v)
-update_command h d (update.Clear n a) = Some (command.Clear h d n a)
-update_command h d (update.Repoint n houses) = None
 
 -- a command does the order at the house h, which takes the message of this serial number if it
 -- takes one. The number of a new directory, and the list of an epoch, are the console's
@@ -29,7 +14,7 @@ abbrev pub IsCommandOf : (h : HouseNo) → LoggedOrder → (serial : ℕ) → Co
 IsCommandOf h (order.Root ls) serial c = c ≡ command.Root h ls
 IsCommandOf h (order.Mkdir d n made ls) serial c = c ≡ command.Mkdir h d n h ls
 IsCommandOf h (order.Repoint d n m rs) serial c = c ≡ command.Repoint h d n m rs
-IsCommandOf h (order.Update d u) serial c = update_command h d u ≡ Some c
+IsCommandOf h (order.Update d u) serial c = c ≡ command.Update h d u
 IsCommandOf h (order.Skulk d) serial c = c ≡ command.Skulk h d
 IsCommandOf h (order.Epoch d k list) serial c = (ls : List Listed) × (c ≡ command.Epoch d h ls)
 IsCommandOf h (order.Take octets) serial c = c ≡ command.Deliver serial

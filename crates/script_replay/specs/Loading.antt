@@ -14,6 +14,7 @@ use Rattle.cell_model.specs.Commands as model
 use Rattle.cell_model.specs.Steps.{answers_from, replay}
 use Rattle.script_answers.specs.declared.answer.Answer.{Answer}
 use Rattle.script_answers.specs.declared.answer.Answer.TheVariants as answer
+use Rattle.directory.specs.declared.update.Update.TheVariants as update
 use Rattle.cell_script.specs.declared.command.Command.{Command}
 use Rattle.cell_script.specs.declared.command.Command.TheVariants as command
 use Rattle.cell_script.specs.Generated.{script}
@@ -28,10 +29,10 @@ answered_from g cs = zip cs (answers_from g (map step_of cs))
 
 -- `create`, `delete`, `add` and `remove` change an entry
 abbrev pub is_change : Command → Bool
-is_change (command.Create h d n) = true
-is_change (command.Delete h d n) = true
-is_change (command.Add h d n a v) = true
-is_change (command.Remove h d n a v) = true
+is_change (command.Update h d (update.Create n)) = true
+is_change (command.Update h d (update.Delete n)) = true
+is_change (command.Update h d (update.Add n a v)) = true
+is_change (command.Update h d (update.Remove n a v)) = true
 is_change _ = false
 
 -- `deliver` alone delivers a message

@@ -3,6 +3,7 @@ ghost use Rattle.std.specs.Prelude.{◌≡◌, ◌&&◌, not};
 ghost use Rattle.script_replay.specs.PrivateKinds.{is_complete, line_changes, line_delivers, refuses};
 
 use cell_script::{Command, ScriptLine};
+use directory::Update;
 use script_answers::Answer;
 
 /// Whether a line changes an entry: one of four commands of the script.
@@ -10,9 +11,11 @@ pub(crate) fn is_change(line: &ScriptLine) -> bool
     ensures { result ≡ line_changes line.now }
 {
     match line {
-        ScriptLine::Cell(
-            Command::Create(..) | Command::Delete(..) | Command::Add(..) | Command::Remove(..),
-        ) => true,
+        ScriptLine::Cell(Command::Update(
+            _,
+            _,
+            Update::Create(..) | Update::Delete(..) | Update::Add(..) | Update::Remove(..),
+        )) => true,
         _ => false,
     }
 }
