@@ -1,1 +1,3 @@
 pub mod HeardLaws
+mod ClosedLaws
+mod SearchLaws

@@ -2,9 +2,13 @@
 #![tactic(auto)]
 
 mod heard;
+mod importing;
 mod reading;
+mod searching;
 mod walking;
 
 pub use heard::{Answered, Answers, Heard, Lack, Looked, Root};
+pub use importing::import;
 pub use reading::{Outcome, read};
+pub use searching::{Searched, search};
 pub use walking::{Walked, walk};
