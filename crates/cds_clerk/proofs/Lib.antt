@@ -1,1 +1,2 @@
 pub mod HeardLaws
+pub mod LinkLaws

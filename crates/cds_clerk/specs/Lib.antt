@@ -1,3 +1,4 @@
 pub mod Heards
 pub mod Agreements
 pub mod Readings
+pub mod Links

@@ -2,9 +2,11 @@
 #![tactic(auto)]
 
 mod heard;
+mod linking;
 mod reading;
 mod walking;
 
 pub use heard::{Answered, Answers, Heard, Lack, Looked, Root};
+pub use linking::read_link;
 pub use reading::{Outcome, read};
 pub use walking::{Walked, walk};
