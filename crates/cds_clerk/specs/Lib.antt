@@ -1,4 +1,6 @@
 pub mod Heards
 pub mod Agreements
 pub mod Readings
+pub mod HeardProofs
+pub mod Searches
 pub mod Links
