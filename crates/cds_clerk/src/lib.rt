@@ -3,12 +3,14 @@
 
 mod heard;
 mod importing;
+mod linking;
 mod reading;
 mod searching;
 mod walking;
 
 pub use heard::{Answered, Answers, Heard, Lack, Looked, Root};
 pub use importing::import;
+pub use linking::read_link;
 pub use reading::{Outcome, read};
 pub use searching::{Searched, search};
 pub use walking::{Walked, walk};

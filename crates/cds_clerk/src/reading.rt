@@ -43,7 +43,7 @@ fn copies(alloc: Global, values: &[Value]) -> Result<Values, AllocError>
 }
 
 // What a house showed of an entry that a walk found.
-fn entry_of<'a>(heard: &'a Heard, found: &Found) -> &'a ShownEntry
+pub(crate) fn entry_of<'a>(heard: &'a Heard, found: &Found) -> &'a ShownEntry
     requires { IsShown heard.now found.now }
     ensures { told_of heard.now.answers found.now.dir.0 found.now.house.0 found.now.name
         ≡ Some (Shows result.now) }

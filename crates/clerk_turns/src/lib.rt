@@ -1,0 +1,12 @@
+//! A clerk of live houses: what it makes of each line that it reads.
+#![tactic(auto)]
+
+mod clerk;
+mod command;
+mod outcomes;
+mod says;
+mod turns;
+
+pub use clerk::{Clerk, Job, Question, Topic};
+pub use command::{Command, parse_command};
+pub use outcomes::outcome;
