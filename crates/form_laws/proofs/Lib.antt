@@ -15,3 +15,4 @@ pub mod Summaries
 pub mod SameQuestions
 pub mod Keeping
 pub mod Lines
+pub mod Settled

@@ -2,3 +2,4 @@ pub mod LastAnswers
 pub mod Unrefused
 pub mod Summaries
 pub mod Honesty
+pub mod Settled

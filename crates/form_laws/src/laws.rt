@@ -10,6 +10,7 @@ ghost use Rattle.clerk_cache.specs.declared.query.Kept.{Kept};
 ghost use Rattle.clerk_cache.specs.declared.query.Query.{Query};
 ghost use Rattle.clerk_replay.specs.Clerking.{Clerked, clerk_dialogue, low_read, start};
 ghost use Rattle.script_replay.specs.Replies.{Numbered, run_dialogue};
+ghost use Rattle.form_laws.specs.Settled.{Settles};
 ghost use Rattle.form_laws.specs.Honesty.{IsHonest, cell_after_lines, dialogue_state};
 
 /// A delivery answers Complete exactly where it brings the last missing answer of a second round.
@@ -49,4 +50,11 @@ pub fn all_else_is_as_by_run()
         → (dialogue_state clerk_dialogue (start room) said).cell ≡ cell_after_lines said }
     ensures text { (number : ℕ) (s : Clerked) (l : ScriptLine) → low_read l ≡ None
         → clerk_dialogue.text number s l ≡ run_dialogue.text number s.cell l }
+{}
+
+/// From a line on that is answered that a skulk is complete, each house that holds the directory at
+/// its epoch or a later one agrees, up to the skulk's stamp, with what its master had then.
+pub fn completed_lines_settle()
+    ensures { (early : List Numbered) (l : Numbered) (late : List Numbered)
+        → Settles early l late }
 {}

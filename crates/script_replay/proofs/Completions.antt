@@ -122,7 +122,7 @@ does_none g (Ok c) t ns is =
     let w : Accepting = accept_in_turn g c.house c.dir c.list in
     updates_none w w.refused t ns (cc (is))
 
-question_none : (g : Cell) (q : Question) → SaysNone (question_said g q)
+pub question_none : (g : Cell) (q : Question) → SaysNone (question_said g q)
 question_none g (question.Read h high name attr) =
     let reader = cell_reader g (Some h.0) high in
     says_none (asked_of g h.0 (values_read reader attr (walk_end reader true name)))
@@ -152,7 +152,7 @@ question_none g (question.Decode octets) = says_none (message_told (decode_by me
 -- ---- commands
 
 -- the script says so of the model's answer that says so
-complete_only : (a : model.Answer) (t : Stamp) (ns : List ℕ) → answer_of a ≡ Some (answer.Complete t ns) → a ≡ model.Complete t ns
+pub complete_only : (a : model.Answer) (t : Stamp) (ns : List ℕ) → answer_of a ≡ Some (answer.Complete t ns) → a ≡ model.Complete t ns
 complete_only model.Done t ns is = cc
 complete_only (model.Posted ms) t ns is = cc
 complete_only (model.Made d s ms) t ns is = cc

@@ -4,5 +4,5 @@ mod RecordAnswers
 pub mod UpdateLaws
 pub mod LoadTurns
 pub mod HeadlineLaws
-mod Completions
+pub mod Completions
 pub mod Scripts
