@@ -1,4 +1,5 @@
-//! The values of one attribute of an entry, each present or absent by its latest mark.
+//! The values of one attribute of an entry, each present or absent by its latest mark. It knows no
+//! entry.
 #![tactic(auto)]
 
 mod cell;

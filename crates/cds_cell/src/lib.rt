@@ -1,4 +1,5 @@
 //! A cell: its houses, its console and the messages between them, and what a reader is told of it.
+//! It knows neither lines nor text.
 #![tactic(auto)]
 
 mod acting;

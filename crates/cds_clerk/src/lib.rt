@@ -1,4 +1,5 @@
-//! A clerk: what it heard of houses, and what that says of names.
+//! A clerk: what it heard of houses, and what that says of names. It knows neither connections nor
+//! cells.
 #![tactic(auto)]
 
 mod heard;

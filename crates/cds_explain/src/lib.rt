@@ -1,4 +1,5 @@
 //! The journals of houses, explained: a script whose replay gives each house exactly its entries.
+//! It does not know the houses that wrote them.
 #![tactic(auto)]
 
 mod cause;

@@ -1,4 +1,5 @@
-//! What houses post to each other, and what they keep over a crash.
+//! What houses post to each other, and what they keep over a crash. It knows neither octets nor
+//! houses.
 #![tactic(auto)]
 
 mod image;

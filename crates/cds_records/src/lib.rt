@@ -1,4 +1,5 @@
-//! The octets of the messages that houses post, and of the images that they keep.
+//! The octets of the messages that houses post, and of the images that they keep. It knows no
+//! house.
 #![tactic(auto)]
 
 mod bodies;

@@ -1,5 +1,5 @@
 //! The model of a cell, in logic alone: houses that keep whole histories, and what each command
-//! does to them.
+//! does to them. It does not know the program.
 #![tactic(auto)]
 
 mod laws;

@@ -1,5 +1,6 @@
 //! The forms of the program: a script replayed over one cell or checked, a script that is made,
-//! towers as octets and as text, and images in format 2 or audited.
+//! towers as octets and as text, and images in format 2 or audited. It knows neither standard input
+//! nor standard output.
 #![tactic(auto)]
 
 mod audits;

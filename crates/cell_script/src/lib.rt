@@ -1,4 +1,5 @@
-//! Scripts over a cell: lines to commands, and the script of `load`.
+//! Scripts over a cell: lines to commands, and the script of `load`. It does not know what a
+//! command does.
 #![tactic(auto)]
 
 mod command;

@@ -1,5 +1,5 @@
 //! A clearinghouse: one house with what it has of directories, its calls, its letters, and its
-//! image.
+//! image. It knows other houses by number alone, and neither the bag nor the script.
 #![tactic(auto)]
 
 mod house;

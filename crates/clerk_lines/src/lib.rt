@@ -1,4 +1,5 @@
-//! The lines of a clerk: what it reads, what it writes, and what it hears of houses.
+//! The lines of a clerk: what it reads, what it writes, and what it hears of houses. It knows
+//! neither connections nor cells.
 #![tactic(auto)]
 
 mod answer;

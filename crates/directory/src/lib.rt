@@ -1,4 +1,5 @@
-//! The table of a directory: its entries, and what updates and other tables do to them.
+//! The table of a directory: its entries, and what updates and other tables do to them. It knows
+//! neither the clock nor the house.
 #![tactic(auto)]
 
 mod attr_map;

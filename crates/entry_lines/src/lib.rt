@@ -1,4 +1,5 @@
-//! The lines of a script that do what the entries of a house's journal say.
+//! The lines of a script that do what the entries of a house's journal say. It does not know the
+//! houses that wrote them.
 #![tactic(auto)]
 
 mod command;

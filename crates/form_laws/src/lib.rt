@@ -1,5 +1,5 @@
 //! Laws on the forms and on skulks, in logic alone: the script that the form `load` replays, the
-//! answers that a clerk keeps, and which delivery completes a skulk.
+//! answers that a clerk keeps, and which delivery completes a skulk. It does not know the program.
 #![tactic(auto)]
 
 mod laws;

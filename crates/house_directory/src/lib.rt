@@ -1,5 +1,6 @@
 //! What a house holds of a directory, and what it does with it: updates, skulks, epochs, and the
-//! messages that it takes and posts.
+//! messages that it takes and posts. It knows no octets, and of the house its number, its node, its
+//! clock and its floor alone.
 #![tactic(auto)]
 
 mod epochs;

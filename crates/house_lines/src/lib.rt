@@ -1,4 +1,4 @@
-//! The lines that a house reads: what they say.
+//! The lines that a house reads: what they say. It knows no house.
 #![tactic(auto)]
 
 mod given;

@@ -1,4 +1,5 @@
-//! The journals of houses, read: what each house did, entry by entry.
+//! The journals of houses, read: what each house did, entry by entry. It does not know the houses
+//! that wrote them.
 #![tactic(auto)]
 
 mod fault;

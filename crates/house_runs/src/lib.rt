@@ -1,5 +1,5 @@
 //! The entries of a house that runs are those of a house that does as the model does, in logic
-//! alone.
+//! alone. It knows no file.
 #![tactic(auto)]
 
 mod laws;

@@ -1,5 +1,5 @@
 //! The run of a house over a source, a sink and a segment: line by line, and nothing is answered
-//! before it is durable.
+//! before it is durable. It does not know what a line does.
 #![tactic(auto)]
 
 mod answering;

@@ -1,4 +1,5 @@
-//! One house of a clearinghouse program: a line to its turn, its answer and its record.
+//! One house of a clearinghouse program: a line to its turn, its answer and its record. It knows
+//! other houses by number alone, and no file.
 #![tactic(auto)]
 
 mod again;

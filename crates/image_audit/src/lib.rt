@@ -1,4 +1,5 @@
 //! Whether two images can come from replicas of a directory that agree up to the smaller AllUpTo.
+//! It knows neither octets nor houses that run.
 #![tactic(auto)]
 
 mod answers;

@@ -1,5 +1,5 @@
 //! The lines of the form `inquire` and their answers: its own four, and those of `run` that it
-//! takes.
+//! takes. It knows no cell.
 #![tactic(auto)]
 
 mod inquire_answer;

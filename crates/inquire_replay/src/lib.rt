@@ -1,5 +1,5 @@
 //! What a line comes to where inquiries are answered: an inquiry asks the cell, and each other line
-//! is replayed as in a script.
+//! is replayed as in a script. It knows neither the whole input nor how a run ends.
 #![tactic(auto)]
 
 mod form;

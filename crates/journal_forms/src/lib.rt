@@ -1,4 +1,5 @@
-//! The lines of the form `journal` and their answers: `stop` and `image`, and those of `run`.
+//! The lines of the form `journal` and their answers: `stop` and `image`, and those of `run`. It
+//! knows no cell.
 #![tactic(auto)]
 
 mod journal_answer;

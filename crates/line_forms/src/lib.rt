@@ -1,5 +1,6 @@
 //! A form that answers line by line, by a trait: its lines are read, answered and written by one
-//! body, whatever the form. And how a run of any form ends.
+//! body, whatever the form. And how a run of any form ends. It knows neither cells nor which forms
+//! there are.
 #![tactic(auto)]
 
 mod endings;

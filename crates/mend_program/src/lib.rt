@@ -1,4 +1,5 @@
-//! `cdsmend` over a source and a sink: the commands that mend a directory after a script.
+//! `cdsmend` over a source and a sink: the commands that mend a directory after a script. It knows
+//! neither standard input nor standard output.
 #![tactic(auto)]
 
 pub mod laws;

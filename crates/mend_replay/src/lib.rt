@@ -1,4 +1,5 @@
-//! The commands that mend a directory of a cell, as lines of a script.
+//! The commands that mend a directory of a cell, as lines of a script. It knows neither the whole
+//! input nor how a run ends.
 #![tactic(auto)]
 
 mod commands;

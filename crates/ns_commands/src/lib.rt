@@ -1,5 +1,5 @@
 //! The commands of the name service: what they ask of a cell, or what they answer, over any reader
-//! of its entries.
+//! of its entries. It knows neither cells nor lines, and it accepts nothing itself.
 #![tactic(auto)]
 
 mod entries;

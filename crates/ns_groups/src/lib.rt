@@ -1,5 +1,5 @@
 //! Groups of the name service: entries whose values of one attribute spell the full names of their
-//! members.
+//! members. It knows neither the entry nor where a member leads.
 #![tactic(auto)]
 
 pub mod laws;

@@ -1,4 +1,5 @@
-//! Replicas of a directory, and the rule by which they are merged and purged.
+//! Replicas of a directory, and the rule by which they are merged and purged. It knows neither
+//! houses nor messages.
 #![tactic(auto)]
 
 mod delta;

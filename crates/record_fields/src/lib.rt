@@ -1,5 +1,6 @@
 //! The fields of records: what octets say by a layout of fields, readers and writers of stamps,
-//! names, values, marks and cells, and the first field that breaks a rule.
+//! names, values, marks and cells, and the first field that breaks a rule. It knows neither entries
+//! nor messages.
 #![tactic(auto)]
 
 mod cells;

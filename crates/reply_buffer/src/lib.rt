@@ -1,5 +1,5 @@
 //! The text of towers and of faults, the towers that lines of text say, and how replies wait to be
-//! written.
+//! written. It knows neither cells nor which forms there are.
 #![tactic(auto)]
 
 mod answers;

@@ -1,4 +1,5 @@
-//! Resolution: where a full name leads, over any reader of a cell.
+//! Resolution: where a full name leads, over any reader of a cell. It knows neither cells nor
+//! houses nor confidence: these are the reader's.
 #![tactic(auto)]
 
 mod component;

@@ -1,4 +1,5 @@
-//! What a cell answers to the lines of a script, and its text.
+//! What a cell answers to the lines of a script, and its text. It knows a table entry by entry
+//! alone.
 #![tactic(auto)]
 
 mod answer;

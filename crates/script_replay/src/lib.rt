@@ -1,5 +1,5 @@
 //! What a line of a script comes to: what a cell answers to it, and what is counted of a line of
-//! `load`.
+//! `load`. It knows neither the whole input nor how a run ends.
 #![tactic(auto)]
 
 mod counts;

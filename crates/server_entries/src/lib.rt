@@ -1,5 +1,5 @@
 //! Entries of servers: their towers and objects, how a server is exported and unexported, and which
-//! bindings an entry has for a client.
+//! bindings an entry has for a client. It knows neither directories nor other entries.
 #![tactic(auto)]
 
 mod client;
