@@ -17,7 +17,7 @@ use Rattle.journal_replay.specs.CellJournals.{JournaledCell, empty_state, journa
 use Rattle.script_replay.specs.Headline.{commands_from}
 use Rattle.cell_replay.specs.JournalRuns.{IsJournalReplay, effective}
 use Rattle.script_replay.specs.Scripts.{state_after_lines}
-use Rattle.cds_base.specs.Runs.{Run}
+use Rattle.cds_base.specs.RunEnds.{Run}
 use Rattle.line_forms.specs.Runs.{IsWhole, Wrote}
 use Rattle.script_replay.proofs.HeadlineLaws.{import_finds}
 use Rattle.script_replay.proofs.Scripts.{is_filling_replay, same_state}
