@@ -3,7 +3,7 @@ pub mod Counts
 pub mod LineFaults
 pub mod Lines
 pub mod MemoryEnds
-pub mod Runs
+pub mod RunEnds
 pub mod SourceReading
 pub mod StandardEnds
 pub mod Windows

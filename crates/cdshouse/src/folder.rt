@@ -3,8 +3,7 @@
 ghost use Rattle.std.specs.Prelude.{◌≡◌, Some, is_some};
 ghost use Rattle.house_program.specs.Files.{HasFolderCause, RoseAt};
 
-use crate::names::{number_in, path_of, segment_path};
-use file_disk::FileDisk;
+use file_disk::{FileDisk, greatest, is_want, path_of, segment_path};
 use house_journal::MemDisk;
 use house_program::{Folder, FolderCounts, FolderFault, LastFile};
 use std::alloc::{AllocError, Global};
@@ -56,40 +55,6 @@ fn opened(rt: &HostRuntime, path: &str, anew: bool) -> io::Result<File> {
 // Syncs a file or a folder.
 fn synced(rt: &HostRuntime, path: &str) -> io::Result<()> {
     fs::open(rt, path)?.sync_all()
-}
-
-// Whether a call was not done since memory ran out.
-fn is_want(error: &io::Error) -> bool {
-    error.kind() == io::ErrorKind::OutOfMemory
-}
-
-// The number of an entry of a folder, if it is a file whose name is one. An entry that is no file
-// and has such a name is an error: nobody knows what reading it does.
-fn number_of(entry: io::Result<fs::DirEntry>) -> io::Result<Option<u64>> {
-    let entry = match entry {
-        Ok(entry) => entry,
-        Err(error) if error.kind() == io::ErrorKind::InvalidFilename => return Ok(None),
-        Err(error) => return Err(error),
-    };
-    let Some(number) = number_in(entry.file_name()) else {
-        return Ok(None);
-    };
-    if entry.file_type()?.is_file() {
-        Ok(Some(number))
-    } else {
-        Err(io::Error::from(io::ErrorKind::InvalidInput))
-    }
-}
-
-// The greatest number of a segment in the folder, or 0.
-fn greatest(rt: &HostRuntime, folder: &str) -> io::Result<u64> {
-    let mut most = 0;
-    for entry in fs::read_dir(rt, folder)? {
-        if let Some(number) = number_of(entry)? {
-            most = most.max(number);
-        }
-    }
-    Ok(most)
 }
 
 // Gives a file its name, if no other has that, and syncs the folder.

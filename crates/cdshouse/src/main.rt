@@ -3,7 +3,6 @@
 #![tactic(auto)]
 
 mod folder;
-mod names;
 
 use cds_base::{StdSink, StdSource, words_of};
 use folder::HostFolder;

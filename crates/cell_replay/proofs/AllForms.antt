@@ -4,7 +4,7 @@ use Rattle.hex.specs.Hex.{IsBytes}
 use Rattle.cell_model.specs.Cells.{empty_cell}
 use Rattle.line_forms.specs.Demand.{Demand, Faulty, LineRule, line_demand, ends_with}
 use Rattle.line_forms.specs.Readings.{Reading, by_lines}
-use Rattle.cds_base.specs.Runs.{IsFront}
+use Rattle.cds_base.specs.RunEnds.{IsFront}
 use Rattle.line_forms.proofs.Staying.{demanded_body, demanded_fault}
 use Rattle.script_replay.specs.LineRules.{dialogue_rule}
 use Rattle.script_replay.specs.Loading.{load_text}

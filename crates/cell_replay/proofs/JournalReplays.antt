@@ -32,7 +32,7 @@ use Rattle.journal_replay.specs.CellJournals.{JournaledCell, empty_state, journa
 use Rattle.script_replay.specs.Headline.{commands_from}
 use Rattle.cell_replay.specs.JournalRuns.{IsJournalReplay, TellsCompletedIn, effective}
 use Rattle.script_replay.specs.Scripts.{state_after_lines}
-use Rattle.cds_base.specs.Runs.{Run}
+use Rattle.cds_base.specs.RunEnds.{Run}
 use Rattle.line_forms.specs.Runs.{IsWhole, Wrote}
 use Rattle.script_replay.specs.Replies.{reply_to}
 use Rattle.script_replay.proofs.Completions.{complete_only, completed_alone}

@@ -15,7 +15,7 @@ use Rattle.cell_replay.specs.TowerDemand.{in_sight, BeginsWithTower, ShowsFault,
 use Rattle.cell_replay.specs.StreamTexts.{stream_fault_text}
 use Rattle.cell_replay.specs.TowerDemand.{rest_demand, towers_demand, TowersDemand}
 use Rattle.line_forms.specs.Demand.{Demand, Faulty, with_front}
-use Rattle.cds_base.specs.Runs.{IsFront}
+use Rattle.cds_base.specs.RunEnds.{IsFront}
 use Rattle.cell_replay.proofs.Streams.{le_or_lt, tower_or_fault, one_fault, sight_whole}
 
 -- ---- what is in sight

@@ -15,7 +15,7 @@ use Rattle.line_forms.specs.declared.endings.Status.TheVariants.{Ok as AllRead, 
 use Rattle.line_forms.specs.Demand.{Demand, Faulty, IsUnbroken, ends_with, faulty_with, cut_short_with}
 use Rattle.cell_replay.specs.WholeDemand.{WholeTask, said_of, told_whole, too_long_text, whole_demand}
 use Rattle.cell_replay.specs.FormReadings.{by_whole}
-use Rattle.cds_base.specs.Runs.{IsFront}
+use Rattle.cds_base.specs.RunEnds.{IsFront}
 use Rattle.line_forms.specs.Runs.{AnswersFront}
 use Rattle.line_forms.specs.Endings.{EndsBetween, Finishes, IsDue, Side, side}
 use Rattle.cell_replay.specs.PrivateWholes.{IsSaid, SaysEnd}

@@ -20,7 +20,7 @@ use Rattle.line_forms.specs.declared.endings.Status.{Status}
 use Rattle.line_forms.specs.declared.endings.Status.TheVariants.{Ok as AllRead, Usage, BadInput, ReadFault, WriteFault, OutOfMemory, JournalFull}
 use Rattle.line_forms.specs.Demand.{Demand, LineRule, Verdict, Sound, Faulty, CutShort, Filled, at_end, demand, faulty_with, first_fault, pieces_of}
 use Rattle.line_forms.specs.Demand.{line_demand, then_rest, unless_fault}
-use Rattle.cds_base.specs.Runs.{Run}
+use Rattle.cds_base.specs.RunEnds.{Run}
 use Rattle.line_forms.specs.Runs.{Ended}
 use Rattle.cell_replay.specs.declared.forms.Form.{Form}
 use Rattle.cell_replay.specs.declared.forms.Form.TheVariants as form

@@ -7,7 +7,7 @@ use Rattle.reply_buffer.specs.Responses.{spell_response}
 use Rattle.reply_buffer.specs.TowerTexts.{tower_said}
 use Rattle.line_forms.specs.Demand.{LineRule, ends_with}
 use Rattle.line_forms.specs.Readings.{Reading}
-use Rattle.cds_base.specs.Runs.{Run}
+use Rattle.cds_base.specs.RunEnds.{Run}
 use Rattle.cell_replay.specs.Fillings.{IsUnfilled}
 use Rattle.cell_replay.specs.TowerDemand.{IsTaken, TowersDemand}
 use Rattle.cell_replay.specs.WholeDemand.{WholeTask, whole_demand}

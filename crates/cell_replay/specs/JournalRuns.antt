@@ -14,7 +14,7 @@ use Rattle.script_replay.specs.Dialogues.{NumberedOf}
 use Rattle.journal_replay.specs.Journaled.{journal_said}
 use Rattle.journal_replay.specs.CellJournals.{empty_state, journal_dialogue}
 use Rattle.script_replay.specs.Headline.{Finds, commands_from}
-use Rattle.cds_base.specs.Runs.{Run}
+use Rattle.cds_base.specs.RunEnds.{Run}
 use Rattle.script_replay.specs.Scripts.{IsReplayBy, state_after_lines}
 
 -- ---- what is written

@@ -18,7 +18,7 @@ ghost use Rattle.cell_replay.specs.Forms.{HasNoJournals, IsCalmEnding, reading_o
 ghost use Rattle.cell_replay.specs.declared.forms.Form.{Form as Form'};
 ghost use Rattle.cell_replay.specs.FormReadings.{by_towers, spelling_rule};
 ghost use Rattle.cds_base.specs.Counts.{Rose};
-ghost use Rattle.cds_base.specs.Runs.{IsFront, Run};
+ghost use Rattle.cds_base.specs.RunEnds.{IsFront, Run};
 ghost use Rattle.line_forms.specs.Runs.{Ended, NoCallFailed};
 ghost use Rattle.line_forms.specs.declared.endings.Status.{Status as Status'};
 ghost use Rattle.line_forms.specs.declared.endings.Status.TheVariants as ends;

@@ -3,7 +3,7 @@ ghost use Rattle.std.specs.Prelude.{◌≡◌, ◌≤◌, ◌↔◌, ℕ, None, 
 ghost use Rattle.cell_model.specs.Cells.{empty_cell};
 ghost use Rattle.line_forms.specs.Leaving.{Leaves};
 ghost use Rattle.line_forms.specs.Readings.{by_lines};
-ghost use Rattle.cds_base.specs.Runs.{run_of};
+ghost use Rattle.cds_base.specs.RunEnds.{run_of};
 ghost use Rattle.line_forms.specs.Runs.{Ended};
 ghost use Rattle.script_replay.specs.LineRules.{dialogue_rule};
 ghost use Rattle.script_replay.specs.Scripts.{IsReplay, IsReplayBy};

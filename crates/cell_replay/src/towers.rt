@@ -6,7 +6,7 @@ ghost use Rattle.cds_base.specs.Counts.{HasCause};
 ghost use Rattle.cds_base.specs.SourceReading.{GrowsByReading};
 ghost use Rattle.cell_replay.specs.StreamTexts.{stream_fault_text};
 ghost use Rattle.cell_replay.specs.FormReadings.{by_towers};
-ghost use Rattle.cds_base.specs.Runs.{run_of};
+ghost use Rattle.cds_base.specs.RunEnds.{run_of};
 ghost use Rattle.line_forms.specs.Runs.{Ended};
 ghost use Rattle.line_forms.specs.Endings.{StopsWith, side_of};
 ghost use Rattle.cell_replay.specs.PrivateSights.{Sees, seen_fault};

@@ -3,7 +3,7 @@ ghost use Rattle.std.specs.Prelude.{◌≡◌, [], IfOk, IfErr, OnOk, Err};
 ghost use Rattle.cell_replay.specs.declared.limits.TheConstants.{WHOLE_SIGHT};
 ghost use Rattle.cell_replay.specs.FormReadings.{HasReadFew, by_whole};
 ghost use Rattle.cell_replay.specs.WholeDemand.{Migrating, Auditing, said_of, too_long_text};
-ghost use Rattle.cds_base.specs.Runs.{run_of};
+ghost use Rattle.cds_base.specs.RunEnds.{run_of};
 ghost use Rattle.line_forms.specs.Runs.{Ended};
 ghost use Rattle.line_forms.specs.Endings.{Finishes, side_of};
 ghost use Rattle.cell_replay.specs.PrivateWholes.{IsPartRead, IsSaid, SaysEnd, StopsWithin, task_of};

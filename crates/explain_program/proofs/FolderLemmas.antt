@@ -18,7 +18,7 @@ use Rattle.explain_program.specs.declared.folder.FolderLog.{FolderLog}
 use Rattle.explain_program.specs.declared.folder.FolderOctets.{FolderOctets}
 use Rattle.explain_program.specs.declared.told.PlacedFault.{PlacedFault}
 use Rattle.explain_program.specs.Endings.{HasDamaged}
-use Rattle.explain_program.specs.Folders.{AreFirst, AreRead, AreSegments, HasReadAll, HasReadFirst, IsBegun, IsDamaged, IsEvidence, IsLog, IsRead, IsReadTo, IsWhole, Stops, fault_at, faults_in, logs_in, no_digest}
+use Rattle.explain_program.specs.Folders.{AreFirst, AreRead, AreSegments, HasReadAll, HasReadFirst, IsBegun, IsDamaged, IsEvidence, IsLog, IsRead, IsReadTo, IsWhole, StopsReading, fault_at, first_parts, faults_in, logs_in, no_digest}
 use Rattle.house_logs.proofs.RecordLemmas.{house_front}
 use Rattle.house_logs.proofs.SegmentLemmas.{chained_same, last_size, no_fault}
 
@@ -190,7 +190,7 @@ log_house bodies (Some l) is = inr (is.0, is.1)
 -- where a log stops, its folder is not whole
 stopped_log : (f : FolderOctets) (fault : LogFault) (bodies : List (List ℕ)) (log : Option HouseLog) (others : List (List ℕ))
     → (first : AreFirst f.end f.segments.items bodies (why.BadLog fault)) → first.others ≡ others
-    → Stops f.end (length first.whole) first.after first.own first.front others (why.BadLog fault) → IsWhole f log → ⊥
+    → StopsReading f.end (first_parts (length first.whole) first.after first.own first.front) others (why.BadLog fault) → IsWhole f log → ⊥
 stopped_log f fault bodies log [] first is stops whole = stops
 stopped_log f fault bodies log (octets ∷ others) first is stops whole =
     let parts : f.segments.items ≡ first.whole ++ octets ∷ others = first.parts ∙ ap (λ (l : List (List ℕ)). first.whole ++ l) is in
@@ -209,7 +209,7 @@ stopped_log f fault bodies log (octets ∷ others) first is stops whole =
 
 missing_there : (f : FolderOctets) (n : ℕ) (bodies : List (List ℕ)) (log : Option HouseLog) (others : List (List ℕ))
     → (first : AreFirst f.end f.segments.items bodies (why.Missing n))
-    → Stops f.end (length first.whole) first.after first.own first.front others (why.Missing n) → IsWhole f log → ⊥
+    → StopsReading f.end (first_parts (length first.whole) first.after first.own first.front) others (why.Missing n) → IsWhole f log → ⊥
 missing_there f n bodies log [] first stops whole = absurd (cc (stops.0, whole.there))
 missing_there f n bodies log (octets ∷ others) first stops whole = stops
 

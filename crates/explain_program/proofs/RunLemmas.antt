@@ -27,7 +27,7 @@ use Rattle.explain_program.specs.declared.told.PlacedFault.{PlacedFault}
 use Rattle.explain_program.specs.declared.told.Told.{Told}
 use Rattle.explain_program.specs.Endings.{Ends, HasReason, IsSaid, IsTold, WritesPart, status_of}
 use Rattle.explain_program.specs.Texts.{fault_line, fault_lines}
-use Rattle.explain_program.specs.Folders.{EndsSo, HasReadAll, HasReadFirst, IsBegun, IsEvidence, IsLog, IsReadTo, IsWhole}
+use Rattle.explain_program.specs.Folders.{EndsFolder, HasReadAll, HasReadFirst, IsBegun, IsEvidence, IsLog, IsReadTo, IsWhole}
 use Rattle.explain_program.proofs.FolderLemmas.{evidence_damaged, read_missing}
 
 -- ---- folders
@@ -53,7 +53,7 @@ begun_read f r fault log h is = record {
 }
 
 -- that of one of which all segments that are there were read
-pub all_read : (f : FolderOctets) (r : LogReader) (fault : Option FolderFault) (log : Option HouseLog) → EndsSo f fault → HasReadAll f.segments.items r
+pub all_read : (f : FolderOctets) (r : LogReader) (fault : Option FolderFault) (log : Option HouseLog) → EndsFolder f fault → HasReadAll f.segments.items r
     → ((bodies : List (List ℕ)) → HasRead r bodies → IsLog bodies log) → IsReadTo f log fault
 all_read f r None log ends h is = whole_read f r log ends h is
 all_read f r (Some (why.Missing n)) log ends h is = record {

@@ -32,17 +32,28 @@ AreSegments number before (octets ∷ segments) bodies after =
 abbrev pub no_digest : List ℕ
 no_digest = replicate 32 0
 
--- this is the fault of the segments after the first ones, so many, whose records have these bodies,
--- the last one with this digest: the next one is not there; or its octets have the fault, after
--- good records with the bodies of the front
-abbrev pub Stops : (how : FolderEnd) → (whole : ℕ) → (before : List ℕ) → (own front : List (List ℕ))
-    → (others : List (List ℕ)) → FolderFault → Type 0
-Stops how whole before own front [] (why.Missing n) =
-    (how ≡ end.Missing) × (n ≡ whole + 1) × (front ≡ [])
-Stops how whole before own front [] (why.BadLog f) = ⊥
-Stops how whole before own front (octets ∷ others) (why.Missing n) = ⊥
-Stops how whole before own front (octets ∷ others) (why.BadLog f) =
-    IsFaultOf (whole + 1) before own octets front f
+-- what was read of a folder: so many whole segments, whose records have these bodies, the last one
+-- with this digest; and a front of the next one
+pub record FirstParts : Type 0 where
+  pub whole : ℕ
+  pub digest : List ℕ
+  pub own : List (List ℕ)
+  pub front : List (List ℕ)
+
+abbrev pub first_parts : (whole : ℕ) → (digest : List ℕ) → (own front : List (List ℕ)) → FirstParts
+first_parts whole digest own front =
+    record { whole = whole; digest = digest; own = own; front = front }
+
+-- this is the fault of the segments after those that were read: the next one is not there; or its
+-- octets have the fault, after good records with the bodies of the front
+abbrev pub StopsReading : (how : FolderEnd) → FirstParts → (others : List (List ℕ)) → FolderFault
+    → Type 0
+StopsReading how first [] (why.Missing n) =
+    (how ≡ end.Missing) × (n ≡ first.whole + 1) × (first.front ≡ [])
+StopsReading how first [] (why.BadLog f) = ⊥
+StopsReading how first (octets ∷ others) (why.Missing n) = ⊥
+StopsReading how first (octets ∷ others) (why.BadLog f) =
+    IsFaultOf (first.whole + 1) first.digest first.own octets first.front f
 
 -- the first records of a folder have these bodies: those of its first segments, which are whole,
 -- and the first ones of the next segment; why no more are read (own)
@@ -56,7 +67,7 @@ pub record AreFirst (how : FolderEnd) (segments bodies : List (List ℕ)) (fault
   pub parts : segments ≡ whole ++ others
   pub are : AreSegments 1 no_digest whole own after
   pub bodies_are : bodies ≡ own ++ front
-  pub stops : Stops how (length whole) after own front others fault
+  pub stops : StopsReading how (first_parts (length whole) after own front) others fault
 
 -- a reader has read these segments
 pub record HasReadAll (segments : List (List ℕ)) (r : LogReader) : Type 0 where
@@ -74,10 +85,10 @@ pub record HasReadFirst (segments : List (List ℕ)) (f : LogFault) (r : LogRead
 -- ---- folders
 
 -- no segment of a folder is missing; or the next one after those that are there is
-abbrev pub EndsSo : FolderOctets → (fault : Option FolderFault) → Type 0
-EndsSo f None = f.end ≡ end.Whole
-EndsSo f (Some (why.Missing n)) = (f.end ≡ end.Missing) × (n ≡ length f.segments.items + 1)
-EndsSo f (Some (why.BadLog fault)) = ⊥
+abbrev pub EndsFolder : FolderOctets → (fault : Option FolderFault) → Type 0
+EndsFolder f None = f.end ≡ end.Whole
+EndsFolder f (Some (why.Missing n)) = (f.end ≡ end.Missing) × (n ≡ length f.segments.items + 1)
+EndsFolder f (Some (why.BadLog fault)) = ⊥
 
 -- records with these bodies are this journal; none, if no house was made
 abbrev pub IsLog : (bodies : List (List ℕ)) → Option HouseLog → Type 0

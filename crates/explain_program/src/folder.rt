@@ -1,6 +1,6 @@
 // What a folder has of the journal of a house, and the journal that this is.
 ghost use Rattle.std.specs.Prelude.{◌≡◌, ◌<◌, ◌+◌, ◌^◌, ◌++◌, ◌∷◌, [], ℕ, List, length, IfOk, OnOk};
-ghost use Rattle.explain_program.specs.Folders.{EndsSo, HasReadAll, HasReadFirst, IsRead};
+ghost use Rattle.explain_program.specs.Folders.{EndsFolder, HasReadAll, HasReadFirst, IsRead};
 ghost use Rattle.explain_program.specs.Texts.{missing_said, why_text};
 ghost use Rattle.house_logs.specs.Reads.{IfFault};
 
@@ -97,7 +97,7 @@ fn read_segments(
 
 // The segment of a folder that is missing, if one is.
 fn missing_in(folder: &FolderOctets) -> Option<FolderFault>
-    ensures { EndsSo folder.now result }
+    ensures { EndsFolder folder.now result }
 {
     match folder.end {
         FolderEnd::Whole => None,

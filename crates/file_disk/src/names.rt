@@ -1,18 +1,18 @@
-// The names of the files in a house's folder.
+// The names of the files in the folder of a house.
 ghost use Rattle.std.specs.Prelude.{◌≡◌, ◌≢◌, ◌↔◌, ◌<◌, ◌^◌, ◌∷◌, ◌++◌, ℕ, decimal, IfNone, IfOk, IfSome, IsTrue, string_bytes};
 
 use itoa::Buffer;
 use std::alloc::{AllocError, Global};
 
 /// A name in the folder.
-pub(crate) fn path_of(alloc: Global, folder: &str, name: &str) -> Result<String, AllocError>
+pub fn path_of(alloc: Global, folder: &str, name: &str) -> Result<String, AllocError>
     ensures { IfOk result (λ p. string_bytes p ≡ folder.now ++ 47 ∷ name.now) }
 {
     format!(in alloc; "{folder}/{name}")
 }
 
 /// The path of a segment.
-pub(crate) fn segment_path(alloc: Global, folder: &str, number: u64) -> Result<String, AllocError>
+pub fn segment_path(alloc: Global, folder: &str, number: u64) -> Result<String, AllocError>
     ensures { IfOk result (λ p. string_bytes p ≡ folder.now ++ 47 ∷ decimal number) }
 {
     format!(in alloc; "{folder}/{number}")
@@ -34,7 +34,7 @@ fn is_name_of(name: &str, number: u64) -> bool
 }
 
 /// The number that a name is in decimal digits, as that of a segment; none, if it is no such name.
-pub(crate) fn number_in(name: &str) -> Option<u64>
+pub fn number_in(name: &str) -> Option<u64>
     ensures some { IfSome result (λ n. name.now ≡ decimal n) }
     ensures none { IfNone result ((n : ℕ) → n < 2 ^ 64 → name.now ≢ decimal n) }
 {

@@ -13,7 +13,7 @@ use Rattle.cell_replay.specs.declared.forms.Form.{Form}
 use Rattle.cell_replay.specs.declared.forms.Form.TheVariants as form
 use Rattle.clerk_replay.specs.Clerking.{clerk_dialogue, start}
 use Rattle.inquire_replay.specs.Inquiring.{inquire_dialogue}
-use Rattle.cds_base.specs.Runs.{Run}
+use Rattle.cds_base.specs.RunEnds.{Run}
 use Rattle.line_forms.specs.Runs.{Ended}
 use Rattle.line_forms.specs.declared.endings.Status.{Status}
 use Rattle.line_forms.specs.declared.endings.Status.TheVariants as ends

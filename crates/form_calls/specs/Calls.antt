@@ -12,7 +12,7 @@ use Rattle.cell_replay.specs.declared.forms.Form.TheVariants as form
 use Rattle.clerk_replay.specs.Clerking.{clerk_dialogue, start}
 use Rattle.inquire_replay.specs.Inquiring.{inquire_dialogue}
 use Rattle.line_forms.specs.Demand.{Demand}
-use Rattle.cds_base.specs.Runs.{Run}
+use Rattle.cds_base.specs.RunEnds.{Run}
 use Rattle.line_forms.specs.Runs.{Ended, IsWhole, code_of}
 use Rattle.line_forms.specs.declared.endings.Status.{Status}
 use Rattle.line_forms.specs.declared.endings.Status.TheVariants as ends

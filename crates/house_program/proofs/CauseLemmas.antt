@@ -13,13 +13,13 @@ use Rattle.house_journal.specs.JournalRecords.{images}
 use Rattle.house_segments.specs.Chains.{chained}
 use Rattle.house_segments.specs.Reading.{EndedLater, IsLast, IsSegment, end_of}
 use Rattle.house_segments.specs.Segments.{HasFaultCause}
-use Rattle.house_serving.specs.Ending.{HasEndingCause}
+use Rattle.house_serving.specs.Ending.{HasEndingCause, failures}
 use Rattle.house_serving.specs.declared.ending.Ending.{Ending}
 use Rattle.house_serving.specs.declared.ending.Ending.TheVariants as endings
 use Rattle.house_turns.specs.Openings.{Differs, MayEnd, RedoneBy, Resumes}
 use Rattle.house_turns.specs.declared.house.House.{House}
 use Rattle.house_program.specs.Beginnings.{FindsSo, IsLastSegment, begins_otherwise, body_in, status_not_read}
-use Rattle.house_program.specs.Causes.{CannotGoOn, Counts, DoesAnother, DoesOther, HasCause, HasFolderEnd, HasSegmentCause, HeadAlone, IsRefused, IsWholeSegment, NoHouse, NoHouseOf, NoSegment, NoneResumes, Unlawful}
+use Rattle.house_program.specs.Causes.{CannotGoOn, ProcessCounts, DoesAnother, DoesOther, HasStatusCause, HasFolderEnd, HasSegmentCause, HeadAlone, IsFolderRefused, IsWholeSegment, NoHouse, NoHouseOf, NoSegment, NoneResumes, Unlawful}
 use Rattle.house_program.specs.Files.{CountsFile, Files, RoseAt, last_file}
 use Rattle.house_program.specs.Statuses.{ends_by_disk, is_disk_fault, status_after, status_not_begun, status_of, status_of_folder}
 use Rattle.house_program.specs.declared.folder.FolderCounts.{FolderCounts}
@@ -51,14 +51,14 @@ pub on_ok : {T : Type 0} (P : Type 0) (r : Result T Status) → P → OnOk r P
 on_ok P (Ok x) p = p
 on_ok P (Err s) p = tt
 
-pub err_segment : (before now : Counts) (Q : Status → Type 0) (r : Result Left Status) → IsErrAnd r Q
-    → ((s : Status) → Q s → HasCause (λ x. ⊥) before now s) → HasSegmentCause before now r
+pub err_segment : (before now : ProcessCounts) (Q : Status → Type 0) (r : Result Left Status) → IsErrAnd r Q
+    → ((s : Status) → Q s → HasStatusCause (λ x. ⊥) before now s) → HasSegmentCause before now r
 err_segment before now Q (Ok l) is all = absurd is
 err_segment before now Q (Err s) is all = all s is
 
 -- ---- counts
 
-abbrev pub counts : ℕ → ℕ → FolderCounts → Counts
+abbrev pub counts : ℕ → ℕ → FolderCounts → ProcessCounts
 counts r w f = record { reads = r; writes = w; folder = f }
 
 pub same_counts : (r r' w w' : ℕ) (f f' : FolderCounts) → r' ≡ r → w' ≡ w → f' ≡ f → counts r' w' f' ≡ counts r w f
@@ -66,23 +66,23 @@ same_counts r r' w w' f f' reads writes folder =
     ap (λ (x : ℕ). counts x w' f') reads ∙ ap (λ (x : ℕ). counts r x f') writes ∙ ap (λ (x : FolderCounts). counts r w x) folder
 
 -- nothing failed, and memory ran out, or the numbers did
-pub calm_memory : (R : Status → Type 0) (b n : Counts) (s : Status) → s ≡ statuses.OutOfMemory → n ≡ b → HasCause R b n s
-calm_memory R b n s is calm = subst (λ (x : Status). HasCause R b n x) (sym is) calm
+pub calm_memory : (R : Status → Type 0) (b n : ProcessCounts) (s : Status) → s ≡ statuses.OutOfMemory → n ≡ b → HasStatusCause R b n s
+calm_memory R b n s is calm = subst (λ (x : Status). HasStatusCause R b n x) (sym is) calm
 
-pub calm_full : (R : Status → Type 0) (b n : Counts) (s : Status) → s ≡ statuses.Full → n ≡ b → HasCause R b n s
-calm_full R b n s is calm = subst (λ (x : Status). HasCause R b n x) (sym is) calm
+pub calm_full : (R : Status → Type 0) (b n : ProcessCounts) (s : Status) → s ≡ statuses.Full → n ≡ b → HasStatusCause R b n s
+calm_full R b n s is calm = subst (λ (x : Status). HasStatusCause R b n x) (sym is) calm
 
-pub calm_either : (R : Status → Type 0) (b n : Counts) (number : ℕ) (e s : Status) → (e ≡ statuses.OutOfMemory) ⊎ ((e ≡ statuses.Full) × (2 ^ 64 ≤ number + 1)) → s ≡ e → n ≡ b
-    → HasCause R b n s
+pub calm_either : (R : Status → Type 0) (b n : ProcessCounts) (number : ℕ) (e s : Status) → (e ≡ statuses.OutOfMemory) ⊎ ((e ≡ statuses.Full) × (2 ^ 64 ≤ number + 1)) → s ≡ e → n ≡ b
+    → HasStatusCause R b n s
 calm_either R b n number e s (inl memory) same calm = calm_memory R b n s (same ∙ memory) calm
 calm_either R b n number e s (inr full) same calm = calm_full R b n s (same ∙ full.0) calm
 
 -- nothing failed before
-pub after_calm : (R : Status → Type 0) (b m n : Counts) (s : Status) → m ≡ b → HasCause R m n s → HasCause R b n s
-after_calm R b m n s calm cause = subst (λ (x : Counts). HasCause R x n s) calm cause
+pub after_calm : (R : Status → Type 0) (b m n : ProcessCounts) (s : Status) → m ≡ b → HasStatusCause R m n s → HasStatusCause R b n s
+after_calm R b m n s calm cause = subst (λ (x : ProcessCounts). HasStatusCause R x n s) calm cause
 
 -- with more reasons to be refused
-pub cause_more : (R R' : Status → Type 0) (b n : Counts) (s : Status) → ((x : Status) → R x → R' x) → HasCause R b n s → HasCause R' b n s
+pub cause_more : (R R' : Status → Type 0) (b n : ProcessCounts) (s : Status) → ((x : Status) → R x → R' x) → HasStatusCause R b n s → HasStatusCause R' b n s
 cause_more R R' b n statuses.Ok more c = c
 cause_more R R' b n statuses.Usage more c = c
 cause_more R R' b n statuses.BadInput more c = c
@@ -100,42 +100,42 @@ cause_more R R' b n statuses.OtherDeeds more c = (c.0, more statuses.OtherDeeds 
 -- ---- calls of the folder
 
 pub folder_cause : (R : Status → Type 0) (r r' w w' : ℕ) (f f' : FolderCounts) (fault : FolderFault) (s : Status) → s ≡ status_of_folder fault
-    → r' ≡ r → w' ≡ w → RoseAt fault f f' → HasCause R (counts r w f) (counts r' w' f') s
+    → r' ≡ r → w' ≡ w → RoseAt fault f f' → HasStatusCause R (counts r w f) (counts r' w' f') s
 folder_cause R r r' w w' f f' folders.Unreadable s is reads writes rose =
-    subst (λ (x : Status). HasCause R (counts r w f) (counts r' w' f') x) (sym is) (inl (reads, writes, rose))
+    subst (λ (x : Status). HasStatusCause R (counts r w f) (counts r' w' f') x) (sym is) (inl (reads, writes, rose))
 folder_cause R r r' w w' f f' folders.Taken s is reads writes rose =
-    subst (λ (x : Status). HasCause R (counts r w f) (counts r' w' f') x) (sym is) (reads, writes, rose)
+    subst (λ (x : Status). HasStatusCause R (counts r w f) (counts r' w' f') x) (sym is) (reads, writes, rose)
 folder_cause R r r' w w' f f' folders.Failed s is reads writes rose =
-    subst (λ (x : Status). HasCause R (counts r w f) (counts r' w' f') x) (sym is) (inr (reads, writes, rose))
+    subst (λ (x : Status). HasStatusCause R (counts r w f) (counts r' w' f') x) (sym is) (inr (reads, writes, rose))
 folder_cause R r r' w w' f f' folders.OutOfMemory s is reads writes rose =
-    subst (λ (x : Status). HasCause R (counts r w f) (counts r' w' f') x) (sym is) (same_counts r r' w w' f f' reads writes rose)
+    subst (λ (x : Status). HasStatusCause R (counts r w f) (counts r' w' f') x) (sym is) (same_counts r r' w w' f f' reads writes rose)
 
 -- ---- the last file
 
-by_version : (kept : Files → Type 0) (b n : Counts) (s : Status) (other : Bool) → n ≡ b
-    → s ≡ (if other then statuses.OtherVersion else statuses.BadFolder) → IsRefused kept s → HasCause (IsRefused kept) b n s
+by_version : (kept : Files → Type 0) (b n : ProcessCounts) (s : Status) (other : Bool) → n ≡ b
+    → s ≡ (if other then statuses.OtherVersion else statuses.BadFolder) → IsFolderRefused kept s → HasStatusCause (IsFolderRefused kept) b n s
 by_version kept b n s true calm is r =
-    subst (λ (x : Status). HasCause (IsRefused kept) b n x) (sym is) (calm, subst (IsRefused kept) is r)
+    subst (λ (x : Status). HasStatusCause (IsFolderRefused kept) b n x) (sym is) (calm, subst (IsFolderRefused kept) is r)
 by_version kept b n s false calm is r =
-    subst (λ (x : Status). HasCause (IsRefused kept) b n x) (sym is) (inr (calm, subst (IsRefused kept) is r))
+    subst (λ (x : Status). HasStatusCause (IsFolderRefused kept) b n x) (sym is) (inr (calm, subst (IsFolderRefused kept) is r))
 
-by_house : (kept : Files → Type 0) (b n : Counts) (records : List (List ℕ)) (s : Status) → n ≡ b → IsRefused kept s → NoHouseOf records s
-    → HasCause (IsRefused kept) b n s
+by_house : (kept : Files → Type 0) (b n : ProcessCounts) (records : List (List ℕ)) (s : Status) → n ≡ b → IsFolderRefused kept s → NoHouseOf records s
+    → HasStatusCause (IsFolderRefused kept) b n s
 by_house kept b n records _ calm r (HeadAlone none) = inr (calm, r)
 by_house kept b n records _ calm r (NoneResumes first others split none) = inr (calm, r)
 by_house kept b n records _ calm r (DoesAnother first others begun split resumes other) = (calm, r)
 by_house kept b n records _ calm r (Unlawful first others begun at split resumes redone bad) = inr (calm, r)
 
-by_reason : (kept : Files → Type 0) (b n : Counts) (number : ℕ) (octets : List ℕ) (s : Status) → n ≡ b → IsRefused kept s
-    → CannotGoOn number octets s → HasCause (IsRefused kept) b n s
+by_reason : (kept : Files → Type 0) (b n : ProcessCounts) (number : ℕ) (octets : List ℕ) (s : Status) → n ≡ b → IsFolderRefused kept s
+    → CannotGoOn number octets s → HasStatusCause (IsFolderRefused kept) b n s
 by_reason kept b n number octets s calm r (NoSegment bad is) = by_version kept b n s (begins_otherwise (images octets)) calm is r
 by_reason kept b n number octets s calm r (NoHouse whole head records split bad) = by_house kept b n records s calm r bad
 
-pub folder_end : (kept : Files → Type 0) (r r' w w' : ℕ) (f f' : FolderCounts) (s : Status) → r' ≡ r → w' ≡ w → HasFolderEnd (IsRefused kept) f f' s
-    → HasCause (IsRefused kept) (counts r w f) (counts r' w' f') s
-folder_end kept r r' w w' f f' s reads writes (inl x) = folder_cause (IsRefused kept) r r' w w' f f' x.0 s x.1 reads writes x.2
+pub folder_end : (kept : Files → Type 0) (r r' w w' : ℕ) (f f' : FolderCounts) (s : Status) → r' ≡ r → w' ≡ w → HasFolderEnd (IsFolderRefused kept) f f' s
+    → HasStatusCause (IsFolderRefused kept) (counts r w f) (counts r' w' f') s
+folder_end kept r r' w w' f f' s reads writes (inl x) = folder_cause (IsFolderRefused kept) r r' w w' f f' x.0 s x.1 reads writes x.2
 folder_end kept r r' w w' f f' s reads writes (inr (same, inl memory)) =
-    calm_memory (IsRefused kept) (counts r w f) (counts r' w' f') s memory (same_counts r r' w w' f f' reads writes same)
+    calm_memory (IsFolderRefused kept) (counts r w f) (counts r' w' f') s memory (same_counts r r' w w' f f' reads writes same)
 folder_end kept r r' w w' f f' s reads writes (inr (same, inr refused)) =
     by_reason kept (counts r w f) (counts r' w' f') refused.file.number refused.file.octets s (same_counts r r' w w' f f' reads writes same) refused refused.why
 
@@ -143,41 +143,41 @@ folder_end kept r r' w w' f f' s reads writes (inr (same, inr refused)) =
 
 -- a run of lines after something was written
 pub run_later : (reads reads' writes0 writes writes' disks disks' : ℕ) (ending : Ending) → writes ≡ writes0
-    → HasEndingCause reads reads' writes writes' disks disks' ending → HasEndingCause reads reads' writes0 writes' disks disks' ending
-run_later reads reads' writes0 writes writes' disks disks' ending same c = subst (λ (w : ℕ). HasEndingCause reads reads' w writes' disks disks' ending) same c
+    → HasEndingCause (failures reads writes disks) (failures reads' writes' disks') ending → HasEndingCause (failures reads writes0 disks) (failures reads' writes' disks') ending
+run_later reads reads' writes0 writes writes' disks disks' ending same c = subst (λ (w : ℕ). HasEndingCause (failures reads w disks) (failures reads' writes' disks') ending) same c
 
 the_one : (a s : Status) → (let some : Option Status = Some a in some ≡ Some s) → a ≡ s
 the_one a s is = cc (is)
 
-by_ending : (r r' w w' k k' : ℕ) (f f' : FolderCounts) (ending : Ending) (s : Status) → HasEndingCause r r' w w' k k' ending
-    → CountsFile (ends_by_disk ending) f f' → status_after ending ≡ Some s → HasCause (λ x. ⊥) (counts r w f) (counts r' w' f') s
+by_ending : (r r' w w' k k' : ℕ) (f f' : FolderCounts) (ending : Ending) (s : Status) → HasEndingCause (failures r w k) (failures r' w' k') ending
+    → CountsFile (ends_by_disk ending) f f' → status_after ending ≡ Some s → HasStatusCause (λ x. ⊥) (counts r w f) (counts r' w' f') s
 by_ending r r' w w' k k' f f' endings.InputEnds s c same is =
-    subst (λ (x : Status). HasCause (λ y. ⊥) (counts r w f) (counts r' w' f') x) (the_one statuses.Ok s is) (same_counts r r' w w' f f' c.0 c.1 same)
+    subst (λ (x : Status). HasStatusCause (λ y. ⊥) (counts r w f) (counts r' w' f') x) (the_one statuses.Ok s is) (same_counts r r' w w' f f' c.0 c.1 same)
 by_ending r r' w w' k k' f f' endings.BadInput s c same is =
-    subst (λ (x : Status). HasCause (λ y. ⊥) (counts r w f) (counts r' w' f') x) (the_one statuses.BadInput s is) (same_counts r r' w w' f f' c.0 c.1 same)
+    subst (λ (x : Status). HasStatusCause (λ y. ⊥) (counts r w f) (counts r' w' f') x) (the_one statuses.BadInput s is) (same_counts r r' w w' f f' c.0 c.1 same)
 by_ending r r' w w' k k' f f' endings.ReadFault s c same is =
-    subst (λ (x : Status). HasCause (λ y. ⊥) (counts r w f) (counts r' w' f') x) (the_one statuses.ReadFault s is) (c.0, c.1, same)
+    subst (λ (x : Status). HasStatusCause (λ y. ⊥) (counts r w f) (counts r' w' f') x) (the_one statuses.ReadFault s is) (c.0, c.1, same)
 by_ending r r' w w' k k' f f' endings.WriteFault s c same is =
-    subst (λ (x : Status). HasCause (λ y. ⊥) (counts r w f) (counts r' w' f') x) (the_one statuses.WriteFault s is) (c.0, c.1, same)
+    subst (λ (x : Status). HasStatusCause (λ y. ⊥) (counts r w f) (counts r' w' f') x) (the_one statuses.WriteFault s is) (c.0, c.1, same)
 by_ending r r' w w' k k' f f' endings.OutOfMemory s c same is =
-    subst (λ (x : Status). HasCause (λ y. ⊥) (counts r w f) (counts r' w' f') x) (the_one statuses.OutOfMemory s is) (same_counts r r' w w' f f' c.0 c.1 same)
+    subst (λ (x : Status). HasStatusCause (λ y. ⊥) (counts r w f) (counts r' w' f') x) (the_one statuses.OutOfMemory s is) (same_counts r r' w w' f f' c.0 c.1 same)
 by_ending r r' w w' k k' f f' endings.Full s c same is =
-    subst (λ (x : Status). HasCause (λ y. ⊥) (counts r w f) (counts r' w' f') x) (the_one statuses.Full s is) (same_counts r r' w w' f f' c.0 c.1 same)
+    subst (λ (x : Status). HasStatusCause (λ y. ⊥) (counts r w f) (counts r' w' f') x) (the_one statuses.Full s is) (same_counts r r' w w' f f' c.0 c.1 same)
 by_ending r r' w w' k k' f f' endings.DiskFault s c same is =
-    subst (λ (x : Status). HasCause (λ y. ⊥) (counts r w f) (counts r' w' f') x) (the_one statuses.DiskFault s is) (inl (c.0, c.1, same))
+    subst (λ (x : Status). HasStatusCause (λ y. ⊥) (counts r w f) (counts r' w' f') x) (the_one statuses.DiskFault s is) (inl (c.0, c.1, same))
 by_ending r r' w w' k k' f f' endings.Grown s c same is = absurd (cc (is))
 
-grown_calm : (r r' w w' k k' : ℕ) (f f' : FolderCounts) (ending : Ending) → HasEndingCause r r' w w' k k' ending → CountsFile (ends_by_disk ending) f f'
+grown_calm : (r r' w w' k k' : ℕ) (f f' : FolderCounts) (ending : Ending) → HasEndingCause (failures r w k) (failures r' w' k') ending → CountsFile (ends_by_disk ending) f f'
     → ending ≡ endings.Grown → counts r' w' f' ≡ counts r w f
 grown_calm r r' w w' k k' f f' ending c same is =
-    let so = subst (HasEndingCause r r' w w' k k') is c in
+    let so = subst (HasEndingCause (failures r w k) (failures r' w' k')) is c in
     same_counts r r' w w' f f' so.0 so.1 (subst (λ (e : Ending). CountsFile (ends_by_disk e) f f') is same)
 
 pub segment_cause : (r r' w w' k k' : ℕ) (f f' : FolderCounts) (failed : Bool) (left : Left) (ending : Ending) → left.ending ≡ ending
-    → HasEndingCause r r' w w' k k' ending → failed ≡ ends_by_disk ending → CountsFile failed f f'
+    → HasEndingCause (failures r w k) (failures r' w' k') ending → failed ≡ ends_by_disk ending → CountsFile failed f f'
     → HasSegmentCause (counts r w f) (counts r' w' f') (Ok left)
 segment_cause r r' w w' k k' f f' failed left ending so c is same =
-    let here = subst (HasEndingCause r r' w w' k k') (sym so) c in
+    let here = subst (HasEndingCause (failures r w k) (failures r' w' k')) (sym so) c in
     let counted = subst (λ (e : Ending). CountsFile (ends_by_disk e) f f') (sym so) (subst (λ (b : Bool). CountsFile b f f') is same) in (
       λ status after. by_ending r r' w w' k k' f f' left.ending status here counted after,
       λ grown. grown_calm r r' w w' k k' f f' left.ending here counted grown,
@@ -193,7 +193,7 @@ some_failed n rose = omega (arith, rose)
 none_failed : {P : Type 0} (n : ℕ) → n ≡ 0 → 1 ≤ n → P
 none_failed n none some = absurd (omega (arith, none, some))
 
-pub ends_failed : (r r' w w' k k' : ℕ) (ending : Ending) (failed : Bool) → k ≡ 0 → HasEndingCause r r' w w' k k' ending → failed ≡ ends_by_disk ending
+pub ends_failed : (r r' w w' k k' : ℕ) (ending : Ending) (failed : Bool) → k ≡ 0 → HasEndingCause (failures r w k) (failures r' w' k') ending → failed ≡ ends_by_disk ending
     → (failed ≡ true) ↔ (1 ≤ k')
 ends_failed r r' w w' k k' endings.InputEnds failed none c is = (λ so. absurd (cc (is, so)), λ some. none_failed k' (c.2 ∙ none) some)
 ends_failed r r' w w' k k' endings.BadInput failed none c is = (λ so. absurd (cc (is, so)), λ some. none_failed k' (c.2 ∙ none) some)
@@ -213,14 +213,14 @@ begun_failed n (Fault journal.Reopen) failed c is = absurd c
 begun_failed n alloc.OutOfMemory failed c is = (λ so. absurd (cc (is, so)), λ some. none_failed n c some)
 
 pub not_begun_cause : (R : Status → Type 0) (r w n : ℕ) (f f' : FolderCounts) (fault : AllocOr JournalFault) (s : Status) → s ≡ status_not_begun fault
-    → HasFaultCause 0 n fault → CountsFile (is_disk_fault fault) f f' → HasCause R (counts r w f) (counts r w f') s
+    → HasFaultCause 0 n fault → CountsFile (is_disk_fault fault) f f' → HasStatusCause R (counts r w f) (counts r w f') s
 not_begun_cause R r w n f f' (Fault journal.DiskFault) s is c counted =
-    subst (λ (x : Status). HasCause R (counts r w f) (counts r w f') x) (sym is) (inl (refl, refl, counted))
+    subst (λ (x : Status). HasStatusCause R (counts r w f) (counts r w f') x) (sym is) (inl (refl, refl, counted))
 not_begun_cause R r w n f f' (Fault journal.Full) s is c counted =
-    subst (λ (x : Status). HasCause R (counts r w f) (counts r w f') x) (sym is) (same_counts r r w w f f' refl refl counted)
+    subst (λ (x : Status). HasStatusCause R (counts r w f) (counts r w f') x) (sym is) (same_counts r r w w f f' refl refl counted)
 not_begun_cause R r w n f f' (Fault journal.Reopen) s is c counted = absurd c
 not_begun_cause R r w n f f' alloc.OutOfMemory s is c counted =
-    subst (λ (x : Status). HasCause R (counts r w f) (counts r w f') x) (sym is) (same_counts r r w w f f' refl refl counted)
+    subst (λ (x : Status). HasStatusCause R (counts r w f) (counts r w f') x) (sym is) (same_counts r r w w f f' refl refl counted)
 
 -- ---- records
 
@@ -319,16 +319,16 @@ headless number title octets last digest is none = has_head title (images octets
 -- what the folder answered of its last file
 refused_file : (kept : Files → Type 0) (f f' : FolderCounts) (number : ℕ) (octets : List ℕ) (s : Status)
     → ((files : Files) → kept files → last_file files ≡ Some (record { number = number; octets = octets })) → f' ≡ f
-    → (s ≡ statuses.OutOfMemory) ⊎ CannotGoOn number octets s → HasFolderEnd (IsRefused kept) f f' s
+    → (s ≡ statuses.OutOfMemory) ⊎ CannotGoOn number octets s → HasFolderEnd (IsFolderRefused kept) f f' s
 refused_file kept f f' number octets s always calm (inl memory) = inr (calm, inl memory)
 refused_file kept f f' number octets s always calm (inr bad) =
     inr (calm, inr (record { file = record { number = number; octets = octets }; always = always; why = bad }))
 
 pub refused_by_file : {T : Type 0} (kept : Files → Type 0) (f f' : FolderCounts) (number : ℕ) (octets read : List ℕ) (r : Result T Status)
     → ((files : Files) → kept files → last_file files ≡ Some (record { number = number; octets = octets })) → f' ≡ f → read ≡ octets
-    → IfErr r (NoneFor number read) → IfErr r (HasFolderEnd (IsRefused kept) f f')
+    → IfErr r (NoneFor number read) → IfErr r (HasFolderEnd (IsFolderRefused kept) f f')
 refused_by_file kept f f' number octets read r always calm same why =
-    if_err (NoneFor number read) (HasFolderEnd (IsRefused kept) f f') r why
+    if_err (NoneFor number read) (HasFolderEnd (IsFolderRefused kept) f f') r why
     (λ s bad. refused_file kept f f' number octets s always calm (subst (λ (l : List ℕ). NoneFor number l s) same bad))
 
 -- what the folder answered is what a process finds
@@ -343,11 +343,11 @@ finds_file kept number octets read (Ok f) always same is = record {
 finds_file kept number octets read (Err s) always same is = tt
 
 -- the lock was held before
-pub folder_end_later : (kept : Files → Type 0) (r w : ℕ) (f0 f f' : FolderCounts) (e s : Status) → f ≡ f0 → HasFolderEnd (IsRefused kept) f f' e → s ≡ e
-    → HasCause (IsRefused kept) (counts r w f0) (counts r w f') s
+pub folder_end_later : (kept : Files → Type 0) (r w : ℕ) (f0 f f' : FolderCounts) (e s : Status) → f ≡ f0 → HasFolderEnd (IsFolderRefused kept) f f' e → s ≡ e
+    → HasStatusCause (IsFolderRefused kept) (counts r w f0) (counts r w f') s
 folder_end_later kept r w f0 f f' e s same end is =
-    subst (λ (x : Status). HasCause (IsRefused kept) (counts r w f0) (counts r w f') x) (sym is)
-    (folder_end kept r r w w f0 f' e refl refl (subst (λ (x : FolderCounts). HasFolderEnd (IsRefused kept) x f' e) same end))
+    subst (λ (x : Status). HasStatusCause (IsFolderRefused kept) (counts r w f0) (counts r w f') x) (sym is)
+    (folder_end kept r r w w f0 f' e refl refl (subst (λ (x : FolderCounts). HasFolderEnd (IsFolderRefused kept) x f' e) same end))
 
 -- a fault of the folder after a call that was done
 pub rose_later : (fault : FolderFault) (f0 f f' : FolderCounts) → f ≡ f0 → RoseAt fault f f' → RoseAt fault f0 f'
@@ -369,7 +369,7 @@ why_plain : (number : ℕ) (octets : List ℕ) (s : Status) → CannotGoOn numbe
 why_plain number octets s (NoSegment bad is) = by_version_plain (begins_otherwise (images octets)) s is
 why_plain number octets s (NoHouse whole head records split bad) = house_plain records s bad
 
-pub unread_plain : (kept : Files → Type 0) (f f' : FolderCounts) (e s : Status) → HasFolderEnd (IsRefused kept) f f' e → s ≡ e → IsPlain s
+pub unread_plain : (kept : Files → Type 0) (f f' : FolderCounts) (e s : Status) → HasFolderEnd (IsFolderRefused kept) f f' e → s ≡ e → IsPlain s
 unread_plain kept f f' e s (inl x) is = folder_plain x.0 s (is ∙ x.1)
 unread_plain kept f f' e s (inr (same, inl memory)) is = memory_plain s (is ∙ memory)
 unread_plain kept f f' e s (inr (same, inr refused)) is = subst IsPlain (sym is) (why_plain refused.file.number refused.file.octets e refused.why)

@@ -2,14 +2,14 @@
 use Rattle.std.proofs.Common.{List, [], ◌∷◌, ◌⊎◌, inl, inr, ⊎_elim, refl}
 use Rattle.house_runs.specs.Runs.{AreFolders}
 use Rattle.house_program.specs.Files.{Files}
-use Rattle.house_program.specs.HouseCells.{AreHouseFolders, ByProcess, IsLeft, NoFile, segments_of}
+use Rattle.house_program.specs.HouseCells.{AreHouseFolders, ByProcess, AreLeft, NoFile, segments_of}
 use Rattle.house_program.specs.HouseFolders.{IsHouseFolder}
 use Rattle.house_program.proofs.ProcessLemmas.{lived_house}
 
 no_file : IsHouseFolder []
 no_file = record { gone = []; segments = []; folder = tt; last_is_there = λ none. refl; are = refl }
 
-pub left_by_house : {F : Type 0} (kept ever : F → Files → Type 0) (files : Files) → IsLeft kept ever files → IsHouseFolder files
+pub left_by_house : {F : Type 0} (kept ever : F → Files → Type 0) (files : Files) → AreLeft kept ever files → IsHouseFolder files
 left_by_house kept ever _ NoFile = no_file
 left_by_house kept ever _ (ByProcess old new run status files was lived left) =
     let both =

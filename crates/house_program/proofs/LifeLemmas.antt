@@ -15,9 +15,9 @@ use Rattle.house_journal.specs.declared.journal.JournalFault.TheVariants as jour
 use Rattle.house_journal.specs.Journals.{LeavesOnly}
 use Rattle.house_segments.specs.Segments.{HasBodies, IsAt, disk_of, size_with}
 use Rattle.house_segments.specs.declared.segment.Segment.{Segment}
-use Rattle.house_serving.specs.Faults.{line_fault_text, shown, too_long}
-use Rattle.cds_base.specs.Runs.{Run}
-use Rattle.house_serving.specs.Serving.{EndsSo, HasFront, IsFaulty, IsOver, LacksRoom, Served}
+use Rattle.house_serving.specs.Faults.{fault_line_text, fault_of_house, too_long}
+use Rattle.cds_base.specs.RunEnds.{Run}
+use Rattle.house_serving.specs.Serving.{Course, EndsSo, HasAfter, HasFront, HasNoLine, IsOver, LacksRoom, LastLine, LinesDone, Records, Served, course, first_records, lines_done, moment, number_after}
 use Rattle.house_serving.specs.Turns.{Dialogue, Turn, bodies_of, lines_text, texts_of}
 use Rattle.house_serving.specs.declared.ending.Ending.{Ending}
 use Rattle.house_serving.specs.declared.ending.Ending.TheVariants.{BadInput, DiskFault, Full, Grown, InputEnds, OutOfMemory, ReadFault, WriteFault}
@@ -27,8 +27,8 @@ use Rattle.house_turns.specs.declared.house.House.{House}
 use Rattle.house_segments.specs.Chains.{last_digest}
 use Rattle.house_program.specs.Beginnings.{first_bodies}
 use Rattle.house_program.specs.Files.{Files, NumberedFile, WithFile}
-use Rattle.house_program.specs.Lives.{IsFaultLine, IsSaid}
-use Rattle.house_program.specs.PrivateLives.{EndsDue, IsDue, IsPassed, IsUnmade, IsWhole, SegmentDone, Spoken}
+use Rattle.house_program.specs.Lives.{IsFaultLine, IsFrontSaid}
+use Rattle.house_program.specs.PrivateLives.{EndsDue, EndsWhole, IsPassed, IsUnmade, SegmentDone, Spoken, passage, remains}
 use Rattle.house_program.specs.declared.segments.Left.{Left}
 use Rattle.house_program.specs.declared.segments.Next.{Next}
 use Rattle.house_program.specs.Statuses.{status_after, status_not_begun, status_of_folder}
@@ -40,11 +40,11 @@ use Rattle.house_program.specs.declared.status.Status.TheVariants as statuses
 -- ---- what is said first, and then lines
 
 -- the line of a fault
-fault_line : (number : ℕ) (one octets : List ℕ) (left : Option (List ℕ)) (last : List ℕ) → IsFaulty number one octets left last → IsFaultLine last
-fault_line number one octets left last (inl is) = inr (shown is.0, is.3)
+fault_line : (number : ℕ) (one octets : List ℕ) (left : Option (List ℕ)) (last : List ℕ) → HasNoLine number one octets left last → IsFaultLine last
+fault_line number one octets left last (inl is) = inr (fault_of_house is.0, is.3)
 fault_line number one octets left last (inr is) = inr (too_long number, is.4)
 
-maybe_fault : (number : ℕ) (one octets : List ℕ) (left : Option (List ℕ)) (last : List ℕ) → (last ≡ []) ⊎ IsFaulty number one octets left last → IsFaultLine last
+maybe_fault : (number : ℕ) (one octets : List ℕ) (left : Option (List ℕ)) (last : List ℕ) → (last ≡ []) ⊎ HasNoLine number one octets left last → IsFaultLine last
 maybe_fault number one octets left last (inl none) = inl none
 maybe_fault number one octets left last (inr is) = fault_line number one octets left last is
 
@@ -61,121 +61,113 @@ all_words turns text last fault all = record { last = last; unsaid = []; fault =
 exact_words : (turns : List Turn) (text : List ℕ) → text ≡ texts_of turns → Words turns text
 exact_words turns text all = all_words turns text [] (inl refl) (all ∙ sym (append-nil (texts_of turns)))
 
-module _ {D : Type 0} (g : Ghosts D) (before : List ℕ) (bodies : List (List ℕ)) (segment : Segment D) (turns : List Turn) (over : List (List ℕ)) (last text : List ℕ)
-    (at house : House) (one : List ℕ) (lines : Lines) (number : ℕ) (left : Option (List ℕ)) where
-  words : (ending : Ending) → EndsSo g before bodies segment turns over last text at house one lines number left ending → Words turns text
-  words InputEnds ends = all_words turns text last (inl ends.1) ends.0.all_written
-  words BadInput ends = all_words turns text last (fault_line number one (octets_ahead lines) left last ends.1) ends.0.all_written
-  words ReadFault ends = all_words turns text last (inl ends.1) ends.0.all_written
+module _ {D : Type 0} (g : Ghosts D) (first : Records) (way : Course House D) (done : LinesDone House) (last : LastLine) where
+  words : (ending : Ending) → EndsSo g first way done last ending → Words done.turns done.text
+  words InputEnds ends = all_words done.turns done.text last.said (inl ends.1) ends.0.all_written
+  words BadInput ends = all_words done.turns done.text last.said
+      (fault_line (number_after way done.turns) last.taken (octets_ahead way.to.lines) way.run.left' last.said ends.1) ends.0.all_written
+  words ReadFault ends = all_words done.turns done.text last.said (inl ends.1) ends.0.all_written
   words WriteFault ends = record {
-    last = last;
+    last = last.said;
     unsaid = ends.0.0;
-    fault = maybe_fault number one (octets_ahead lines) left last ends.2;
+    fault = maybe_fault (number_after way done.turns) last.taken (octets_ahead way.to.lines) way.run.left' last.said ends.2;
     front = ends.0.1;
   }
-  words OutOfMemory ends = exact_words turns text ends
-  words Full ends = exact_words turns text ends.0
-  words DiskFault ends = exact_words turns text ends
-  words Grown ends = all_words turns text last (inl ends.1) ends.0.all_written
+  words OutOfMemory ends = exact_words done.turns done.text ends
+  words Full ends = exact_words done.turns done.text ends.0
+  words DiskFault ends = exact_words done.turns done.text ends
+  words Grown ends = all_words done.turns done.text last.said (inl ends.1) ends.0.all_written
 
   -- what holds where all that is due was done
-  record Due (lines0 : Lines) (left0 : Option (List ℕ)) : Type 0 where
-    here : at ≡ house
-    none_over : over ≡ []
-    synced : IsAt g segment before (bodies ++ bodies_of turns)
-    all : text ≡ texts_of turns
-    no_one : one ≡ []
+  record Due : Type 0 where
+    here : done.at ≡ way.to.house
+    none_over : done.over ≡ []
+    synced : HasAfter g way.to.segment first (bodies_of done.turns)
+    all : done.text ≡ texts_of done.turns
+    no_one : last.taken ≡ []
 
-  due_at : (lines0 : Lines) (left0 : Option (List ℕ)) (ending : Ending) → IsDue ending
-      → EndsSo g before bodies segment turns over last text at house one lines number left ending → Due lines0 left0
-  due_at lines0 left0 ending (inl is) ends =
-      let so = subst (EndsSo g before bodies segment turns over last text at house one lines number left) is ends in
+  due_at : (ending : Ending) → EndsWhole ending → EndsSo g first way done last ending → Due
+  due_at ending (inl is) ends =
+      let so = subst (EndsSo g first way done last) is ends in
       record {
         here = so.0.here;
         none_over = so.0.none_over;
         synced = so.0.synced;
-        all = so.0.all_written ∙ ap (λ (l : List ℕ). texts_of turns ++ l) so.1 ∙ append-nil (texts_of turns);
+        all = so.0.all_written ∙ ap (λ (l : List ℕ). texts_of done.turns ++ l) so.1 ∙ append-nil (texts_of done.turns);
         no_one = so.2;
       }
-  due_at lines0 left0 ending (inr is) ends =
-      let so = subst (EndsSo g before bodies segment turns over last text at house one lines number left) is ends in
+  due_at ending (inr is) ends =
+      let so = subst (EndsSo g first way done last) is ends in
       record {
         here = so.0.here;
         none_over = so.0.none_over;
         synced = so.0.synced;
-        all = so.0.all_written ∙ ap (λ (l : List ℕ). texts_of turns ++ l) so.1 ∙ append-nil (texts_of turns);
+        all = so.0.all_written ∙ ap (λ (l : List ℕ). texts_of done.turns ++ l) so.1 ∙ append-nil (texts_of done.turns);
         no_one = so.2;
       }
 
-  unbroken_at : (ending : Ending) → ending ≡ Grown → EndsSo g before bodies segment turns over last text at house one lines number left ending
-      → fault_of_lines lines ≡ None
-  unbroken_at ending is ends = (subst (EndsSo g before bodies segment turns over last text at house one lines number left) is ends).3
+  unbroken_at : (ending : Ending) → ending ≡ Grown → EndsSo g first way done last ending → fault_of_lines way.to.lines ≡ None
+  unbroken_at ending is ends = (subst (EndsSo g first way done last) is ends).3
 
-  ended_at : (ending : Ending) → ending ≡ InputEnds → EndsSo g before bodies segment turns over last text at house one lines number left ending
-      → (octets_ahead lines ≡ []) × IsAtEnd left
+  ended_at : (ending : Ending) → ending ≡ InputEnds → EndsSo g first way done last ending
+      → (octets_ahead way.to.lines ≡ []) × IsAtEnd way.run.left'
   ended_at ending is ends =
-      let so = subst (EndsSo g before bodies segment turns over last text at house one lines number left) is ends in (so.3, so.4)
+      let so = subst (EndsSo g first way done last) is ends in (so.3, so.4)
 
 module _ {D : Type 0} (g : Ghosts D) (before : List ℕ) (bodies : List (List ℕ)) (said : List ℕ) (house house' : House) (segment segment' : Segment D)
     (lines lines' : Lines) where
   -- it was said, and then lines were answered
   pub spoke : (run : Run) (written0 : Option (List ℕ)) (writes0 : ℕ) (ending : Ending) → Appends written0 run.written said
-      → Served Responds g before bodies house house' segment segment' lines lines' run ending
-      → Spoken g before bodies said house house' segment segment' lines lines' (record run { written = written0; writes = writes0 }) ending
+      → Served Responds g (first_records before bodies) (course (moment house segment lines) (moment house' segment' lines') run) ending
+      → Spoken g (first_records before bodies) said (course (moment house segment lines) (moment house' segment' lines') (record run { written = written0; writes = writes0 })) ending
   spoke run written0 writes0 ending wrote s =
-      let w = words g before bodies segment' s.turns s.over s.last s.text s.at house' s.one lines' (lines_so_far lines + length s.turns + 1) run.left' ending s.ends in
-      let same : lines_so_far lines + length s.turns + 1 ≡ lines_so_far lines + 1 + length s.turns = omega arith in
+      let way : Course House D = (course (moment house segment lines) (moment house' segment' lines') run) in
+      let w = words g (first_records before bodies) way s.done s.last ending s.ends in
+      let same : lines_so_far lines + length s.done.turns + 1 ≡ lines_so_far lines + 1 + length s.done.turns = omega arith in
       record {
-        turns = s.turns;
-        over = s.over;
-        text = said ++ s.text;
-        at = s.at;
+        done = lines_done s.done.turns s.done.over (said ++ s.done.text) s.done.at;
         talk = s.work.talk;
-        over_one = subst (λ (n : ℕ). IsOver Responds n s.at s.over) same s.over_one;
-        wrote = appends_more written0 run.written run.written' said s.text wrote s.work.wrote;
+        over_one = subst (λ (n : ℕ). IsOver Responds n s.done.at s.done.over) same s.over_one;
+        wrote = appends_more written0 run.written run.written' said s.done.text wrote s.work.wrote;
         crash = s.work.crash;
         acknowledged = s.work.acknowledged;
         says = record {
           last = w.last;
           unsaid = w.unsaid;
           fault = w.fault;
-          front = ap (λ (l : List ℕ). said ++ l) w.front ∙ sym (append_assoc said s.text w.unsaid);
+          front = ap (λ (l : List ℕ). said ++ l) w.front ∙ sym (append_assoc said s.done.text w.unsaid);
         };
         whole = λ is.
-            let d = due_at g before bodies segment' s.turns s.over s.last s.text s.at house' s.one lines' (lines_so_far lines + length s.turns + 1) run.left'
-            lines run.left ending is s.ends in
+            let d = due_at g (first_records before bodies) way s.done s.last ending is s.ends in
             record {
               here = d.here;
               none_over = d.none_over;
               all = ap (λ (l : List ℕ). said ++ l) d.all;
               synced = d.synced;
               read =
-                  subst (λ (l : List ℕ). GrowsByReading run.left run.left' (octets_ahead lines) (lines_text s.turns ++ (l ++ octets_ahead lines')))
+                  subst (λ (l : List ℕ). GrowsByReading run.left run.left' (octets_ahead lines) (lines_text s.done.turns ++ (l ++ octets_ahead lines')))
                   d.no_one s.read;
             };
         due = record {
           counted = s.counted;
           stopped = λ is.
-              let so = subst (EndsSo g before bodies segment' s.turns s.over s.last s.text s.at house' s.one lines' (lines_so_far lines + length s.turns + 1)
-              run.left') is s.ends in
+              let so = subst (EndsSo g (first_records before bodies) way s.done s.last) is s.ends in
               record {
-                last = s.last;
-                one = s.one;
+                last = s.last.said;
+                one = s.last.taken;
                 all = ap (λ (l : List ℕ). said ++ l) so.0.all_written;
                 read = s.read;
-                faulty = subst (λ (n : ℕ). IsFaulty n s.one (octets_ahead lines') run.left' s.last) same so.1;
+                faulty = subst (λ (n : ℕ). HasNoLine n s.last.taken (octets_ahead lines') run.left' s.last.said) same so.1;
               };
           crowded = λ is. record {
-            one = s.one;
+            one = s.last.taken;
             read = s.read;
-            lacks = subst (λ (n : ℕ). LacksRoom Responds n s.at s.over s.one (bodies ++ bodies_of s.turns)) same (s.room is);
+            lacks = subst (λ (n : ℕ). LacksRoom Responds n s.done.at s.done.over s.last.taken (bodies ++ bodies_of s.done.turns)) same (s.room is);
           };
           unbroken = λ is.
-              unbroken_at g before bodies segment' s.turns s.over s.last s.text s.at house' s.one lines' (lines_so_far lines + length s.turns + 1) run.left'
-              ending is s.ends;
+              unbroken_at g (first_records before bodies) way s.done s.last ending is s.ends;
           input = λ is.
-              ended_at g before bodies segment' s.turns s.over s.last s.text s.at house' s.one lines' (lines_so_far lines + length s.turns + 1) run.left'
-              ending is s.ends;
+              ended_at g (first_records before bodies) way s.done s.last ending is s.ends;
         };
       }
 
@@ -183,12 +175,9 @@ module _ {D : Type 0} (g : Ghosts D) (before : List ℕ) (bodies : List (List �
 pub unspoken : {D : Type 0} (g : Ghosts D) (only : (d : D) (c : List ℕ) → g.left_since d (g.moment d) c → g.may_leave d c) (before : List ℕ)
     (bodies : List (List ℕ)) (said : List ℕ) (house : House) (segment : Segment D) (lines : Lines) (run : Run) (k : ℕ)
     → IsAt g segment before bodies → Appends run.written run.written' (take k said)
-    → Spoken g before bodies said house house segment segment lines lines run WriteFault
+    → Spoken g (first_records before bodies) said (course (moment house segment lines) (moment house segment lines) run) WriteFault
 unspoken g only before bodies said house segment lines run k at wrote = record {
-  turns = [];
-  over = [];
-  text = take k said;
-  at = house;
+  done = lines_done [] [] (take k said) house;
   talk = refl;
   over_one = inl refl;
   wrote = wrote;
@@ -206,17 +195,17 @@ unspoken g only before bodies said house segment lines run k at wrote = record {
   };
 }
   where
-    not_due : {P : Type 0} → IsDue WriteFault → P
+    not_due : {P : Type 0} → EndsWhole WriteFault → P
     not_due (inl is) = absurd (cc (is))
     not_due (inr is) = absurd (cc (is))
 
 -- the same octets are said
 pub said_as : {D : Type 0} (g : Ghosts D) (before : List ℕ) (bodies : List (List ℕ)) (said other : List ℕ) (house house' : House)
     (segment segment' : Segment D) (lines lines' : Lines) (run : Run) (ending : Ending) → said ≡ other
-    → Spoken g before bodies said house house' segment segment' lines lines' run ending
-    → Spoken g before bodies other house house' segment segment' lines lines' run ending
+    → Spoken g (first_records before bodies) said (course (moment house segment lines) (moment house' segment' lines') run) ending
+    → Spoken g (first_records before bodies) other (course (moment house segment lines) (moment house' segment' lines') run) ending
 said_as g before bodies said other house house' segment segment' lines lines' run ending same spoken =
-    subst (λ (l : List ℕ). Spoken g before bodies l house house' segment segment' lines lines' run ending) same spoken
+    subst (λ (l : List ℕ). Spoken g (first_records before bodies) l (course (moment house segment lines) (moment house' segment' lines') run) ending) same spoken
 
 -- ---- a segment that is made, named and closed
 
@@ -248,12 +237,9 @@ module _ (kept ever : Files → Type 0) (next : Next) (house : House) (lines : L
   pub unsaid : (kept' ever' : Files → Type 0) (status : Status) → IsUnmade next [] status → Appends run.written run.written' []
       → ((files : Files) → kept' files → kept files ⊎ WithFile kept next.number (HasBodies next.before (first_bodies next)) files)
       → ((files : Files) → ever' files → ever files ⊎ WithFile kept next.number (HasBodies next.before (first_bodies next)) files)
-      → SegmentDone kept ever kept' ever' next house house lines lines run (Err status)
+      → SegmentDone (remains kept ever) (remains kept' ever') next (passage house house lines lines run) (Err status)
   unsaid kept' ever' status bad wrote at_end moments = record {
-    turns = [];
-    over = [];
-    text = [];
-    at = house;
+    done = lines_done [] [] [] house;
     talk = refl;
     over_one = inl refl;
     wrote = wrote;
@@ -278,15 +264,15 @@ module _ (kept ever : Files → Type 0) (next : Next) (house : House) (lines : L
       → Appends run.written run.written' []
       → ((files : Files) → kept' files → kept files ⊎ WithFile kept next.number (HasBodies next.before (first_bodies next)) files)
       → ((files : Files) → ever' files → ever files ⊎ WithFile kept next.number (HasBodies next.before (first_bodies next)) files)
-      → SegmentDone kept ever kept' ever' next house house lines lines run r
+      → SegmentDone (remains kept ever) (remains kept' ever') next (passage house house lines lines run) r
   refused kept' ever' Q (Ok x) is bad wrote at_end moments = absurd is
   refused kept' ever' Q (Err s) is bad wrote at_end moments = unsaid kept' ever' s (bad s is) wrote at_end moments
 
   -- the segment was named, and lines were answered
   module _ {D : Type 0} (g : Ghosts D) (segment segment' : Segment D) (house' : House) (lines' : Lines) (ending : Ending)
-      (s : Spoken g next.before (first_bodies next) next.said.items house house' segment segment' lines lines' run ending) where
+      (s : Spoken g (first_records next.before (first_bodies next)) next.said.items (course (moment house segment lines) (moment house' segment' lines') run) ending) where
     abbrev All : List ℕ → Type 0
-    All = HasFront next.before (first_bodies next) (bodies_of s.turns ++ s.over)
+    All = HasFront next.before (first_bodies next) (bodies_of s.done.turns ++ s.done.over)
 
     pub named : (kept1 ever1 kept2 ever2 kept3 ever3 : Files → Type 0) (left : Left) (d d' : D) → left.ending ≡ ending → IsAt g segment next.before (first_bodies next)
         → ((before : List ℕ) (bodies : List (List ℕ)) → IsAt g segment' before bodies → left.digest ≡ last_digest before bodies)
@@ -295,45 +281,42 @@ module _ (kept ever : Files → Type 0) (next : Next) (house : House) (lines : L
         → ((f : Files) → ever2 f → ever1 f ⊎ WithFile kept1 next.number (g.may_leave d) f)
         → ((f : Files) → kept3 f → WithFile kept2 next.number (g.may_leave d') f)
         → ((f : Files) → ever3 f → ever2 f ⊎ WithFile kept2 next.number (g.left_since d' (g.moment d)) f)
-        → SegmentDone kept ever kept3 ever3 next house house' lines lines' run (Ok left)
+        → SegmentDone (remains kept ever) (remains kept3 ever3) next (passage house house' lines lines' run) (Ok left)
     named kept1 ever1 kept2 ever2 kept3 ever3 left d d' so at digest same same' quiet calm others naming closing moments = record {
-      turns = s.turns;
-      over = s.over;
-      text = s.text;
-      at = s.at;
+      done = s.done;
       talk = s.talk;
       over_one = s.over_one;
       wrote = s.wrote;
       any_moment = λ files is. ⊎_elim
           (λ was. ⊎_elim (λ old. inl (calm files old))
           (λ w. inr (with_more kept kept1 next.number All (g.may_leave d) files quiet
-          (λ c l. front_none next.before (first_bodies next) (bodies_of s.turns ++ s.over) c
+          (λ c l. front_none next.before (first_bodies next) (bodies_of s.done.turns ++ s.done.over) c
           (left_at g next.before (first_bodies next) segment at c (subst (λ (x : D). g.may_leave x c) same l))) w))
           (naming files was))
           (λ w. inr (with_more kept kept2 next.number All (g.left_since d' (g.moment d)) files (λ f k. quiet f (others f k))
           (λ c l. s.crash.each c (subst (λ (x : D). g.left_since x (g.moment (disk_of segment)) c) same'
           (subst (λ (x : D). g.left_since d' (g.moment x) c) same l))) w))
           (moments files is);
-      at_the_end = λ files is. inr (with_more kept kept2 next.number (HasFront next.before (first_bodies next ++ bodies_of s.turns) s.over)
+      at_the_end = λ files is. inr (with_more kept kept2 next.number (HasFront next.before (first_bodies next ++ bodies_of s.done.turns) s.done.over)
           (g.may_leave d') files (λ f k. quiet f (others f k)) (λ c l. s.acknowledged c (subst (λ (x : D). g.may_leave x c) same' l)) (closing files is));
       says = s.says;
       passed = λ l is due.
           let same : left ≡ l = cc (is) in
-          let w = s.whole (subst IsDue so (subst (λ (x : Left). IsDue x.ending) (sym same) due)) in
-          subst (λ (x : Left). IsPassed kept kept3 next s.turns s.over s.text s.at house' lines lines' run x) same record {
+          let w = s.whole (subst EndsWhole so (subst (λ (x : Left). EndsWhole x.ending) (sym same) due)) in
+          subst (λ (x : Left). IsPassed kept kept3 next (passage house house' lines lines' run) s.done x) same record {
             here = w.here;
             none_over = w.none_over;
             all = w.all;
-            digest = digest next.before (first_bodies next ++ bodies_of s.turns) w.synced;
-            leaves = λ files is. with_more kept kept2 next.number (HasBodies next.before (first_bodies next ++ bodies_of s.turns))
+            digest = digest next.before (first_bodies next ++ bodies_of s.done.turns) w.synced;
+            leaves = λ files is. with_more kept kept2 next.number (HasBodies next.before (first_bodies next ++ bodies_of s.done.turns))
                 (g.may_leave d') files (λ f k. quiet f (others f k))
-                (λ c l. left_at g next.before (first_bodies next ++ bodies_of s.turns) segment' w.synced c (subst (λ (x : D). g.may_leave x c) same' l)) (closing files is);
+                (λ c l. left_at g next.before (first_bodies next ++ bodies_of s.done.turns) segment' w.synced c (subst (λ (x : D). g.may_leave x c) same' l)) (closing files is);
             read = w.read;
           };
       due = λ l is.
           let same : left ≡ l = cc (is) in
-          subst (λ (x : Left). EndsDue (first_bodies next) next.said.items s.turns s.over s.text s.at lines lines' run x.ending) same
-          (subst (EndsDue (first_bodies next) next.said.items s.turns s.over s.text s.at lines lines' run) (sym so) s.due);
+          subst (λ (x : Left). EndsDue (first_bodies next) next.said.items (passage house house' lines lines' run) s.done x.ending) same
+          (subst (EndsDue (first_bodies next) next.said.items (passage house house' lines lines' run) s.done) (sym so) s.due);
       unmade = λ status is. absurd (cc (is));
     }
 

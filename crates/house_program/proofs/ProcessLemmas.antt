@@ -9,8 +9,8 @@ use Rattle.cds_base.proofs.KnownOctets.{appends_more, appends_none, consumes_sel
 use Rattle.house_entries.specs.Bodies.{head_of}
 use Rattle.house_segments.specs.Chains.{last_digest}
 use Rattle.house_segments.specs.Segments.{HasBodies, size_with}
-use Rattle.cds_base.specs.Runs.{Run}
-use Rattle.house_serving.specs.Serving.{HasFront, IsFaulty, IsOver}
+use Rattle.cds_base.specs.RunEnds.{Run}
+use Rattle.house_serving.specs.Serving.{HasFront, HasNoLine, IsOver}
 use Rattle.house_serving.specs.Turns.{Dialogue, Turn, bodies_in, bodies_of, lines_text, texts_of}
 use Rattle.house_serving.specs.declared.ending.Ending.{Ending}
 use Rattle.house_serving.specs.declared.ending.Ending.TheVariants.{BadInput, Grown, InputEnds}
@@ -24,9 +24,9 @@ use Rattle.house_runs.specs.Folders.{AreSegments, BeginsWith, Beginning, FolderS
 use Rattle.house_runs.proofs.Crashes.{Done, front_done, of_over}
 use Rattle.house_program.specs.Beginnings.{FindsSo, first_bodies}
 use Rattle.house_program.specs.Files.{Files, NumberedFile, WithFile, last_file, number_in}
-use Rattle.house_program.specs.HouseFolders.{AreFiles, BeginsAnew, EndsIn, Found, IsFront, IsHouseFolder, LeavesHouse, digest_after_all}
-use Rattle.house_program.specs.Lives.{EndsWith, HasBadLine, HasNoRoom, IsAnswered, IsFirstText, IsIdle, IsKept, IsReadNext, IsSaid, Life, Lived, NoFirst, NoNext, NoNumber, size_after, turns_in}
-use Rattle.house_program.specs.PrivateLives.{EndsDue, IsCrowded, IsDue, IsPassed, IsStopped, SegmentDone}
+use Rattle.house_program.specs.HouseFolders.{AreFiles, BeginsAnew, EndsIn, Found, HasFolderFront, IsHouseFolder, LeavesHouse, digest_after_all}
+use Rattle.house_program.specs.Lives.{EndsWith, HasBadLine, HasNoRoom, AllIsAnswered, IsSaidFirst, IsIdle, KeepsAllSaid, IsReadNext, IsFrontSaid, Life, Lived, NoFirst, NoNext, NoNumber, last_size_after, turns_in}
+use Rattle.house_program.specs.PrivateLives.{EndsDue, IsCrowded, EndsWhole, IsPassed, IsStoppedAt, SegmentDone, passage, remains}
 use Rattle.house_program.specs.Statuses.{status_after, status_of}
 use Rattle.house_program.specs.declared.reading.FolderHouse.{FolderHouse}
 use Rattle.house_program.specs.declared.segments.Left.{Left}
@@ -53,14 +53,14 @@ pub record HasAll (kept0 : Files → Type 0) (found : Found) (segments : List Fo
 pub record Made (kept0 ever0 kept ever : Files → Type 0) (found : Found) (opened : House) (said : List ℕ) (left left' written written' : Option (List ℕ))
     (lines : Lines) (segments : List FolderSegment) (prior : House) (text unsaid : List ℕ) : Type 0 where
   pub opens : OpensFrom found.last opened
-  pub speaks : IsFirstText (after_start opened opened.home) said
+  pub speaks : IsSaidFirst (after_start opened opened.home) said
   pub follow : SegmentsTo found.last new_house segments prior
   pub anew : BeginsAnew segments
   pub silent : segments ≡ [] → text ≡ []
   pub wrote : Appends written written' text
   pub words : text ++ unsaid ≡ said ++ texts_of (turns_in segments)
   pub leaves : (files : Files) → kept files → HasAll kept0 found segments files
-  pub moments : (files : Files) → ever files → ever0 files ⊎ IsFront kept0 found (folder_bodies segments) files
+  pub moments : (files : Files) → ever files → ever0 files ⊎ HasFolderFront kept0 found (folder_bodies segments) files
   pub read : GrowsByReading left left' [] (lines_text (turns_in segments) ++ octets_ahead lines)
   pub counted : lines_so_far lines ≡ length (turns_in segments)
 
@@ -76,8 +76,8 @@ pub record Ready (kept : Files → Type 0) (found : Found) (lines : Lines) (segm
   pub unbroken : fault_of_lines lines ≡ None
 
 -- more records
-pub front_grows : (kept : Files → Type 0) (found : Found) (records more : List (List ℕ)) (files : Files) → IsFront kept found records files
-    → IsFront kept found (records ++ more) files
+pub front_grows : (kept : Files → Type 0) (found : Found) (records more : List (List ℕ)) (files : Files) → HasFolderFront kept found records files
+    → HasFolderFront kept found (records ++ more) files
 front_grows kept found records more files f = record {
   was = f.was;
   made = f.made;
@@ -152,7 +152,7 @@ module _ (kept0 ever0 kept ever : Files → Type 0) (found : Found) (opened : Ho
 
 -- a front that has one segment more
 pub record OneMore (kept0 : Files → Type 0) (found : Found) (records : List (List ℕ)) (files : Files) (segments : List FolderSegment) (s : FolderSegment) : Type 0 where
-  pub front : IsFront kept0 found records files
+  pub front : HasFolderFront kept0 found records files
   pub are : front.segments ≡ segments ++ s ∷ []
 
 module _ (kept0 ever0 kept ever : Files → Type 0) (found : Found) (opened : House) (said : List ℕ) (left left' written written' : Option (List ℕ)) (lines : Lines)
@@ -219,34 +219,33 @@ module _ (kept0 ever0 kept ever : Files → Type 0) (found : Found) (opened : Ho
   }
 
   module _ (kept' ever' : Files → Type 0) (house' : House) (lines' : Lines) (left'' written'' : Option (List ℕ)) (reads reads' writes writes' : ℕ) (result : Result Left Status)
-      (d : SegmentDone kept ever kept' ever' next house house' lines lines'
-      (record { left = left'; left' = left''; written = written'; written' = written''; reads = reads; reads' = reads'; writes = writes; writes' = writes' }) result) where
+      (d : SegmentDone (remains kept ever) (remains kept' ever') next (passage house house' lines lines' (record { left = left'; left' = left''; written = written'; written' = written''; reads = reads; reads' = reads'; writes = writes; writes' = writes' })) result) where
     abbrev after_it : List FolderSegment
-    after_it = segments ++ segment_with d.turns ∷ []
+    after_it = segments ++ segment_with d.done.turns ∷ []
 
     -- a front of the records of the lines that were done
-    front_of : (files : Files) → WithFile kept next.number (HasFront next.before (first_bodies next) (bodies_of d.turns ++ d.over)) files
-        → IsFront kept0 found (folder_bodies after_it ++ d.over) files
+    front_of : (files : Files) → WithFile kept next.number (HasFront next.before (first_bodies next) (bodies_of d.done.turns ++ d.done.over)) files
+        → HasFolderFront kept0 found (folder_bodies after_it ++ d.done.over) files
     front_of files w =
         let is = w.left in
-        let done = front_done Responds d.turns (lines_so_far lines + 1) house d.at d.over is.front is.rest d.talk d.over_one is.split in
+        let done = front_done Responds d.done.turns (lines_so_far lines + 1) house d.done.at d.done.over is.front is.rest d.talk d.over_one is.split in
         let same = ap (λ (l : List (List ℕ)). first_bodies next ++ l) (sym done.are) in
-        (front_with done.turns done.at is.rest d.over d.turns done.talk (is.split ∙ ap (λ (l : List (List ℕ)). l ++ is.rest) (sym done.are)) files
+        (front_with done.turns done.at is.rest d.done.over d.done.turns done.talk (is.split ∙ ap (λ (l : List (List ℕ)). l ++ is.rest) (sym done.are)) files
         (all_with done.turns (λ c. c ≡ w.octets) (λ c one. subst (λ (x : List ℕ). HasBodies next.before (first_bodies next ++ bodies_of done.turns) x) (sym one)
         (subst (λ (l : List (List ℕ)). HasBodies next.before l w.octets) same is.has)) files (record { front = w.front; octets = w.octets; before = w.before; left = refl; split = w.split }))).front
 
-    moments : (files : Files) → ever' files → ever0 files ⊎ IsFront kept0 found (folder_bodies after_it ++ d.over) files
+    moments : (files : Files) → ever' files → ever0 files ⊎ HasFolderFront kept0 found (folder_bodies after_it ++ d.done.over) files
     moments files is =
         ⊎_elim
         (λ was. ⊎_elim (λ old. inl old) (λ f. inr (old_front files f)) (m.moments files was))
         (λ w. inr (front_of files w)) (d.any_moment files is)
       where
-        old_front : (files : Files) → IsFront kept0 found (folder_bodies segments) files → IsFront kept0 found (folder_bodies after_it ++ d.over) files
+        old_front : (files : Files) → HasFolderFront kept0 found (folder_bodies segments) files → HasFolderFront kept0 found (folder_bodies after_it ++ d.done.over) files
         old_front files f =
-            subst (λ (l : List (List ℕ)). IsFront kept0 found l files)
-            (sym (append_assoc (folder_bodies segments) (next.first.items ∷ bodies_of d.turns) d.over)
-            ∙ ap (λ (l : List (List ℕ)). l ++ d.over) (sym (bodies_on segments (segment_with d.turns))))
-            (front_grows kept0 found (folder_bodies segments) ((next.first.items ∷ bodies_of d.turns) ++ d.over) files f)
+            subst (λ (l : List (List ℕ)). HasFolderFront kept0 found l files)
+            (sym (append_assoc (folder_bodies segments) (next.first.items ∷ bodies_of d.done.turns) d.done.over)
+            ∙ ap (λ (l : List (List ℕ)). l ++ d.done.over) (sym (bodies_on segments (segment_with d.done.turns))))
+            (front_grows kept0 found (folder_bodies segments) ((next.first.items ∷ bodies_of d.done.turns) ++ d.done.over) files f)
 
     -- what was said so far, and of this segment
     words_on : (turns : List Turn) (last more : List ℕ) (some : List ℕ) → next.said.items ++ (texts_of turns ++ last) ≡ some ++ more
@@ -265,16 +264,16 @@ module _ (kept0 ever0 kept ever : Files → Type 0) (found : Found) (opened : Ho
     not_none (t ∷ ss) s none = absurd (cc (none))
 
     -- nothing was said, and the segment may have no name
-    kept_without : (files : Files) → kept files → d.text ≡ [] → IsKept kept0 found (folder_bodies after_it ++ d.over) said (text ++ d.text) files
+    kept_without : (files : Files) → kept files → d.done.text ≡ [] → KeepsAllSaid kept0 found (folder_bodies after_it ++ d.done.over) said (text ++ d.done.text) files
     kept_without files is none =
         let all = m.leaves files is in
-        let same : text ++ d.text ≡ text = ap (λ (l : List ℕ). text ++ l) none ∙ append-nil text in
+        let same : text ++ d.done.text ≡ text = ap (λ (l : List ℕ). text ++ l) none ∙ append-nil text in
         record {
           front = record {
             was = all.was;
             made = all.made;
             segments = segments;
-            more = (next.first.items ∷ bodies_of d.turns) ++ d.over;
+            more = (next.first.items ∷ bodies_of d.done.turns) ++ d.done.over;
             kept = all.kept;
             after = all.after;
             split = all.split;
@@ -282,8 +281,8 @@ module _ (kept0 ever0 kept ever : Files → Type 0) (found : Found) (opened : Ho
             follow = are_segments found.last new_house prior segments m.follow;
             begins = m.anew;
             records =
-                ap (λ (l : List (List ℕ)). l ++ d.over) (bodies_on segments (segment_with d.turns))
-                ∙ append_assoc (folder_bodies segments) (next.first.items ∷ bodies_of d.turns) d.over;
+                ap (λ (l : List (List ℕ)). l ++ d.done.over) (bodies_on segments (segment_with d.done.turns))
+                ∙ append_assoc (folder_bodies segments) (next.first.items ∷ bodies_of d.done.turns) d.done.over;
           };
           started = λ no. same ∙ m.silent no;
           answered = turns_in segments;
@@ -298,44 +297,44 @@ module _ (kept0 ever0 kept ever : Files → Type 0) (found : Found) (opened : Ho
         }
 
     -- all lines that were done are kept
-    kept_with : (files : Files) → WithFile kept next.number (HasFront next.before (first_bodies next ++ bodies_of d.turns) d.over) files
-        → IsKept kept0 found (folder_bodies after_it ++ d.over) said (text ++ d.text) files
+    kept_with : (files : Files) → WithFile kept next.number (HasFront next.before (first_bodies next ++ bodies_of d.done.turns) d.done.over) files
+        → KeepsAllSaid kept0 found (folder_bodies after_it ++ d.done.over) said (text ++ d.done.text) files
     kept_with files w =
         let is = w.left in
-        let done = of_over Responds (lines_so_far lines + 1 + length d.turns) d.at d.over is.front is.rest d.over_one is.split in
-        let turns = d.turns ++ done.turns in
-        let are : bodies_of turns ≡ bodies_of d.turns ++ is.front =
-        bodies-append d.turns done.turns ∙ ap (λ (l : List (List ℕ)). bodies_of d.turns ++ l) done.are in
+        let done = of_over Responds (lines_so_far lines + 1 + length d.done.turns) d.done.at d.done.over is.front is.rest d.over_one is.split in
+        let turns = d.done.turns ++ done.turns in
+        let are : bodies_of turns ≡ bodies_of d.done.turns ++ is.front =
+        bodies-append d.done.turns done.turns ∙ ap (λ (l : List (List ℕ)). bodies_of d.done.turns ++ l) done.are in
         let has : HasBodies next.before (first_bodies next ++ bodies_of turns) w.octets =
         subst (λ (l : List (List ℕ)). HasBodies next.before l w.octets)
-        (append_assoc (first_bodies next) (bodies_of d.turns) is.front ∙ ap (λ (l : List (List ℕ)). first_bodies next ++ l) (sym are)) is.has in
-        let one = front_with turns done.at is.rest d.over d.turns (talks_on Responds (lines_so_far lines + 1) house d.at done.at d.turns done.turns d.talk done.talk)
-        (ap (λ (l : List (List ℕ)). bodies_of d.turns ++ l) is.split ∙ sym (append_assoc (bodies_of d.turns) is.front is.rest)
+        (append_assoc (first_bodies next) (bodies_of d.done.turns) is.front ∙ ap (λ (l : List (List ℕ)). first_bodies next ++ l) (sym are)) is.has in
+        let one = front_with turns done.at is.rest d.done.over d.done.turns (talks_on Responds (lines_so_far lines + 1) house d.done.at done.at d.done.turns done.turns d.talk done.talk)
+        (ap (λ (l : List (List ℕ)). bodies_of d.done.turns ++ l) is.split ∙ sym (append_assoc (bodies_of d.done.turns) is.front is.rest)
         ∙ ap (λ (l : List (List ℕ)). l ++ is.rest) (sym are)) files
         (all_with turns (λ c. c ≡ w.octets) (λ c same. subst (λ (x : List ℕ). HasBodies next.before (first_bodies next ++ bodies_of turns) x) (sym same) has) files
         (record { front = w.front; octets = w.octets; before = w.before; left = refl; split = w.split })) in
         record {
           front = one.front;
           started = λ none. not_none segments (segment_with turns) (sym one.are ∙ none);
-          answered = turns_in segments ++ d.turns;
+          answered = turns_in segments ++ d.done.turns;
           more = done.turns;
-          split = ap turns_in one.are ∙ turns_on segments (segment_with turns) ∙ sym (append_assoc (turns_in segments) d.turns done.turns);
+          split = ap turns_in one.are ∙ turns_on segments (segment_with turns) ∙ sym (append_assoc (turns_in segments) d.done.turns done.turns);
           says = record {
             last = d.says.last;
             unsaid = d.says.unsaid;
             fault = d.says.fault;
-            front = words_on d.turns d.says.last d.says.unsaid d.text d.says.front;
+            front = words_on d.done.turns d.says.last d.says.unsaid d.done.text d.says.front;
           };
         }
 
     -- all that was read
-    read_on : (rest : List ℕ) → GrowsByReading left' left'' (octets_ahead lines) (lines_text d.turns ++ rest)
+    read_on : (rest : List ℕ) → GrowsByReading left' left'' (octets_ahead lines) (lines_text d.done.turns ++ rest)
         → GrowsByReading left left'' [] (lines_text (turns_in after_it) ++ rest)
     read_on rest read =
         subst (GrowsByReading left left'' [])
-        (sym (append_assoc (lines_text (turns_in segments)) (lines_text d.turns) rest)
-        ∙ ap (λ (l : List ℕ). l ++ rest) (sym (lines-append (turns_in segments) d.turns) ∙ ap lines_text (sym (turns_on segments (segment_with d.turns)))))
-        (reads_after left left' left'' [] (lines_text (turns_in segments)) (octets_ahead lines) (lines_text d.turns ++ rest) m.read read)
+        (sym (append_assoc (lines_text (turns_in segments)) (lines_text d.done.turns) rest)
+        ∙ ap (λ (l : List ℕ). l ++ rest) (sym (lines-append (turns_in segments) d.done.turns) ∙ ap lines_text (sym (turns_on segments (segment_with d.done.turns)))))
+        (reads_after left left' left'' [] (lines_text (turns_in segments)) (octets_ahead lines) (lines_text d.done.turns ++ rest) m.read read)
 
     -- the segment with these lines is as a house makes it, and has so many octets
     ends_with : (turns : List Turn) (at : House) → Dialogue Responds (lines_so_far lines + 1) house turns at
@@ -347,31 +346,30 @@ module _ (kept0 ever0 kept ever : Files → Type 0) (found : Found) (opened : Ho
           (segments_on found.last new_house prior house at segments (segment_with turns) m.follow r.starts talk);
     }
 
-    sized : (turns : List Turn) → 2 ^ 40 < size_with (first_bodies next ++ bodies_of turns) → 2 ^ 40 < size_after found segments (segment_with turns)
+    sized : (turns : List Turn) → 2 ^ 40 < size_with (first_bodies next ++ bodies_of turns) → 2 ^ 40 < last_size_after found segments (segment_with turns)
     sized turns large =
         subst (λ (b : List ℕ). 2 ^ 40 < size_with (head_of (found.number + 1 + length segments) b ∷ (next.first.items ∷ bodies_of turns))) r.digest
         (subst (λ (n : ℕ). 2 ^ 40 < size_with (head_of n next.before ∷ (next.first.items ∷ bodies_of turns))) r.number large)
 
     -- the first record has no room
-    no_first : d.turns ≡ [] → 2 ^ 40 < size_with (first_bodies next) → (run : Run) → HasNoRoom run found after_it
+    no_first : d.done.turns ≡ [] → 2 ^ 40 < size_with (first_bodies next) → (run : Run) → HasNoRoom run found after_it
     no_first none large run =
-        NoFirst segments (segment_with d.turns) none (ends_with d.turns d.at d.talk)
-        (sized d.turns (subst (λ (l : List (List ℕ)). 2 ^ 40 < size_with (first_bodies next ++ l)) (sym (ap bodies_of none)) large))
+        NoFirst segments (segment_with d.done.turns) none (ends_with d.done.turns d.done.at d.talk)
+        (sized d.done.turns (subst (λ (l : List (List ℕ)). 2 ^ 40 < size_with (first_bodies next ++ l)) (sym (ap bodies_of none)) large))
 
     -- the record of the next line has none
-    no_next : (c : IsCrowded (first_bodies next) d.turns d.over d.at lines lines'
-        (record { left = left'; left' = left''; written = written'; written' = written''; reads = reads; reads' = reads'; writes = writes; writes' = writes' }))
+    no_next : (c : IsCrowded (first_bodies next) (passage house house' lines lines' (record { left = left'; left' = left''; written = written'; written' = written''; reads = reads; reads' = reads'; writes = writes; writes' = writes' })) d.done)
         → (run : Run) → run.left ≡ left → run.left' ≡ left'' → HasNoRoom run found after_it
     no_next c run from to =
         let n = c.lacks.next in
         let turn : Turn = record { line = n.line; said = n.said } in
-        let turns = d.turns ++ turn ∷ [] in
-        let talk = talks_on Responds (lines_so_far lines + 1) house d.at n.next d.turns (turn ∷ []) d.talk (n.next, n.does, refl) in
-        let bodies : (first_bodies next ++ bodies_of d.turns) ++ d.over ≡ first_bodies next ++ bodies_of turns =
-        append_assoc (first_bodies next) (bodies_of d.turns) d.over
+        let turns = d.done.turns ++ turn ∷ [] in
+        let talk = talks_on Responds (lines_so_far lines + 1) house d.done.at n.next d.done.turns (turn ∷ []) d.talk (n.next, n.does, refl) in
+        let bodies : (first_bodies next ++ bodies_of d.done.turns) ++ d.done.over ≡ first_bodies next ++ bodies_of turns =
+        append_assoc (first_bodies next) (bodies_of d.done.turns) d.done.over
         ∙ ap (λ (l : List (List ℕ)). first_bodies next ++ l)
-        (ap (λ (l : List (List ℕ)). bodies_of d.turns ++ l) (n.bodies ∙ sym (append-nil (bodies_in n.said.body))) ∙ sym (bodies-append d.turns (turn ∷ []))) in
-        NoNext segments (segment_with d.turns) (segment_with turns) turn refl refl (ends_with turns n.next talk) (
+        (ap (λ (l : List (List ℕ)). bodies_of d.done.turns ++ l) (n.bodies ∙ sym (append-nil (bodies_in n.said.body))) ∙ sym (bodies-append d.done.turns (turn ∷ []))) in
+        NoNext segments (segment_with d.done.turns) (segment_with turns) turn refl refl (ends_with turns n.next talk) (
           octets_ahead lines',
           subst (λ (x : Option (List ℕ)). GrowsByReading x run.left' [] (lines_text (turns_in after_it) ++ ((n.line ++ 10 ∷ []) ++ octets_ahead lines'))) (sym from)
               (subst (λ (x : Option (List ℕ)). GrowsByReading left x [] (lines_text (turns_in after_it) ++ ((n.line ++ 10 ∷ []) ++ octets_ahead lines'))) (sym to)
@@ -380,29 +378,28 @@ module _ (kept0 ever0 kept ever : Files → Type 0) (found : Found) (opened : Ho
         (sized turns (subst (λ (l : List (List ℕ)). 2 ^ 40 < size_with l) bodies c.lacks.large))
 
     -- the next line is none
-    bad_line : IsStopped next.said.items d.turns d.text lines lines'
-        (record { left = left'; left' = left''; written = written'; written' = written''; reads = reads; reads' = reads'; writes = writes; writes' = writes' })
-        → (run : Run) → run.left ≡ left → run.left' ≡ left'' → HasBadLine run said (turns_in after_it) (text ++ d.text)
+    bad_line : IsStoppedAt next.said.items (passage house house' lines lines' (record { left = left'; left' = left''; written = written'; written' = written''; reads = reads; reads' = reads'; writes = writes; writes' = writes' })) d.done
+        → (run : Run) → run.left ≡ left → run.left' ≡ left'' → HasBadLine run said (turns_in after_it) (text ++ d.done.text)
     bad_line s run from to =
-        let same = turns_on segments (segment_with d.turns) in
+        let same = turns_on segments (segment_with d.done.turns) in
         let counted = m.counted in
-        let numbered : lines_so_far lines + 1 + length d.turns ≡ length (turns_in after_it) + 1 =
-        omega (arith, counted, ap length same, length-append (turns_in segments) d.turns) in
+        let numbered : lines_so_far lines + 1 + length d.done.turns ≡ length (turns_in after_it) + 1 =
+        omega (arith, counted, ap length same, length-append (turns_in segments) d.done.turns) in
         record {
           last = s.last;
           one = s.one;
           ahead = octets_ahead lines';
           all =
-              sym (append-nil (text ++ d.text))
-              ∙ sym (words_on d.turns s.last [] d.text (sym s.all ∙ sym (append-nil d.text)))
+              sym (append-nil (text ++ d.done.text))
+              ∙ sym (words_on d.done.turns s.last [] d.done.text (sym s.all ∙ sym (append-nil d.done.text)))
               ∙ ap (λ (l : List Turn). said ++ (texts_of l ++ s.last)) (sym same);
           read =
               subst (λ (x : Option (List ℕ)). GrowsByReading x run.left' [] (lines_text (turns_in after_it) ++ (s.one ++ octets_ahead lines'))) (sym from)
               (subst (λ (x : Option (List ℕ)). GrowsByReading left x [] (lines_text (turns_in after_it) ++ (s.one ++ octets_ahead lines'))) (sym to)
               (read_on (s.one ++ octets_ahead lines') s.read));
           faulty =
-              subst (λ (x : Option (List ℕ)). IsFaulty (length (turns_in after_it) + 1) s.one (octets_ahead lines') x s.last) (sym to)
-              (subst (λ (n : ℕ). IsFaulty n s.one (octets_ahead lines') left'' s.last) numbered s.faulty);
+              subst (λ (x : Option (List ℕ)). HasNoLine (length (turns_in after_it) + 1) s.one (octets_ahead lines') x s.last) (sym to)
+              (subst (λ (n : ℕ). HasNoLine n s.one (octets_ahead lines') left'' s.last) numbered s.faulty);
         }
 
     -- the process ends with the status of an ending, or with that of a segment that was not made
@@ -432,12 +429,12 @@ module _ (kept0 ever0 kept ever : Files → Type 0) (found : Found) (opened : Ho
       found = found;
       opened = opened;
       segments = after_it;
-      over = d.over;
+      over = d.done.over;
       said = said;
-      text = text ++ d.text;
+      text = text ++ d.done.text;
       opens = m.opens;
       speaks = m.speaks;
-      wrote = appends_more written written' written'' text d.text m.wrote d.wrote;
+      wrote = appends_more written written' written'' text d.done.text m.wrote d.wrote;
       any_moment = moments;
       at_the_end = λ files is. ⊎_elim (λ was. kept_without files was.0 was.1) (λ w. kept_with files w) (d.at_the_end files is);
       answers = λ is.
@@ -447,17 +444,17 @@ module _ (kept0 ever0 kept ever : Files → Type 0) (found : Found) (opened : Ho
           record {
             all =
                 ap (λ (l : List ℕ). text ++ l) p.all
-                ∙ sym (append-nil (text ++ (next.said.items ++ texts_of d.turns)))
-                ∙ sym (words_on d.turns [] [] (next.said.items ++ texts_of d.turns) (ap (λ (l : List ℕ). next.said.items ++ l) (append-nil (texts_of d.turns)) ∙ sym (append-nil (next.said.items ++ texts_of d.turns))))
-                ∙ ap (λ (l : List ℕ). said ++ l) (append-nil (texts_of (turns_in segments ++ d.turns)))
-                ∙ ap (λ (l : List Turn). said ++ texts_of l) (sym (turns_on segments (segment_with d.turns)));
+                ∙ sym (append-nil (text ++ (next.said.items ++ texts_of d.done.turns)))
+                ∙ sym (words_on d.done.turns [] [] (next.said.items ++ texts_of d.done.turns) (ap (λ (l : List ℕ). next.said.items ++ l) (append-nil (texts_of d.done.turns)) ∙ sym (append-nil (next.said.items ++ texts_of d.done.turns))))
+                ∙ ap (λ (l : List ℕ). said ++ l) (append-nil (texts_of (turns_in segments ++ d.done.turns)))
+                ∙ ap (λ (l : List Turn). said ++ texts_of l) (sym (turns_on segments (segment_with d.done.turns)));
             read =
                 subst (GrowsByReading left left'' [])
-                (ap (λ (l : List ℕ). lines_text (turns_in segments) ++ (lines_text d.turns ++ l)) e.0
-                ∙ ap (λ (l : List ℕ). lines_text (turns_in segments) ++ l) (append-nil (lines_text d.turns))
-                ∙ sym (lines-append (turns_in segments) d.turns)
-                ∙ ap lines_text (sym (turns_on segments (segment_with d.turns))))
-                (reads_after left left' left'' [] (lines_text (turns_in segments)) (octets_ahead lines) (lines_text d.turns ++ octets_ahead lines') m.read p.read);
+                (ap (λ (l : List ℕ). lines_text (turns_in segments) ++ (lines_text d.done.turns ++ l)) e.0
+                ∙ ap (λ (l : List ℕ). lines_text (turns_in segments) ++ l) (append-nil (lines_text d.done.turns))
+                ∙ sym (lines-append (turns_in segments) d.done.turns)
+                ∙ ap lines_text (sym (turns_on segments (segment_with d.done.turns))))
+                (reads_after left left' left'' [] (lines_text (turns_in segments)) (octets_ahead lines) (lines_text d.done.turns ++ octets_ahead lines') m.read p.read);
             ends = e.1;
           };
       faulty = λ is.
@@ -471,57 +468,57 @@ module _ (kept0 ever0 kept ever : Files → Type 0) (found : Found) (opened : Ho
 
     -- the process goes on in the next segment
     pub passes : (l : Left) → result ≡ Ok l → l.ending ≡ Grown
-        → Made kept0 ever0 kept' ever' found opened said left left'' written written'' lines' after_it house' (text ++ d.text) []
+        → Made kept0 ever0 kept' ever' found opened said left left'' written written'' lines' after_it house' (text ++ d.done.text) []
     passes l is grown =
         let p = d.passed l is (inl grown) in
         record {
           opens = m.opens;
           speaks = m.speaks;
-          follow = segments_on found.last new_house prior house house' segments (segment_with d.turns) m.follow r.starts
-              (subst (λ (h : House). Dialogue Responds (lines_so_far lines + 1) house d.turns h) p.here d.talk);
-          anew = anew_on segments (segment_with d.turns) m.anew r.first;
-          silent = λ none. not_none segments (segment_with d.turns) none;
-          wrote = appends_more written written' written'' text d.text m.wrote d.wrote;
+          follow = segments_on found.last new_house prior house house' segments (segment_with d.done.turns) m.follow r.starts
+              (subst (λ (h : House). Dialogue Responds (lines_so_far lines + 1) house d.done.turns h) p.here d.talk);
+          anew = anew_on segments (segment_with d.done.turns) m.anew r.first;
+          silent = λ none. not_none segments (segment_with d.done.turns) none;
+          wrote = appends_more written written' written'' text d.done.text m.wrote d.wrote;
           words =
-              append-nil (text ++ d.text)
+              append-nil (text ++ d.done.text)
               ∙ ap (λ (l : List ℕ). text ++ l) p.all
-              ∙ sym (append-nil (text ++ (next.said.items ++ texts_of d.turns)))
-              ∙ sym (words_on d.turns [] [] (next.said.items ++ texts_of d.turns) (ap (λ (l : List ℕ). next.said.items ++ l) (append-nil (texts_of d.turns)) ∙ sym (append-nil (next.said.items ++ texts_of d.turns))))
-              ∙ ap (λ (l : List ℕ). said ++ l) (append-nil (texts_of (turns_in segments ++ d.turns)))
-              ∙ ap (λ (l : List Turn). said ++ texts_of l) (sym (turns_on segments (segment_with d.turns)));
-          leaves = λ files k. all_with d.turns (HasBodies next.before (first_bodies next ++ bodies_of d.turns)) (λ c has. has) files (p.leaves files k);
+              ∙ sym (append-nil (text ++ (next.said.items ++ texts_of d.done.turns)))
+              ∙ sym (words_on d.done.turns [] [] (next.said.items ++ texts_of d.done.turns) (ap (λ (l : List ℕ). next.said.items ++ l) (append-nil (texts_of d.done.turns)) ∙ sym (append-nil (next.said.items ++ texts_of d.done.turns))))
+              ∙ ap (λ (l : List ℕ). said ++ l) (append-nil (texts_of (turns_in segments ++ d.done.turns)))
+              ∙ ap (λ (l : List Turn). said ++ texts_of l) (sym (turns_on segments (segment_with d.done.turns)));
+          leaves = λ files k. all_with d.done.turns (HasBodies next.before (first_bodies next ++ bodies_of d.done.turns)) (λ c has. has) files (p.leaves files k);
           moments = λ files e. ⊎_elim (λ old. inl old)
-              (λ f. inr (subst (λ (l : List (List ℕ)). IsFront kept0 found l files)
+              (λ f. inr (subst (λ (l : List (List ℕ)). HasFolderFront kept0 found l files)
               (ap (λ (o : List (List ℕ)). folder_bodies after_it ++ o) p.none_over ∙ append-nil (folder_bodies after_it)) f)) (moments files e);
           read =
               subst (GrowsByReading left left'' [])
-              (sym (append_assoc (lines_text (turns_in segments)) (lines_text d.turns) (octets_ahead lines'))
-              ∙ ap (λ (l : List ℕ). l ++ octets_ahead lines') (sym (lines-append (turns_in segments) d.turns) ∙ ap lines_text (sym (turns_on segments (segment_with d.turns)))))
-              (reads_after left left' left'' [] (lines_text (turns_in segments)) (octets_ahead lines) (lines_text d.turns ++ octets_ahead lines') m.read p.read);
+              (sym (append_assoc (lines_text (turns_in segments)) (lines_text d.done.turns) (octets_ahead lines'))
+              ∙ ap (λ (l : List ℕ). l ++ octets_ahead lines') (sym (lines-append (turns_in segments) d.done.turns) ∙ ap lines_text (sym (turns_on segments (segment_with d.done.turns)))))
+              (reads_after left left' left'' [] (lines_text (turns_in segments)) (octets_ahead lines) (lines_text d.done.turns ++ octets_ahead lines') m.read p.read);
           counted =
               let so_far = m.counted in
               let more = (d.due l is).counted grown in
-              let same = ap length (turns_on segments (segment_with d.turns)) in
-              omega (arith, so_far, more, same, length-append (turns_in segments) d.turns);
+              let same = ap length (turns_on segments (segment_with d.done.turns)) in
+              omega (arith, so_far, more, same, length-append (turns_in segments) d.done.turns);
         }
 
     pub gets_ready : (l : Left) → result ≡ Ok l → l.ending ≡ Grown → (next' : Next) → next'.number ≡ next.number + 1 → next'.before ≡ l.digest
         → IsSegmentRecord house' next'.first.items → next'.said.items ≡ [] → Ready kept' found lines' after_it house' house' [] next'
     gets_ready l is grown next' number digest first none =
         let p = d.passed l is (inl grown) in
-        let size = length-append segments (segment_with d.turns ∷ []) in
+        let size = length-append segments (segment_with d.done.turns ∷ []) in
         let numbered = r.number in
         record {
           begins = ProcessGoesOn;
           starts = (refl, first);
-          first = λ no. not_none segments (segment_with d.turns) no;
+          first = λ no. not_none segments (segment_with d.done.turns) no;
           number = omega (arith, number, numbered, size);
           digest =
               digest ∙ p.digest
-              ∙ ap (λ (b : List ℕ). last_digest b (head_of next.number b ∷ (next.first.items ∷ bodies_of d.turns))) r.digest
+              ∙ ap (λ (b : List ℕ). last_digest b (head_of next.number b ∷ (next.first.items ∷ bodies_of d.done.turns))) r.digest
               ∙ ap (λ (n : ℕ). last_digest (digest_after_all (found.number + 1) found.digest segments)
-              (head_of n (digest_after_all (found.number + 1) found.digest segments) ∷ (next.first.items ∷ bodies_of d.turns))) r.number
-              ∙ sym (digests_on (found.number + 1) found.digest segments (segment_with d.turns ∷ []));
+              (head_of n (digest_after_all (found.number + 1) found.digest segments) ∷ (next.first.items ∷ bodies_of d.done.turns))) r.number
+              ∙ sym (digests_on (found.number + 1) found.digest segments (segment_with d.done.turns ∷ []));
           says = none;
           above = λ files k. above_it files (p.leaves files k) number;
           unbroken = (d.due l is).unbroken grown;
@@ -532,7 +529,7 @@ module _ (kept0 ever0 kept ever : Files → Type 0) (found : Found) (opened : Ho
         last_number (f ∷ []) n octets = refl
         last_number (f ∷ (g ∷ fs)) n octets = last_number (g ∷ fs) n octets
 
-        above_it : (files : Files) → WithFile kept next.number (HasBodies next.before (first_bodies next ++ bodies_of d.turns)) files
+        above_it : (files : Files) → WithFile kept next.number (HasBodies next.before (first_bodies next ++ bodies_of d.done.turns)) files
             → next'.number ≡ next.number + 1 → number_in (last_file files) < next'.number
         above_it files w number =
             let same : number_in (last_file files) ≡ next.number = ap (λ (l : Files). number_in (last_file l)) w.split ∙ last_number w.front next.number w.octets in
@@ -541,7 +538,7 @@ module _ (kept0 ever0 kept ever : Files → Type 0) (found : Found) (opened : Ho
 -- ---- the start
 
 pub starts_made : (kept ever : Files → Type 0) (found : Found) (opened : House) (said : List ℕ) (left written : Option (List ℕ)) (lines : Lines)
-    → OpensFrom found.last opened → IsFirstText (after_start opened opened.home) said → ((files : Files) → kept files → (h : IsHouseFolder files) → EndsIn (h.gone ++ h.segments) found)
+    → OpensFrom found.last opened → IsSaidFirst (after_start opened opened.home) said → ((files : Files) → kept files → (h : IsHouseFolder files) → EndsIn (h.gone ++ h.segments) found)
     → octets_ahead lines ≡ [] → lines_so_far lines ≡ 0 → Made kept ever kept ever found opened said left left written written lines [] new_house [] said
 starts_made kept ever found opened said left written lines opens speaks after none zero = record {
   opens = opens;
@@ -559,7 +556,7 @@ starts_made kept ever found opened said left written lines opens speaks after no
 
 -- ---- what a crash leaves is the folder of a house
 
-front_house : (kept : Files → Type 0) (found : Found) (records : List (List ℕ)) (files : Files) → LeavesHouse kept → IsFront kept found records files
+front_house : (kept : Files → Type 0) (found : Found) (records : List (List ℕ)) (files : Files) → LeavesHouse kept → HasFolderFront kept found records files
     → IsHouseFolder files
 front_house kept found records files house f =
     let h = house f.was f.kept in
@@ -588,7 +585,7 @@ pub record IsLiving (kept0 ever0 kept ever : Files → Type 0) (run : Run) (line
 
 -- it began
 pub living_first : (kept ever : Files → Type 0) (f : FolderHouse) (so : FindsSo kept f) (left written : Option (List ℕ)) (reads writes : ℕ) (lines : Lines) (house : House) (next : Next)
-    → IsFirstText (after_start f.house f.house.home) next.said.items → IsFresh lines
+    → IsSaidFirst (after_start f.house f.house.home) next.said.items → IsFresh lines
     → next.number ≡ f.number + 1 → next.before ≡ f.digest → house ≡ after_start f.house f.house.home
     → IsRecord house (start_text f.house.home f.house.last) next.first.items
     → IsLiving kept ever kept ever (run_between left left written written reads reads writes writes) lines house next
@@ -627,7 +624,7 @@ living_first kept ever f so left written reads writes lines house next speaks fr
 module _ (kept0 ever0 kept ever kept' ever' : Files → Type 0) (left left' left'' written written' written'' : Option (List ℕ)) (reads0 reads reads' writes0 writes writes' : ℕ)
     (lines lines' : Lines) (house house' : House) (next : Next) (result : Result Left Status)
     (l : IsLiving kept0 ever0 kept ever (run_between left left' written written' reads0 reads writes0 writes) lines house next)
-    (d : SegmentDone kept ever kept' ever' next house house' lines lines' (run_between left' left'' written' written'' reads reads' writes writes') result) where
+    (d : SegmentDone (remains kept ever) (remains kept' ever') next (passage house house' lines lines' (run_between left' left'' written' written'' reads reads' writes writes')) result) where
   abbrev whole_run : Run
   whole_run = run_between left left'' written written'' reads0 reads' writes0 writes'
 
@@ -646,9 +643,9 @@ module _ (kept0 ever0 kept ever kept' ever' : Files → Type 0) (left left' left
     opened = l.opened;
     said = l.said;
     segments = l.segments ++ segment_with kept0 ever0 kept ever l.found l.opened l.said left left' written written' lines l.segments l.prior house l.text l.unsaid next
-        l.made l.ready d.turns ∷ [];
+        l.made l.ready d.done.turns ∷ [];
     prior = house';
-    text = l.text ++ d.text;
+    text = l.text ++ d.done.text;
     unsaid = [];
     made =
         passes kept0 ever0 kept ever l.found l.opened l.said left left' written written' lines l.segments l.prior house l.text l.unsaid next l.made l.ready
@@ -670,7 +667,7 @@ module _ (kept0 ever0 kept ever kept' ever' : Files → Type 0) (left left' left
         large,
         at,
         length-append l.segments
-            (segment_with kept0 ever0 kept ever l.found l.opened l.said left left' written written' lines l.segments l.prior house l.text l.unsaid next l.made l.ready d.turns ∷ []),
+            (segment_with kept0 ever0 kept ever l.found l.opened l.said left left' written written' lines l.segments l.prior house l.text l.unsaid next l.made l.ready d.done.turns ∷ []),
       ))
       (λ f k. k) (λ f e. e))
 
@@ -759,7 +756,7 @@ lived_later kept0 ever0 kept1 ever1 kept ever run status fewer calm (inr life) =
   full = life.full;
 }
   where
-    front_later : (f : Files) → IsFront kept1 life.found (folder_bodies life.segments ++ life.over) f → IsFront kept0 life.found (folder_bodies life.segments ++ life.over) f
+    front_later : (f : Files) → HasFolderFront kept1 life.found (folder_bodies life.segments ++ life.over) f → HasFolderFront kept0 life.found (folder_bodies life.segments ++ life.over) f
     front_later f x = record {
       was = x.was;
       made = x.made;
@@ -777,8 +774,8 @@ lived_later kept0 ever0 kept1 ever1 kept ever run status fewer calm (inr life) =
 -- ---- the first words
 
 -- what was said of a house is what the process says first
-pub speaks_so : (h h' : House) (said next : List ℕ) → h' ≡ h → next ≡ said → IsFirstText h' said → IsFirstText h next
-speaks_so h h' said next same also speaks = subst (λ (x : House). IsFirstText x next) same (subst (IsFirstText h') (sym also) speaks)
+pub speaks_so : (h h' : House) (said next : List ℕ) → h' ≡ h → next ≡ said → IsSaidFirst h' said → IsSaidFirst h next
+speaks_so h h' said next same also speaks = subst (λ (x : House). IsSaidFirst x next) same (subst (IsSaidFirst h') (sym also) speaks)
 
 -- memory ran out, or the numbers did
 pub may_stop : (number : ℕ) (e s : Status) → (e ≡ statuses.OutOfMemory) ⊎ ((e ≡ statuses.Full) × (2 ^ 64 ≤ number + 1)) → s ≡ e → MayStop number s

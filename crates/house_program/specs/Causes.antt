@@ -61,7 +61,7 @@ pub data CannotGoOn (number : ℕ) (octets : List ℕ) (status : Status) : Type 
       → CannotGoOn number octets status
 
 -- no house goes on from the last file, which is this one, whatever a crash leaves (own)
-pub record IsRefused (kept : Files → Type 0) (status : Status) : Type 0 where
+pub record IsFolderRefused (kept : Files → Type 0) (status : Status) : Type 0 where
   pub file : NumberedFile
   pub always : (files : Files) → kept files → last_file files ≡ Some file
   pub why : CannotGoOn file.number file.octets status
@@ -70,47 +70,49 @@ pub record IsRefused (kept : Files → Type 0) (status : Status) : Type 0 where
 
 -- how often reads of the input and writes of the output failed; and how many calls of the folder
 -- were not done, and of how many of its files a call failed (own)
-pub record Counts : Type 0 where
+pub record ProcessCounts : Type 0 where
   pub reads : ℕ
   pub writes : ℕ
   pub folder : FolderCounts
 
 -- those of a source, a sink and a folder (own)
 abbrev pub counts_of : {S K F : Type 0} → (reads : S → ℕ) → (writes : K → ℕ)
-    → (folder : F → FolderCounts) → S → K → F → Counts
+    → (folder : F → FolderCounts) → S → K → F → ProcessCounts
 counts_of reads writes folder s k f =
     record { reads = reads s; writes = writes k; folder = folder f }
 
 -- the count of this fault of the folder rose, and no other did (own)
-abbrev pub FolderFailed : FolderFault → (before now : Counts) → Type 0
+abbrev pub FolderFailed : FolderFault → (before now : ProcessCounts) → Type 0
 FolderFailed fault before now =
     (now.reads ≡ before.reads) × (now.writes ≡ before.writes)
     × RoseAt fault before.folder now.folder
 
 -- a call of a file failed, and no other call (own)
-abbrev pub FileFailed : (before now : Counts) → Type 0
+abbrev pub FileFailed : (before now : ProcessCounts) → Type 0
 FileFailed before now =
     (now.reads ≡ before.reads) × (now.writes ≡ before.writes) × FileRose before.folder now.folder
 
 -- what failed where a process ends with this status: a disk fails in a call of the folder or of one
 -- of its files (own)
-abbrev pub HasCause : (refused : Status → Type 0) → (before now : Counts) → Status → Type 0
-HasCause refused before now statuses.ReadFault =
+abbrev pub HasStatusCause : (refused : Status → Type 0) → (before now : ProcessCounts) → Status
+    → Type 0
+HasStatusCause refused before now statuses.ReadFault =
     Rose before.reads now.reads × (now.writes ≡ before.writes) × (now.folder ≡ before.folder)
-HasCause refused before now statuses.WriteFault =
+HasStatusCause refused before now statuses.WriteFault =
     (now.reads ≡ before.reads) × Rose before.writes now.writes × (now.folder ≡ before.folder)
-HasCause refused before now statuses.DiskFault =
+HasStatusCause refused before now statuses.DiskFault =
     FileFailed before now ⊎ FolderFailed faults.Failed before now
-HasCause refused before now statuses.BadFolder =
+HasStatusCause refused before now statuses.BadFolder =
     FolderFailed faults.Unreadable before now ⊎ ((now ≡ before) × refused statuses.BadFolder)
-HasCause refused before now statuses.Taken = FolderFailed faults.Taken before now
-HasCause refused before now statuses.OtherVersion = (now ≡ before) × refused statuses.OtherVersion
-HasCause refused before now statuses.OtherDeeds = (now ≡ before) × refused statuses.OtherDeeds
-HasCause refused before now statuses.Usage = ⊥
-HasCause refused before now statuses.Ok = now ≡ before
-HasCause refused before now statuses.BadInput = now ≡ before
-HasCause refused before now statuses.OutOfMemory = now ≡ before
-HasCause refused before now statuses.Full = now ≡ before
+HasStatusCause refused before now statuses.Taken = FolderFailed faults.Taken before now
+HasStatusCause refused before now statuses.OtherVersion =
+    (now ≡ before) × refused statuses.OtherVersion
+HasStatusCause refused before now statuses.OtherDeeds = (now ≡ before) × refused statuses.OtherDeeds
+HasStatusCause refused before now statuses.Usage = ⊥
+HasStatusCause refused before now statuses.Ok = now ≡ before
+HasStatusCause refused before now statuses.BadInput = now ≡ before
+HasStatusCause refused before now statuses.OutOfMemory = now ≡ before
+HasStatusCause refused before now statuses.Full = now ≡ before
 
 -- what failed of the calls of a folder alone, where a process ends with a status that is no success
 -- (own)
@@ -121,9 +123,9 @@ HasFolderEnd refused before now status =
     ⊎ ((now ≡ before) × ((status ≡ statuses.OutOfMemory) ⊎ refused status))
 
 -- what failed where a process is done with a segment (own)
-abbrev pub HasSegmentCause : (before now : Counts) → Result Left Status → Type 0
+abbrev pub HasSegmentCause : (before now : ProcessCounts) → Result Left Status → Type 0
 HasSegmentCause before now (Ok left) =
     ((status : Status) → status_after left.ending ≡ Some status
-    → HasCause (λ s. ⊥) before now status)
+    → HasStatusCause (λ s. ⊥) before now status)
     × (left.ending ≡ endings.Grown → now ≡ before)
-HasSegmentCause before now (Err status) = HasCause (λ s. ⊥) before now status
+HasSegmentCause before now (Err status) = HasStatusCause (λ s. ⊥) before now status

@@ -1,7 +1,7 @@
 -- The folders that houses leave, and the cell that these are.
 use Rattle.std.specs.Prelude.{◌⊎◌, List, [], ◌∷◌, ◌++◌}
 use Rattle.house_runs.specs.Folders.{FolderSegment}
-use Rattle.cds_base.specs.Runs.{Run}
+use Rattle.cds_base.specs.RunEnds.{Run}
 use Rattle.house_program.specs.Files.{Files}
 use Rattle.house_program.specs.HouseFolders.{IsHouseFolder}
 use Rattle.house_program.specs.Lives.{Lived}
@@ -10,12 +10,12 @@ use Rattle.house_program.specs.declared.status.Status.{Status}
 -- processes left these files, one after the other, in a folder that had none: the last of them
 -- began where a crash leaves nothing but what was left so before, and a crash at any moment of it,
 -- or after it, left these (own)
-pub data IsLeft {F : Type 0} (kept left_ever : F → Files → Type 0) : Files → Type 0 where
-  NoFile : IsLeft kept left_ever []
+pub data AreLeft {F : Type 0} (kept left_ever : F → Files → Type 0) : Files → Type 0 where
+  NoFile : AreLeft kept left_ever []
   ByProcess : (old new : F) (run : Run) (status : Status) (files : Files)
-      → ((was : Files) → kept old was ⊎ left_ever old was → IsLeft kept left_ever was)
+      → ((was : Files) → kept old was ⊎ left_ever old was → AreLeft kept left_ever was)
       → Lived (kept old) (left_ever old) (kept new) (left_ever new) run status
-      → kept new files ⊎ left_ever new files → IsLeft kept left_ever files
+      → kept new files ⊎ left_ever new files → AreLeft kept left_ever files
 
 -- each of these is what the processes of a house left (own)
 abbrev pub AreHouseFolders : List Files → Type 0

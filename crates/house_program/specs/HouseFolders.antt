@@ -60,7 +60,7 @@ BeginsAnew (s ∷ ss) = s.begins ≡ ProcessBegins
 
 -- files are those of before, from which a process goes on so, and then segments as it makes them,
 -- whose records are a front of these (own)
-pub record IsFront (old : Files → Type 0) (found : Found) (all : List (List ℕ))
+pub record HasFolderFront (old : Files → Type 0) (found : Found) (all : List (List ℕ))
     (files : Files) : Type 0 where
   pub was : Files
   pub made : Files

@@ -6,14 +6,14 @@ use Rattle.cds_base.specs.declared.scan.LineFault.{LineFault}
 use Rattle.script_answers.specs.Texts as texts
 use Rattle.house_runs.specs.Folders.{AreSegments, FolderSegment, OpensFrom, folder_bodies}
 use Rattle.house_segments.specs.Segments.{size_with}
-use Rattle.house_serving.specs.Faults.{line_fault_text}
-use Rattle.cds_base.specs.Runs.{Run}
-use Rattle.house_serving.specs.Serving.{IsFaulty}
+use Rattle.house_serving.specs.Faults.{fault_line_text}
+use Rattle.cds_base.specs.RunEnds.{Run}
+use Rattle.house_serving.specs.Serving.{HasNoLine}
 use Rattle.house_serving.specs.Turns.{Turn, lines_text, texts_of}
 use Rattle.house_turns.specs.Openings.{HasTurn, after_start, first_lines, new_house}
 use Rattle.house_turns.specs.declared.house.House.{House}
 use Rattle.house_program.specs.Files.{Files, last_file, number_in}
-use Rattle.house_program.specs.HouseFolders.{Found, IsFront, bodies_in_file, digest_after_all}
+use Rattle.house_program.specs.HouseFolders.{Found, HasFolderFront, bodies_in_file, digest_after_all}
 use Rattle.house_program.specs.declared.status.Status.{Status}
 use Rattle.house_program.specs.declared.status.Status.TheVariants.{BadInput, Full, Ok}
 
@@ -23,17 +23,17 @@ turns_in [] = []
 turns_in (s ∷ ss) = s.turns ++ turns_in ss
 
 -- what a house says first (own)
-abbrev pub IsFirstText : House → List ℕ → Type 0
-IsFirstText h said = (turn : HasTurn h.home h.last) → said ≡ texts.lines_text 0
+abbrev pub IsSaidFirst : House → List ℕ → Type 0
+IsSaidFirst h said = (turn : HasTurn h.home h.last) → said ≡ texts.lines_text 0
     (first_lines h h.home turn)
 
 -- nothing, or the line of a fault of octets (own)
 abbrev pub IsFaultLine : List ℕ → Type 0
-IsFaultLine last = (last ≡ []) ⊎ ((fault : LineFault) × (last ≡ line_fault_text fault))
+IsFaultLine last = (last ≡ []) ⊎ ((fault : LineFault) × (last ≡ fault_line_text fault))
 
 -- octets are a front of what is said first, of the answers of these lines, and of the line of a
 -- fault after them (own)
-pub record IsSaid (said : List ℕ) (turns : List Turn) (text : List ℕ) : Type 0 where
+pub record IsFrontSaid (said : List ℕ) (turns : List Turn) (text : List ℕ) : Type 0 where
   pub last : List ℕ
   pub unsaid : List ℕ
   pub fault : IsFaultLine last
@@ -41,17 +41,18 @@ pub record IsSaid (said : List ℕ) (turns : List Turn) (text : List ℕ) : Type
 
 -- A crash leaves a front of what was made, and of that all that was said: if anything was, the
 -- start; and the lines that were answered, and perhaps more (own)
-pub record IsKept (kept : Files → Type 0) (found : Found) (records : List (List ℕ))
+pub record KeepsAllSaid (kept : Files → Type 0) (found : Found) (records : List (List ℕ))
     (said text : List ℕ) (files : Files) : Type 0 where
-  pub front : IsFront kept found records files
+  pub front : HasFolderFront kept found records files
   pub started : front.segments ≡ [] → text ≡ []
   pub answered : List Turn
   pub more : List Turn
   pub split : turns_in front.segments ≡ answered ++ more
-  pub says : IsSaid said answered text
+  pub says : IsFrontSaid said answered text
 
 -- all lines of the input are these, and all is answered (own)
-pub record IsAnswered (run : Run) (said : List ℕ) (turns : List Turn) (text : List ℕ) : Type 0 where
+pub record AllIsAnswered (run : Run) (said : List ℕ) (turns : List Turn)
+    (text : List ℕ) : Type 0 where
   pub all : text ≡ said ++ texts_of turns
   pub read : GrowsByReading run.left run.left' [] (lines_text turns)
   pub ends : IsAtEnd run.left'
@@ -63,11 +64,11 @@ pub record HasBadLine (run : Run) (said : List ℕ) (turns : List Turn) (text : 
   pub ahead : List ℕ
   pub all : text ≡ said ++ (texts_of turns ++ last)
   pub read : GrowsByReading run.left run.left' [] (lines_text turns ++ (one ++ ahead))
-  pub faulty : IsFaulty (length turns + 1) one ahead run.left' last
+  pub faulty : HasNoLine (length turns + 1) one ahead run.left' last
 
 -- how many octets the last of segments has, which comes after those (own)
-abbrev pub size_after : Found → (front : List FolderSegment) → FolderSegment → ℕ
-size_after found front s = size_with (bodies_in_file (found.number + 1 + length front)
+abbrev pub last_size_after : Found → (front : List FolderSegment) → FolderSegment → ℕ
+last_size_after found front s = size_with (bodies_in_file (found.number + 1 + length front)
     (digest_after_all (found.number + 1) found.digest front) s)
 
 -- segments are these and one more, with which they are what a house makes (own)
@@ -86,13 +87,13 @@ IsReadNext run segments line = (ahead : List ℕ) × GrowsByReading run.left run
 pub data HasNoRoom (run : Run) (found : Found) (segments : List FolderSegment) : Type 0 where
   NoNumber : 2 ^ 64 ≤ found.number + length segments + 1 → HasNoRoom run found segments
   NoFirst : (front : List FolderSegment) (last : FolderSegment) → last.turns ≡ []
-      → EndsWith found segments front last → 2 ^ 40 < size_after found front last
+      → EndsWith found segments front last → 2 ^ 40 < last_size_after found front last
       → HasNoRoom run found segments
   NoNext : (front : List FolderSegment) (last with_it : FolderSegment) (turn : Turn)
       → segments ≡ front ++ last ∷ []
       → with_it ≡ record last { turns = last.turns ++ turn ∷ [] }
       → EndsWith found (front ++ with_it ∷ []) front with_it → IsReadNext run segments turn.line
-      → 2 ^ 40 < size_after found front with_it → HasNoRoom run found segments
+      → 2 ^ 40 < last_size_after found front with_it → HasNoRoom run found segments
 
 -- What a process did. It went on from the last segment, and put these records; it said this. A
 -- crash at any moment left the folder of before and a front of the records; one after it leaves all
@@ -106,13 +107,13 @@ pub record Life (kept ever kept' ever' : Files → Type 0) (run : Run)
   pub said : List ℕ
   pub text : List ℕ
   pub opens : OpensFrom found.last opened
-  pub speaks : IsFirstText (after_start opened opened.home) said
+  pub speaks : IsSaidFirst (after_start opened opened.home) said
   pub wrote : Appends run.written run.written' text
-  pub any_moment : (files : Files) → ever' files → ever files ⊎ IsFront kept found
+  pub any_moment : (files : Files) → ever' files → ever files ⊎ HasFolderFront kept found
       (folder_bodies segments ++ over) files
-  pub at_the_end : (files : Files) → kept' files → IsKept kept found
+  pub at_the_end : (files : Files) → kept' files → KeepsAllSaid kept found
       (folder_bodies segments ++ over) said text files
-  pub answers : status ≡ Ok → IsAnswered run said (turns_in segments) text
+  pub answers : status ≡ Ok → AllIsAnswered run said (turns_in segments) text
   pub faulty : status ≡ BadInput → HasBadLine run said (turns_in segments) text
   pub full : status ≡ Full → HasNoRoom run found segments
 

@@ -3,7 +3,7 @@
 ghost use Rattle.std.specs.Prelude.{◌≡◌, ◌+◌, ◌^◌, ◌≤◌, ℕ, List, codes, length};
 ghost use Rattle.house_runs.specs.Runs.{AreOfCell};
 ghost use Rattle.house_program.specs.Files.{Files};
-ghost use Rattle.house_program.specs.HouseCells.{AreHouseFolders, IsLeft, segments_of};
+ghost use Rattle.house_program.specs.HouseCells.{AreHouseFolders, AreLeft, segments_of};
 ghost use Rattle.house_program.specs.HouseFolders.{IsHouseFolder};
 ghost use Rattle.house_program.specs.Restarts.{IsTakenUp};
 ghost use Rattle.house_turns.specs.PostTexts.{octets_line};
@@ -23,7 +23,7 @@ use house_turns::MOST_MESSAGE;
 /// other. Commands of the model do exactly that: each house sees its own entries, no command is
 /// refused, and the replicas converge.
 pub fn houses_that_run_are_cells<F: Folder>()
-    ensures left { (files : Files) → IsLeft F.kept F.left_ever files → IsHouseFolder files }
+    ensures left { (files : Files) → AreLeft F.kept F.left_ever files → IsHouseFolder files }
     ensures cells { (folders : List Files) (are : AreHouseFolders folders)
         → AreOfCell (segments_of folders are) }
 {
@@ -35,7 +35,7 @@ pub fn houses_that_run_are_cells<F: Folder>()
 /// So `run` ends with 9 or 11 over it only if a call of the folder failed. The one exception is a
 /// crash that makes up a record after the last one, which ends in the digest of that one.
 pub fn a_house_starts_again<F: Folder>()
-    ensures { (files : Files) → IsLeft F.kept F.left_ever files → IsTakenUp files }
+    ensures { (files : Files) → AreLeft F.kept F.left_ever files → IsTakenUp files }
 {}
 
 /// The limits of houses: the longest line, which in a script has room for the number of the house

@@ -4,7 +4,7 @@ ghost use Rattle.std.specs.Prelude.{◌≡◌, ◌≢◌, ◌⊎◌, true, IfErr
 ghost use Rattle.house_journal.specs.JournalRecords.{images};
 ghost use Rattle.house_program.specs.Beginnings as beginnings;
 ghost use Rattle.house_program.specs.Beginnings.{FindsSo, IsLastSegment, begins_otherwise, status_not_read};
-ghost use Rattle.house_program.specs.Causes.{CannotGoOn, DoesOther, HasFolderEnd, IsRefused, NoHouseOf};
+ghost use Rattle.house_program.specs.Causes.{CannotGoOn, DoesOther, HasFolderEnd, IsFolderRefused, NoHouseOf};
 ghost use Rattle.house_program.specs.Files.{Quiet};
 ghost use Rattle.house_program.specs.declared.status.Status.TheVariants as statuses;
 ghost use Rattle.house_turns.specs.Openings.{EndsLife, MayEnd, OpensBy, RedoneBy, Resumes, begins_with, new_house};
@@ -175,7 +175,8 @@ pub(crate) fn read_folder<F: Folder>(alloc: Global, folder: &mut F) -> Result<Fo
     requires { F.locked folder.old ≡ true }
     ensures found { IfOk result (FindsSo (F.kept folder.new)) }
     ensures not_ok { IfErr result (λ s. s ≢ statuses.Ok) }
-    ensures why { IfErr result (HasFolderEnd (IsRefused (F.kept folder.new)) (F.faults folder.old)
+    ensures why { IfErr result
+        (HasFolderEnd (IsFolderRefused (F.kept folder.new)) (F.faults folder.old)
         (F.faults folder.new)) }
     ensures calm { OnOk result (F.faults folder.new ≡ F.faults folder.old) }
     ensures quiet { Quiet F.kept F.left_ever F.named_at folder.old folder.new }

@@ -1,10 +1,10 @@
 // The process of a house, from its folder's lock to its last line.
 ghost use Rattle.std.specs.Prelude.{◌≡◌, ◌⊎◌, ◌+◌, ◌^◌, ◌≤◌, [], true, IfErr, IfOk};
-ghost use Rattle.cds_base.specs.Runs.{run_of};
+ghost use Rattle.cds_base.specs.RunEnds.{run_of};
 ghost use Rattle.house_program.specs.Beginnings.{FindsSo};
-ghost use Rattle.house_program.specs.Causes.{HasCause, IsRefused, counts_of};
+ghost use Rattle.house_program.specs.Causes.{HasStatusCause, IsFolderRefused, counts_of};
 ghost use Rattle.house_program.specs.HouseFolders.{LeavesHouse};
-ghost use Rattle.house_program.specs.Lives.{IsFirstText, Lived};
+ghost use Rattle.house_program.specs.Lives.{IsSaidFirst, Lived};
 ghost use Rattle.house_program.specs.Statuses.{status_of};
 ghost use Rattle.house_program.specs.declared.status.Status.TheVariants as statuses;
 ghost use Rattle.house_turns.specs.Openings.{IsSegmentRecord, after_start, start_text};
@@ -32,7 +32,7 @@ fn first_segment(alloc: Global, found: FolderHouse) -> Result<Begun, Status>
     ensures before { IfOk result (λ b. b.next.before ≡ found.digest) }
     ensures first { IfOk result (λ b. IsRecord b.house
         (start_text found.house.home found.house.last) b.next.first.items) }
-    ensures said { IfOk result (λ b. IsFirstText (after_start found.house found.house.home)
+    ensures said { IfOk result (λ b. IsSaidFirst (after_start found.house found.house.home)
         b.next.said.items) }
     ensures why { IfErr result (λ s. (s ≡ statuses.OutOfMemory)
         ⊎ ((s ≡ statuses.Full) × (2 ^ 64 ≤ found.number + 1))) }
@@ -74,7 +74,7 @@ fn serve_all<F: Folder, S: Source, K: Sink>(
     ensures lived { Lived (F.kept folder.old) (F.left_ever folder.old) (F.kept folder.new)
         (F.left_ever folder.new) (run_of S.Source K.Sink source.old source.new
         sink.old sink.new) (status_of result) }
-    ensures cause { HasCause (λ s. ⊥) (counts_of S.faults K.faults F.faults
+    ensures cause { HasStatusCause (λ s. ⊥) (counts_of S.faults K.faults F.faults
         source.old sink.old folder.old) (counts_of S.faults K.faults F.faults source.new sink.new
         folder.new) (status_of result) }
 {
@@ -103,7 +103,8 @@ fn process<F: Folder, S: Source, K: Sink>(
     ensures lived { Lived (F.kept folder.old) (F.left_ever folder.old) (F.kept folder.new)
         (F.left_ever folder.new) (run_of S.Source K.Sink source.old source.new
         sink.old sink.new) (status_of result) }
-    ensures cause { HasCause (IsRefused (F.kept folder.new)) (counts_of S.faults K.faults F.faults
+    ensures cause { HasStatusCause (IsFolderRefused (F.kept folder.new))
+        (counts_of S.faults K.faults F.faults
         source.old sink.old folder.old) (counts_of S.faults K.faults F.faults source.new sink.new
         folder.new) (status_of result) }
 {
@@ -122,7 +123,8 @@ pub fn run<F: Folder, S: Source, K: Sink>(
     ensures lived { Lived (F.kept folder.old) (F.left_ever folder.old) (F.kept folder.new)
         (F.left_ever folder.new) (run_of S.Source K.Sink source.old source.new
         sink.old sink.new) result }
-    ensures cause { HasCause (IsRefused (F.kept folder.new)) (counts_of S.faults K.faults F.faults
+    ensures cause { HasStatusCause (IsFolderRefused (F.kept folder.new))
+        (counts_of S.faults K.faults F.faults
         source.old sink.old folder.old) (counts_of S.faults K.faults F.faults source.new sink.new
         folder.new) result }
     ensures house { LeavesHouse (F.kept folder.old) → LeavesHouse (F.left_ever folder.old)

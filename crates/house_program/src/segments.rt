@@ -4,14 +4,15 @@ ghost use Rattle.cds_base.specs.Lines.{fault_of_lines};
 ghost use Rattle.house_journal.specs.Disks.{Only};
 ghost use Rattle.cds_stamps.specs.declared.alloc_or.AllocOr.TheVariants.{Fault};
 ghost use Rattle.house_segments.specs.Segments.{HasFaultCause, IsAt, disk_of, size_with};
-ghost use Rattle.house_serving.specs.Ending.{HasEndingCause};
-ghost use Rattle.cds_base.specs.Runs.{run_of};
+ghost use Rattle.house_serving.specs.Serving.{course, first_records, moment};
+ghost use Rattle.house_serving.specs.Ending.{HasEndingCause, failures};
+ghost use Rattle.cds_base.specs.RunEnds.{run_of};
 ghost use Rattle.house_program.specs.Beginnings.{first_bodies};
 ghost use Rattle.house_program.specs.Causes.{HasSegmentCause, counts_of};
 ghost use Rattle.house_program.specs.Files.{CountsFile, NumberedFile, Quiet, last_file, number_in};
 ghost use Rattle.house_program.specs.Statuses.{ends_by_disk, is_disk_fault, status_not_begun};
 ghost use Rattle.house_program.specs.declared.status.Status.TheVariants as statuses;
-ghost use Rattle.house_program.specs.PrivateLives.{SegmentDone, Spoken};
+ghost use Rattle.house_program.specs.PrivateLives.{SegmentDone, Spoken, passage, remains};
 
 use crate::folder::Folder;
 use crate::status::Status;
@@ -137,12 +138,13 @@ fn speak_and_serve<S: Source, K: Sink, D: Disk>(
     requires unbroken { fault_of_lines lines.old ≡ None }
     ensures spoken { (before : List ℕ) (bodies : List (List ℕ))
         → IsAt D.Disk segment.old before bodies
-        → Spoken D.Disk before bodies said.now house.old house.new segment.old segment.new
-        lines.old lines.new (run_of S.Source K.Sink source.old source.new
-        sink.old sink.new) result }
-    ensures cause { HasEndingCause (S.faults source.old) (S.faults source.new) (K.faults sink.old)
-        (K.faults sink.new) (D.Disk.faults (disk_of segment.old))
-        (D.Disk.faults (disk_of segment.new)) result }
+        → Spoken D.Disk (first_records before bodies) said.now (course
+        (moment house.old segment.old lines.old) (moment house.new segment.new lines.new)
+        (run_of S.Source K.Sink source.old source.new sink.old sink.new)) result }
+    ensures cause { HasEndingCause
+        (failures (S.faults source.old) (K.faults sink.old) (D.Disk.faults (disk_of segment.old)))
+        (failures (S.faults source.new) (K.faults sink.new) (D.Disk.faults (disk_of segment.new)))
+        result }
 {
     match put_all(sink, said) {
         Ok(()) => {
@@ -167,10 +169,10 @@ pub(crate) fn serve_on<F: Folder, S: Source, K: Sink>(
     requires above { (files : List NumberedFile) → F.kept folder.old files
         → number_in (last_file files) < next.now.number }
     requires unbroken { fault_of_lines lines.old ≡ None }
-    ensures done { SegmentDone (F.kept folder.old) (F.left_ever folder.old) (F.kept folder.new)
-        (F.left_ever folder.new) next.now house.old house.new lines.old lines.new
-        (run_of S.Source K.Sink source.old source.new sink.old sink.new)
-        result }
+    ensures done { SegmentDone (remains (F.kept folder.old) (F.left_ever folder.old))
+        (remains (F.kept folder.new) (F.left_ever folder.new)) next.now
+        (passage house.old house.new lines.old lines.new
+        (run_of S.Source K.Sink source.old source.new sink.old sink.new)) result }
     ensures locked { F.locked folder.new ≡ true }
     ensures cause { HasSegmentCause (counts_of S.faults K.faults F.faults source.old sink.old
         folder.old) (counts_of S.faults K.faults F.faults source.new sink.new folder.new) result }

@@ -2,14 +2,11 @@
 use Rattle.std.proofs.Common.{◌≡◌, ℕ, ◌+◌, inl, inr, List, [], ◌∷◌, ◌++◌, length, refl, sym, ap, subst, ◌∙◌, append_assoc, append-nil, arith}
 use Rattle.std.specs.Prelude.{Option, Some, None}
 use Rattle.cds_base.specs.Lines.{lines_so_far}
-use Rattle.cds_base.specs.declared.lines.Lines.{Lines}
 use Rattle.house_journal.specs.declared.disk.Disk.{Ghosts}
 use Rattle.house_journal.specs.Journals.{LeavesOnly}
 use Rattle.house_journal.proofs.Moments.{weaker}
 use Rattle.house_segments.specs.Segments.{HasBodies, disk_of}
-use Rattle.house_segments.specs.declared.segment.Segment.{Segment}
-use Rattle.cds_base.specs.Runs.{Run}
-use Rattle.house_serving.specs.Serving.{HasFront, IsOver, Served}
+use Rattle.house_serving.specs.Serving.{Course, HasFront, IsOver, Records, Served}
 use Rattle.house_serving.specs.Turns.{Dialogue, Said, Turn, bodies_in, bodies_of}
 use Rattle.house_serving.specs.declared.ending.Ending.{Ending}
 use Rattle.house_serving.proofs.Fronts.{front_later}
@@ -77,26 +74,25 @@ module _ {H : Type 0} (responds : H → ℕ → List ℕ → Said → H → Type
       (λ more left later. line_first number house talk.0 t more talk.1
       (front_done ts (number + 1) talk.0 at over more left talk.2 (subst (λ (n : ℕ). IsOver responds n at over) same is) later))
 
-module _ {D : Type 0} (g : Ghosts D) (before : List ℕ) (first : List (List ℕ)) (house house' : House) (segment segment' : Segment D) (lines lines' : Lines) (run : Run)
-    (ending : Ending) (s : Served Responds g before first house house' segment segment' lines lines' run ending) where
-  has_lines : (c : List ℕ) → HasFront before first (bodies_of s.turns ++ s.over) c → HasLines before first (lines_so_far lines + 1) house c
+module _ {D : Type 0} (g : Ghosts D) (first : Records) (way : Course House D) (ending : Ending) (s : Served Responds g first way ending) where
+  has_lines : (c : List ℕ) → HasFront first.before first.bodies (bodies_of s.done.turns ++ s.done.over) c → HasLines first.before first.bodies (lines_so_far way.from.lines + 1) way.from.house c
   has_lines c is =
-      let same : lines_so_far lines + length s.turns + 1 ≡ lines_so_far lines + 1 + length s.turns = omega arith in
-      let done = front_done Responds s.turns (lines_so_far lines + 1) house s.at s.over is.front is.rest s.work.talk
-      (subst (λ (n : ℕ). IsOver Responds n s.at s.over) same s.over_one) is.split in
+      let same : lines_so_far way.from.lines + length s.done.turns + 1 ≡ lines_so_far way.from.lines + 1 + length s.done.turns = omega arith in
+      let done = front_done Responds s.done.turns (lines_so_far way.from.lines + 1) way.from.house s.done.at s.done.over is.front is.rest s.work.talk
+      (subst (λ (n : ℕ). IsOver Responds n s.done.at s.done.over) same s.over_one) is.split in
       record {
         turns = done.turns;
         at = done.at;
         talk = done.talk;
-        bodies = subst (λ (l : List (List ℕ)). HasBodies before (first ++ l) c) (sym done.are) is.has;
+        bodies = subst (λ (l : List (List ℕ)). HasBodies first.before (first.bodies ++ l) c) (sym done.are) is.has;
       }
 
   -- a crash at any moment of a run
-  pub any_moment : LeavesOnly g (disk_of segment) (disk_of segment') (HasLines before first (lines_so_far lines + 1) house)
+  pub any_moment : LeavesOnly g (disk_of way.from.segment) (disk_of way.to.segment) (HasLines first.before first.bodies (lines_so_far way.from.lines + 1) way.from.house)
   any_moment =
-      weaker g (HasFront before first (bodies_of s.turns ++ s.over)) (HasLines before first (lines_so_far lines + 1) house) (disk_of segment)
-      (disk_of segment') has_lines s.work.crash
+      weaker g (HasFront first.before first.bodies (bodies_of s.done.turns ++ s.done.over)) (HasLines first.before first.bodies (lines_so_far way.from.lines + 1) way.from.house) (disk_of way.from.segment)
+      (disk_of way.to.segment) has_lines s.work.crash
 
   -- and one after it
-  pub afterwards : (c : List ℕ) → g.may_leave (disk_of segment') c → HasLines before first (lines_so_far lines + 1) house c
-  afterwards c left = has_lines c (front_later before first (bodies_of s.turns) s.over c (s.work.acknowledged c left))
+  pub afterwards : (c : List ℕ) → g.may_leave (disk_of way.to.segment) c → HasLines first.before first.bodies (lines_so_far way.from.lines + 1) way.from.house c
+  afterwards c left = has_lines c (front_later first.before first.bodies (bodies_of s.done.turns) s.done.over c (s.work.acknowledged c left))

@@ -1,12 +1,9 @@
 // What holds of the folders of houses that run: the contracts of functions that do nothing.
 ghost use Rattle.std.specs.Prelude.{◌≡◌, ◌+◌, ◌⊎◌, ℕ, List, None};
 ghost use Rattle.cds_base.specs.Lines.{lines_so_far};
-ghost use Rattle.cds_base.specs.declared.lines.Lines.{Lines};
 ghost use Rattle.house_journal.specs.Journals.{LeavesOnly};
 ghost use Rattle.house_segments.specs.Segments.{disk_of};
-ghost use Rattle.house_segments.specs.declared.segment.Segment.{Segment};
-ghost use Rattle.cds_base.specs.Runs.{Run};
-ghost use Rattle.house_serving.specs.Serving.{Served};
+ghost use Rattle.house_serving.specs.Serving.{Course, Records, Served};
 ghost use Rattle.house_serving.specs.declared.ending.Ending.{Ending};
 ghost use Rattle.house_turns.specs.HouseReplies.{Responds};
 ghost use Rattle.house_turns.specs.Openings.{HasTurn, after_start};
@@ -24,16 +21,15 @@ use house_journal::Disk;
 /// records: at any moment of the run, and after it, each crash leaves these, and then those of
 /// lines, one after the other, as the house replies to them.
 pub fn crashes_leave_lines<D: Disk>()
-    ensures any_moment { (before : List ℕ) (bodies : List (List ℕ)) (house house' : House)
-        (segment segment' : Segment D) (lines lines' : Lines) (run : Run) (ending : Ending)
-        → Served Responds D.Disk before bodies house house' segment segment' lines lines' run ending
-        → LeavesOnly D.Disk (disk_of segment) (disk_of segment')
-        (HasLines before bodies (lines_so_far lines + 1) house) }
-    ensures after { (before : List ℕ) (bodies : List (List ℕ)) (house house' : House)
-        (segment segment' : Segment D) (lines lines' : Lines) (run : Run) (ending : Ending)
-        → Served Responds D.Disk before bodies house house' segment segment' lines lines' run ending
-        → (octets : List ℕ) → D.Disk.may_leave (disk_of segment') octets
-        → HasLines before bodies (lines_so_far lines + 1) house octets }
+    ensures any_moment { (first : Records) (way : Course House D) (ending : Ending)
+        → Served Responds D.Disk first way ending
+        → LeavesOnly D.Disk (disk_of way.from.segment) (disk_of way.to.segment)
+        (HasLines first.before first.bodies (lines_so_far way.from.lines + 1) way.from.house) }
+    ensures after { (first : Records) (way : Course House D) (ending : Ending)
+        → Served Responds D.Disk first way ending
+        → (octets : List ℕ) → D.Disk.may_leave (disk_of way.to.segment) octets
+        → HasLines first.before first.bodies (lines_so_far way.from.lines + 1) way.from.house
+        octets }
 {}
 
 /// A house that runs does as the model does. Take a folder as the processes of a house leave it,

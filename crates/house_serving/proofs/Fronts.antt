@@ -12,8 +12,8 @@ use Rattle.house_journal.specs.declared.journal.JournalFault.TheVariants as jour
 use Rattle.house_journal.proofs.Moments.{begins, weaker}
 use Rattle.house_segments.specs.Segments.{HasBodies, IsAt, IsWithOrWithout, disk_of, size_with}
 use Rattle.house_segments.specs.declared.segment.Segment.{Segment}
-use Rattle.house_serving.specs.PrivateParts.{ending_of_put, HasKeepCause, Keeps}
-use Rattle.house_serving.specs.Serving.{HasFront}
+use Rattle.house_serving.specs.PrivateParts.{ending_of_put, HasKeepCause, KeepsRecord}
+use Rattle.house_serving.specs.Serving.{HasFront, first_records}
 use Rattle.house_serving.specs.declared.ending.Ending.{Ending}
 use Rattle.house_serving.specs.declared.ending.Ending.TheVariants.{Full}
 
@@ -70,7 +70,7 @@ module _ {D : Type 0} (g : Ghosts D) (before : List ℕ) (bodies : List (List �
   pub kept_by_put : ((d : D) (t : ℕ) (c : List ℕ) → t ≤ g.moment d → g.may_leave d c → g.left_since d t c) → (body : List ℕ) (s s' : Segment D)
       (result : Result (Unit {0}) Ending) → LeavesOnly g (disk_of s) (disk_of s') (IsWithOrWithout before bodies body)
       → OnOk result (IsAt g s' before (bodies ++ body ∷ [])) → (result ≡ Err Full → (s' ≡ s) × (2 ^ 40 < size_with (bodies ++ body ∷ []))) → HasKeepCause (g.faults (disk_of s)) (g.faults (disk_of s')) result
-      → Keeps g before bodies s s' (Some body) result
+      → KeepsRecord g (first_records before bodies) s s' (Some body) result
   kept_by_put counts body s s' result crash ok full cause = record {
     crash = weaker g (IsWithOrWithout before bodies body) (HasFront before bodies (body ∷ [])) (disk_of s) (disk_of s') (front_one before bodies body) crash;
     left = λ c left. front_one before bodies body c (crash.each c (counts (disk_of s') (g.moment (disk_of s)) c crash.later left));

@@ -11,6 +11,10 @@ pub record Turn : Type 0 where
   pub line : List ℕ
   pub said : Said
 
+-- what a house makes of the line of a number, and what it is after it
+abbrev pub Replying : Type 0 → Type 1
+Replying H = H → (number : ℕ) → (line : List ℕ) → Said → H → Type 0
+
 -- the bodies of no record, or of one
 abbrev pub bodies_in : Option (List ℕ) → List (List ℕ)
 bodies_in None = []
@@ -33,6 +37,8 @@ bodies_of (t ∷ ts) = bodies_in t.said.body ++ bodies_of ts
 
 -- from one house to another by these lines, the first of which has this number: each is what the
 -- house makes of it
-abbrev pub Dialogue : {H : Type 0} → (responds : H → ℕ → List ℕ → Said → H → Type 0) → (number : ℕ) → (house : H) → List Turn → (at : H) → Type 0
+abbrev pub Dialogue : {H : Type 0} → (responds : Replying H) → (number : ℕ) → (house : H)
+    → List Turn → (at : H) → Type 0
 Dialogue responds number house [] at = at ≡ house
-Dialogue {H} responds number house (t ∷ ts) at = (mid : H) × responds house number t.line t.said mid × Dialogue responds (number + 1) mid ts at
+Dialogue {H} responds number house (t ∷ ts) at =
+    (mid : H) × responds house number t.line t.said mid × Dialogue responds (number + 1) mid ts at

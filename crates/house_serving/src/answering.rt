@@ -3,7 +3,8 @@ ghost use Rattle.std.specs.Prelude.{◌≡◌, ℕ, List};
 ghost use Rattle.std.specs.Option.{option_map};
 ghost use Rattle.cds_base.specs.Counts.{HasCause};
 ghost use Rattle.house_segments.specs.Segments.{IsAt, disk_of};
-ghost use Rattle.house_serving.specs.PrivateParts.{ending_of_put, Keeps, LineServed, Stops};
+ghost use Rattle.house_serving.specs.PrivateParts.{ending_of_put, KeepsRecord, LineServed, StopsAtFault, line_course, line_moment};
+ghost use Rattle.house_serving.specs.Serving.{first_records};
 
 use crate::faults::{MOST_LINE, fault_line, shown_fault};
 use crate::{Ending, Responder};
@@ -32,7 +33,7 @@ fn keep<D: Disk>(
     requires ready { (before : List ℕ) × (bodies : List (List ℕ))
         × IsAt D.Disk segment.old before bodies }
     ensures { (before : List ℕ) (bodies : List (List ℕ)) → IsAt D.Disk segment.old before bodies
-        → Keeps D.Disk before bodies segment.old segment.new
+        → KeepsRecord D.Disk (first_records before bodies) segment.old segment.new
         (option_map (λ v. v.items) body.now) result }
 {
     let Some(body) = body else {
@@ -47,7 +48,7 @@ fn keep<D: Disk>(
 
 /// Ends a run at a fault of lines: its line is written. Of a failed read nothing is said.
 pub(crate) fn stop_at<K: Sink>(alloc: Global, fault: LineFault, sink: &mut K) -> Ending
-    ensures { Stops (K.written sink.old) (K.written sink.new) (K.faults sink.old)
+    ensures { StopsAtFault (K.written sink.old) (K.written sink.new) (K.faults sink.old)
         (K.faults sink.new) fault result }
 {
     if fault == LineFault::ReadFault {
@@ -74,8 +75,9 @@ pub(crate) fn answer_line<R: Responder, K: Sink, D: Disk>(
     requires ready { (before : List ℕ) × (bodies : List (List ℕ))
         × IsAt D.Disk segment.old before bodies }
     ensures { (before : List ℕ) (bodies : List (List ℕ)) → IsAt D.Disk segment.old before bodies
-        → LineServed R.responds D.Disk before bodies number line.now house.old house.new segment.old segment.new
-        (K.written sink.old) (K.written sink.new) (K.faults sink.old) (K.faults sink.new) result }
+        → LineServed R.responds D.Disk (first_records before bodies) (line_course number line.now
+        (line_moment house.old segment.old (K.written sink.old) (K.faults sink.old))
+        (line_moment house.new segment.new (K.written sink.new) (K.faults sink.new))) result }
 {
     if line.len() > MOST_LINE {
         return Err(stop_at(alloc, LineFault::LineTooLong(number, MOST_LINE + 1), sink));

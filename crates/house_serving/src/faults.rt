@@ -1,6 +1,6 @@
 // The line of a fault of octets.
 ghost use Rattle.std.specs.Prelude.{◌≡◌, ◌++◌, length, take, codes, decimal, IfOk, OnOk, OnErr};
-ghost use Rattle.house_serving.specs.Faults.{fault_text, line_fault_text, shown};
+ghost use Rattle.house_serving.specs.Faults.{placed_fault_text, fault_line_text, fault_of_house};
 
 use cds_base::LineFault;
 use itoa::Buffer;
@@ -12,7 +12,7 @@ pub const MOST_LINE: usize = 4080;
 
 /// The fault that a house shows, where lines are shorter than those that are read.
 pub(crate) fn shown_fault(fault: LineFault) -> LineFault
-    ensures { result ≡ shown fault }
+    ensures { result ≡ fault_of_house fault }
 {
     match fault {
         LineFault::LineTooLong(number, _) => LineFault::LineTooLong(number, MOST_LINE + 1),
@@ -36,7 +36,7 @@ fn push_number(line: &mut Vec<u8>, number: u64) -> Result<(), AllocError>
 
 // The line of a fault: its name and its place.
 fn line_of(alloc: Global, number: u32, name: &[u8], place: usize) -> Result<Vec<u8>, AllocError>
-    ensures { IfOk result (λ line. line.items ≡ fault_text number name.now place) }
+    ensures { IfOk result (λ line. line.items ≡ placed_fault_text number name.now place) }
 {
     let mut line = Vec::new(alloc);
     push_number(&mut line, u64::from(number))?;
@@ -50,7 +50,7 @@ fn line_of(alloc: Global, number: u32, name: &[u8], place: usize) -> Result<Vec<
 
 /// The line of a fault; of a failed read nothing.
 pub(crate) fn fault_line(alloc: Global, fault: LineFault) -> Result<Vec<u8>, AllocError>
-    ensures { IfOk result (λ line. line.items ≡ line_fault_text fault) }
+    ensures { IfOk result (λ line. line.items ≡ fault_line_text fault) }
 {
     match fault {
         LineFault::LineTooLong(number, place) => line_of(alloc, number, b"LineTooLong", place),

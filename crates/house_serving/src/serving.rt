@@ -2,8 +2,8 @@
 ghost use Rattle.std.specs.Prelude.{◌≡◌, ◌⊎◌, ◌<◌, ◌≤◌, ℕ, List, None};
 ghost use Rattle.cds_base.specs.Lines.{fault_of_lines};
 ghost use Rattle.house_segments.specs.Segments.{IsAt, size_of};
-ghost use Rattle.cds_base.specs.Runs.{run_of};
-ghost use Rattle.house_serving.specs.Serving.{Served};
+ghost use Rattle.cds_base.specs.RunEnds.{run_of};
+ghost use Rattle.house_serving.specs.Serving.{Served, course, first_records, moment};
 ghost use Rattle.house_serving.specs.declared.ending.Ending.TheVariants.{Grown, InputEnds};
 
 use crate::answering::{answer_line, stop_at};
@@ -28,9 +28,11 @@ pub fn serve<R: Responder, S: Source, K: Sink, D: Disk>(
     requires ready { (before : List ℕ) × (bodies : List (List ℕ))
         × IsAt D.Disk segment.old before bodies }
     requires unbroken { fault_of_lines lines.old ≡ None }
-    ensures served { (before : List ℕ) (bodies : List (List ℕ)) → IsAt D.Disk segment.old before bodies
-        → Served R.responds D.Disk before bodies house.old house.new segment.old segment.new lines.old lines.new
-        (run_of S.Source K.Sink source.old source.new sink.old sink.new) result }
+    ensures served { (before : List ℕ) (bodies : List (List ℕ))
+        → IsAt D.Disk segment.old before bodies
+        → Served R.responds D.Disk (first_records before bodies) (course
+        (moment house.old segment.old lines.old) (moment house.new segment.new lines.new)
+        (run_of S.Source K.Sink source.old source.new sink.old sink.new)) result }
     ensures grown { result ≡ Grown → most ≤ size_of segment.new }
     ensures small { result ≡ InputEnds
         → (segment.new ≡ segment.old) ⊎ (size_of segment.new < most) }

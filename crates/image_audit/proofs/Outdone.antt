@@ -215,7 +215,7 @@ module _ (t : Stamp) (whole own : Entries) (valid : IsValidTable own)
       (answered (option_map_or (answers_birth b.entry.kind s) (get own n) false) (closed (Birth n b.entry.kind s) fact)) silent)
 
   -- a present mark that is later than an own present one is later than t
-  late_present : (n : List ℕ) (c : Stamp) (a v : List ℕ) (r s : Stamp) → HasValue t own n c a v r → LaterMark other n c a v r s
+  late_present : (n : List ℕ) (c : Stamp) (a v : List ℕ) (r s : Stamp) → HasValue t own n c a v r → LaterMark (HasCell other n c a) v r s
       → (m : ValueMark) → m ≡ present_at s → is_up_to t s ≡ true → (cell : AttrCell) → HasCell other n c a cell → get cell.values v ≡ Some m → ⊥
   late_present n c a v r s mine mark m is up cell of marked =
       let fact : HasValue t other n c a v s = record { cell = cell; of = of; marked = marked ∙ ap Some is; early = up } in
@@ -266,7 +266,7 @@ module _ (t : Stamp) (whole own : Entries) (valid : IsValidTable own)
           ∙ and_false (is_stamp mine.of.entry.birth c) (option_map_or (answers_cell v s) (get mine.of.entry.attrs a) false)
           (ap (λ d. option_map_or (answers_cell v s) d false) mine.of.has_cell ∙ cell_silent)
 
-  late_marked : (n : List ℕ) (c : Stamp) (a v : List ℕ) (r s : Stamp) → HasValue t own n c a v r → LaterMark other n c a v r s → is_earlier t s ≡ true
+  late_marked : (n : List ℕ) (c : Stamp) (a v : List ℕ) (r s : Stamp) → HasValue t own n c a v r → LaterMark (HasCell other n c a) v r s → is_earlier t s ≡ true
   late_marked n c a v r s mine mark = later s (λ up. by_flag up mark.mark.present refl)
     where
       left_mark : (mark.mark.present || not (is_up_to t mark.mark.stamp)) ≡ true

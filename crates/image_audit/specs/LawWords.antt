@@ -45,10 +45,10 @@ pub record LaterClear (table : Entries) (name : List ℕ) (c : Stamp) (attr : Li
   pub clear : cell.cleared ≡ Some s
   pub later : is_earlier r s ≡ true
 
--- the value has a mark of stamp s, later than r (own)
-pub record LaterMark (table : Entries) (name : List ℕ) (c : Stamp) (attr value : List ℕ) (r s : Stamp) : Type 0 where
+-- the value has a mark of stamp s, later than r, in such a cell (own)
+pub record LaterMark (IsCell : AttrCell → Type 0) (value : List ℕ) (r s : Stamp) : Type 0 where
   pub cell : AttrCell
-  pub of : HasCell table name c attr cell
+  pub of : IsCell cell
   pub mark : ValueMark
   pub marked : get cell.values value ≡ Some mark
   pub stamp : mark.stamp ≡ s
@@ -58,7 +58,8 @@ pub record LaterMark (table : Entries) (name : List ℕ) (c : Stamp) (attr value
 -- or a later mark (own)
 abbrev pub Outdoes : Entries → Fact → Stamp → Type 0
 Outdoes table (Birth n k c) s = LaterBirth table n c s
-Outdoes table (Value n c a v r) s = LaterBirth table n c s ⊎ (LaterClear table n c a r s ⊎ LaterMark table n c a v r s)
+Outdoes table (Value n c a v r) s =
+    LaterBirth table n c s ⊎ (LaterClear table n c a r s ⊎ LaterMark (HasCell table n c a) v r s)
 
 -- a table has a fact up to t of another, or something in its place, and all that is in its place is
 -- later than t (own)

@@ -20,7 +20,7 @@ use Rattle.line_forms.specs.declared.endings.Status.TheVariants.{Ok as AllRead, 
 use Rattle.line_forms.specs.Leaving.{IsLeft, LeadsTo, Leaves, LinesRead, NoneFollows, text_of}
 use Rattle.line_forms.specs.Demand.{LineRule}
 use Rattle.line_forms.specs.Endings.{Finishes, IsQueued, StopsWith, between, side}
-use Rattle.cds_base.specs.Runs.{IsFront, Run}
+use Rattle.cds_base.specs.RunEnds.{IsFront, Run}
 use Rattle.line_forms.proofs.Progress.{reads_on}
 use Rattle.line_forms.proofs.Turns.{is_read}
 

@@ -12,7 +12,7 @@ use Rattle.line_forms.specs.Readings.{Reading}
 use Rattle.line_forms.specs.declared.endings.Status.{Status}
 use Rattle.line_forms.specs.declared.endings.Status.TheVariants.{Ok as AllRead, Usage, BadInput, ReadFault, WriteFault, OutOfMemory, JournalFull}
 use Rattle.reply_buffer.specs.Waiting.{Flushes}
-use Rattle.cds_base.specs.Runs.{IsFront}
+use Rattle.cds_base.specs.RunEnds.{IsFront}
 use Rattle.line_forms.specs.Runs.{Wrote, IsWhole, IsFaulty, IsFilled, IsBody, WroteAllBefore, IsPart, IsCutShort}
 use Rattle.line_forms.specs.Runs.{WroteSoon, AnswersFront}
 use Rattle.line_forms.specs.Endings.{IsDue, IsQueued, Finishes, StopsWith, side, between, EndsBetween}

@@ -6,7 +6,7 @@ use Rattle.cds_base.specs.declared.scan.LineFault.{LineFault}
 use Rattle.cds_base.specs.LineFaults.{fault_at}
 use Rattle.reply_buffer.specs.Responses.{ResponseOf, GoesOn, Stops, Fills}
 use Rattle.line_forms.specs.Demand.{Demand, Faulty, LineRule, line_demand, unless_fault, then_rest, with_front}
-use Rattle.cds_base.specs.Runs.{IsFront}
+use Rattle.cds_base.specs.RunEnds.{IsFront}
 use Rattle.line_forms.proofs.Scanning.{scanned, demanded_scanned}
 
 module _ {S : Type 0} (rule : LineRule S) where

@@ -6,7 +6,7 @@ use Rattle.line_forms.specs.declared.endings.Status.{Status}
 use Rattle.line_forms.specs.declared.endings.Status.TheVariants.{Ok as AllRead, Usage, BadInput, ReadFault, WriteFault, OutOfMemory, JournalFull}
 use Rattle.line_forms.specs.Demand.{Demand}
 use Rattle.line_forms.specs.Readings.{Reading}
-use Rattle.cds_base.specs.Runs.{Run}
+use Rattle.cds_base.specs.RunEnds.{Run}
 use Rattle.line_forms.specs.Runs.{Ended, IsFilled, IsWhole, IsFaulty, IsPart}
 
 -- a source or a sink: the octets that it has left or that it took, where it tells them, and how

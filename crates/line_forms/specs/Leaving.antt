@@ -6,7 +6,7 @@ use Rattle.reply_buffer.specs.Responses.{GoesOn, Stops, Fills}
 use Rattle.reply_buffer.specs.declared.replies.LineEnd.{LineEnd}
 use Rattle.reply_buffer.specs.declared.replies.LineEnd.TheVariants as line
 use Rattle.line_forms.specs.Demand.{LineRule}
-use Rattle.cds_base.specs.Runs.{IsFront, Run}
+use Rattle.cds_base.specs.RunEnds.{IsFront, Run}
 use Rattle.line_forms.specs.declared.endings.Status.{Status}
 use Rattle.line_forms.specs.declared.endings.Status.TheVariants.{Ok as AllRead, Usage, BadInput, ReadFault, WriteFault, OutOfMemory, JournalFull}
 

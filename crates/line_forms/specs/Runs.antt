@@ -2,7 +2,7 @@
 use Rattle.std.specs.Prelude.{◌≡◌, ◌⊎◌, ℕ, ◌≤◌, ◌<◌, List, [], ◌++◌, length, Option}
 use Rattle.std.specs.Io.KnownBytes.{Consumes, Appends}
 use Rattle.cds_base.specs.Counts.{Rose}
-use Rattle.cds_base.specs.Runs.{IsFront, Run}
+use Rattle.cds_base.specs.RunEnds.{IsFront, Run}
 use Rattle.line_forms.specs.declared.endings.Status.{Status}
 use Rattle.line_forms.specs.declared.endings.Status.TheVariants.{Ok as AllRead, Usage, BadInput, ReadFault, WriteFault, OutOfMemory, JournalFull}
 use Rattle.line_forms.specs.Demand.{Demand, Sound, Faulty, CutShort, Filled, IsUnbroken}
@@ -129,7 +129,8 @@ pub record AnswersFront (form : Reading) (left left' : Option (List ℕ)) (text 
 
 -- such a text was written
 abbrev pub WroteAnswers : Reading → Run → Type 0
-WroteAnswers form run = (text : List ℕ) × Appends run.written run.written' text × AnswersFront form run.left run.left' text
+WroteAnswers form run = (text : List ℕ) × Appends run.written run.written' text
+    × AnswersFront form run.left run.left' text
 
 -- ---- how a run ends
 

@@ -4,7 +4,7 @@ ghost use Rattle.std.specs.Prelude.{◌≡◌, ℕ, ◌++◌, List};
 ghost use Rattle.cds_base.specs.Counts.{Rose};
 ghost use Rattle.line_forms.specs.Demand.{Faulty, line_demand};
 ghost use Rattle.line_forms.specs.Readings.{by_lines};
-ghost use Rattle.cds_base.specs.Runs.{IsFront, Run};
+ghost use Rattle.cds_base.specs.RunEnds.{IsFront, Run};
 ghost use Rattle.line_forms.specs.Runs.{Ended, NoCallFailed};
 ghost use Rattle.line_forms.specs.declared.endings.Status.{Status as Status'};
 

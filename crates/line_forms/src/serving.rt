@@ -2,7 +2,7 @@
 ghost use Rattle.std.specs.Prelude.{◌≡◌, ◌≢◌};
 ghost use Rattle.cds_base.specs.Lines.{IsFresh};
 ghost use Rattle.line_forms.specs.Readings.{by_lines};
-ghost use Rattle.cds_base.specs.Runs.{run_of};
+ghost use Rattle.cds_base.specs.RunEnds.{run_of};
 ghost use Rattle.line_forms.specs.Runs.{Ended};
 ghost use Rattle.line_forms.specs.Leaving.{HoldsAt, Leaves};
 ghost use Rattle.line_forms.specs.Endings.{StopsWith, side_of};

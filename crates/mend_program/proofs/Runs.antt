@@ -17,7 +17,7 @@ use Rattle.line_forms.specs.Demand.{Demand, Sound, line_demand}
 use Rattle.mend_program.specs.MendForm.{mend_form}
 use Rattle.mend_replay.specs.MendRules.{mend_rule, mending}
 use Rattle.script_replay.specs.Headline.{cell_after_script, commands_from}
-use Rattle.cds_base.specs.Runs.{Run}
+use Rattle.cds_base.specs.RunEnds.{Run}
 use Rattle.line_forms.specs.Runs.{IsWhole, Wrote}
 use Rattle.script_replay.specs.Scripts.{state_after_lines}
 use Rattle.script_replay.proofs.Scripts.{faultless_script, script_due, told_with}
@@ -80,6 +80,6 @@ is_mending d hs run dir wrote =
       said = script.1;
       script = script.3;
       taken = subst (Consumes run.left run.left') script.2 wrote.taken;
-      written = subst (Appends run.held run.held') (wrote.due.1 ∙ ap (λ (x : Demand). x.body ++ x.end) is_demand) wrote.written;
+      written = subst (Appends run.written run.written') (wrote.due.1 ∙ ap (λ (x : Demand). x.body ++ x.end) is_demand) wrote.written;
       mended = λ m t known is stamp. is_mended script.0 script.1 script.3 d dir known hs m t is stamp;
     }

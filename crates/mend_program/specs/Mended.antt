@@ -11,7 +11,7 @@ use Rattle.script_answers.specs.declared.answer.Answer.{Answer}
 use Rattle.script_answers.specs.declared.answer.Answer.TheVariants as answer
 use Rattle.script_replay.specs.Replies.{Numbered, reply_to}
 use Rattle.script_replay.specs.Headline.{cell_after_script, commands_of, line_place}
-use Rattle.cds_base.specs.Runs.{Run}
+use Rattle.cds_base.specs.RunEnds.{Run}
 use Rattle.script_replay.specs.Scripts.{IsScript}
 use Rattle.line_forms.specs.Leaving.{text_of}
 use Rattle.mend_model.specs.Leaving.{new_master, smaller_list}
@@ -74,7 +74,7 @@ pub record IsMending (dir : ℕ) (hs : List ℕ) (run : Run) : Type 0 where
   pub said : List Numbered
   pub script : IsScript 1 lines said
   pub taken : Consumes run.left run.left' (text_of lines)
-  pub written : Appends run.held run.held' (mend_text dir hs (cell_after_script said))
+  pub written : Appends run.written run.written' (mend_text dir hs (cell_after_script said))
   pub mended : (let g : Cell = cell_after_script said in
       (m : ℕ) (t : Stamp) → 1 ≤ g.top dir → new_master g dir hs ≡ Some m → stamp_at (g.house m) ≡ Some t
       → IsMended lines said dir t (members_without g dir hs m) (mend_text dir hs g))

@@ -1,6 +1,6 @@
 // The form of `cdsmend`: a script is replayed, and what mends a directory after it is written.
 ghost use Rattle.mend_program.specs.MendForm.{mend_form};
-ghost use Rattle.cds_base.specs.Runs.{run_of};
+ghost use Rattle.cds_base.specs.RunEnds.{run_of};
 ghost use Rattle.line_forms.specs.Runs.{Ended};
 ghost use Rattle.house_directory.specs.HouseMessages.{numbers_of};
 

@@ -63,10 +63,9 @@ impl<'a> Said<'a> {
         mut bindings: Vec<StringBinding>,
     ) -> Result<Said<'a>, AllocError>
         ensures names { IfOk result
-            (λ element_of_octets. reverse element_of_octets.names.items
-            ≡ members.entry.items ++ elements.entry.items) }
+            (λ said. reverse said.names.items ≡ members.entry.items ++ elements.entry.items) }
         ensures bindings { IfOk result
-            (λ element_of_octets. reverse element_of_octets.bindings.items ≡ bindings.items) }
+            (λ said. reverse said.bindings.items ≡ bindings.items) }
     {
         members.reverse();
         elements.reverse();
@@ -101,10 +100,10 @@ impl Client {
         at: &Found,
     ) -> Result<Said<'a>, AllocError>
         ensures names { IfOk result
-            (λ element_of_octets. reverse element_of_octets.names.items
+            (λ said. reverse said.names.items
             ≡ names_of (R.tells reader.now) self.now.interface at.now) }
         ensures bindings { IfOk result
-            (λ element_of_octets. reverse element_of_octets.bindings.items
+            (λ said. reverse said.bindings.items
             ≡ bindings_at (R.tells reader.now) self.now at.now) }
     {
         match reader.attributes(at) {
@@ -116,11 +115,9 @@ impl Client {
     // What the cells of an entry's attributes say.
     fn read_cells<'a>(&self, alloc: Global, cells: &'a AttrMap) -> Result<Said<'a>, AllocError>
         ensures names { IfOk result
-            (λ element_of_octets. reverse element_of_octets.names.items
-            ≡ names_in (values_by cells.now) self.now.interface) }
+            (λ said. reverse said.names.items ≡ names_in (values_by cells.now) self.now.interface) }
         ensures bindings { IfOk result
-            (λ element_of_octets. reverse element_of_octets.bindings.items
-            ≡ bindings_in (values_by cells.now) self.now) }
+            (λ said. reverse said.bindings.items ≡ bindings_in (values_by cells.now) self.now) }
     {
         let towers = values_in(alloc, cells, &self.towers)?;
         let objects = values_in(alloc, cells, &self.objects)?;
@@ -140,10 +137,10 @@ impl Client {
         at: &Found,
     ) -> Result<Said<'a>, AllocError>
         ensures names { IfOk result
-            (λ element_of_octets. reverse element_of_octets.names.items
+            (λ said. reverse said.names.items
             ≡ names_of (R.tells reader.now) self.now.interface at.now) }
         ensures bindings { IfOk result
-            (λ element_of_octets. reverse element_of_octets.bindings.items
+            (λ said. reverse said.bindings.items
             ≡ bindings_at (R.tells reader.now) self.now at.now) }
     {
         let towers = reader.values(alloc, at, &self.towers)?;

@@ -13,7 +13,7 @@ use Rattle.reply_buffer.specs.Responses.{ResponseOf, GoesOn, Stops, Fills, in_st
 use Rattle.line_forms.specs.Demand.{Demand, LineRule, Sound, line_demand, unless_fault, then_rest, with_front, whole}
 use Rattle.line_forms.specs.Leaving.{text_of}
 use Rattle.line_forms.specs.Readings.{by_lines}
-use Rattle.cds_base.specs.Runs.{Run}
+use Rattle.cds_base.specs.RunEnds.{Run}
 use Rattle.line_forms.specs.Runs.{Wrote, IsWhole}
 use Rattle.line_forms.proofs.Scanning.{scanned, demanded_scanned, clean_more, is_ten, no_ten}
 use Rattle.line_forms.proofs.Demands.{demand_line, demand_part}
@@ -147,7 +147,7 @@ module _ {S T L : Type 0} (rule : LineRule T) (d : Dialogue S L) (state_of : S �
           said = script.1;
           script = script.3;
           taken = subst (Consumes run.left run.left') script.2 wrote.taken;
-          written = subst (Appends run.held run.held') (wrote.due.1 ∙ ap (λ (e : Demand). e.body ++ e.end) is_demand ∙ append-nil text) wrote.written;
+          written = subst (Appends run.written run.written') (wrote.due.1 ∙ ap (λ (e : Demand). e.body ++ e.end) is_demand ∙ append-nil text) wrote.written;
         }
 
 -- a form that answers line by line and always has room

@@ -12,7 +12,7 @@ use Rattle.cell_script.specs.Words.{words_of}
 use Rattle.cell_script.specs.CommandRows.{said_in}
 use Rattle.script_replay.specs.Headline.{Finds, TellsCompleted, cell_after_script, commands_of}
 use Rattle.line_forms.specs.Leaving.{text_of}
-use Rattle.cds_base.specs.Runs.{Run}
+use Rattle.cds_base.specs.RunEnds.{Run}
 use Rattle.script_replay.specs.Dialogues.{Dialogue, NumberedOf, transcript_by}
 use Rattle.script_replay.specs.Replies.{Numbered, run_dialogue}
 
@@ -45,7 +45,7 @@ pub record IsReplayBy {S L : Type 0} (d : Dialogue S L) (s : S) (run : Run) : Ty
   pub said : List (NumberedOf L)
   pub script : IsScriptOf d.says 1 lines said
   pub taken : Consumes run.left run.left' (text_of lines)
-  pub written : Appends run.held run.held' (transcript_by d s said)
+  pub written : Appends run.written run.written' (transcript_by d s said)
 
 -- The same by the model, from a cell without houses on (own, after C705, skulks and the meaning of
 -- AllUpTo)

@@ -3,7 +3,7 @@ use Rattle.journal_replay.specs.CellDisks.{AreNew, AreUsable}
 use Rattle.journal_replay.specs.CellJournals.{empty_state}
 use Rattle.journal_replay.specs.JournalRules.{AreOnDisks, ArePut, IsAfter, journal_rule}
 use Rattle.line_forms.specs.Leaving.{Leaves}
-use Rattle.cds_base.specs.Runs.{run_of}
+use Rattle.cds_base.specs.RunEnds.{run_of}
 use Rattle.journal_replay.proofs.Usable.{new_usable}
 use Rattle.reply_buffer.specs.declared.replies.LineEnd.{LineEnd}
 use Rattle.line_forms.proofs.Holding.{always_holds}

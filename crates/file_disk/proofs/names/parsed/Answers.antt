@@ -1,7 +1,7 @@
 use Rattle.std.proofs.Common.{ap, ◌∙◌}
 use Rattle.std.specs.Result.{result_ok}
 use Rattle.std.proofs.lemmas.Fmt.{parse-decimal}
-use Rattle.cdshouse.proofs.names.parsed.Goals as goal
+use Rattle.file_disk.proofs.names.parsed.Goals as goal
 
 pub returns : goal.returns
 returns c = λ n small is.

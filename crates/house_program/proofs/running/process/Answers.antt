@@ -1,6 +1,6 @@
 use Rattle.std.proofs.Common.{inl, refl, ◌∙◌}
 use Rattle.cds_base.proofs.KnownOctets.{appends_none}
-use Rattle.house_program.specs.Causes.{HasCause, IsRefused, counts_of}
+use Rattle.house_program.specs.Causes.{HasStatusCause, IsFolderRefused, counts_of}
 use Rattle.house_program.specs.Statuses.{status_of}
 use Rattle.house_program.proofs.CauseLemmas.{after_calm, cause_more, err_status, folder_cause, folder_end_later, same_counts, unread_plain}
 use Rattle.house_program.proofs.LifeLemmas.{folder_plain}
@@ -25,10 +25,10 @@ returns-clause-lived g c =
 
 pub returns-in_err-lock-clause-cause : goal.returns-in_err-lock-clause-cause
 returns-in_err-lock-clause-cause g c =
-    let R = IsRefused (g.F.Folder.kept c.lock.new.self) in
+    let R = IsFolderRefused (g.F.Folder.kept c.lock.new.self) in
     let b = counts_of g.S.Source.faults g.K.Sink.faults g.F.Folder.faults c.args.source.now c.args.sink.now c.args.folder.now in
     let n = counts_of g.S.Source.faults g.K.Sink.faults g.F.Folder.faults c.args.source.now c.args.sink.now c.lock.new.self in
-    err_status (HasCause R b n) _ c.from_residual.result c.from_residual.ensures.1
+    err_status (HasStatusCause R b n) _ c.from_residual.result c.from_residual.ensures.1
     (λ s is. folder_cause R b.reads n.reads b.writes n.writes b.folder n.folder _ s is refl refl c.in_err-lock.ensures.cause)
 
 pub returns-in_err-found-clause-cause : goal.returns-in_err-found-clause-cause
@@ -36,12 +36,12 @@ returns-in_err-found-clause-cause g c =
     let K = g.F.Folder.kept c.read_folder.new.folder in
     let b = counts_of g.S.Source.faults g.K.Sink.faults g.F.Folder.faults c.args.source.now c.args.sink.now c.args.folder.now in
     let n = counts_of g.S.Source.faults g.K.Sink.faults g.F.Folder.faults c.args.source.now c.args.sink.now c.read_folder.new.folder in
-    err_status (HasCause (IsRefused K) b n) _ c.from_residual-in_err-found.result c.from_residual-in_err-found.ensures.1
+    err_status (HasStatusCause (IsFolderRefused K) b n) _ c.from_residual-in_err-found.result c.from_residual-in_err-found.ensures.1
     (λ s is. folder_end_later K b.reads b.writes b.folder _ n.folder _ s c.in_ok-lock.ensures.cause c.in_err-found.ensures.why is)
 
 pub returns-clause-cause : goal.returns-clause-cause
 returns-clause-cause g c =
-    let R = IsRefused (g.F.Folder.kept c.serve_all.new.folder) in
+    let R = IsFolderRefused (g.F.Folder.kept c.serve_all.new.folder) in
     let b = counts_of g.S.Source.faults g.K.Sink.faults g.F.Folder.faults c.args.source.now c.args.sink.now c.args.folder.now in
     let m = counts_of g.S.Source.faults g.K.Sink.faults g.F.Folder.faults c.args.source.now c.args.sink.now c.read_folder.new.folder in
     let n = counts_of g.S.Source.faults g.K.Sink.faults g.F.Folder.faults c.serve_all.new.source c.serve_all.new.sink c.serve_all.new.folder in

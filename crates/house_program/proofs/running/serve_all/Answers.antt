@@ -1,7 +1,7 @@
 use Rattle.std.proofs.Common.{inl, inr, refl, sym, ◌∙◌, ap, subst}
 use Rattle.std.specs.Prelude.{Err}
 use Rattle.cds_base.proofs.KnownOctets.{appends_none}
-use Rattle.house_program.specs.Causes.{HasCause, counts_of}
+use Rattle.house_program.specs.Causes.{HasStatusCause, counts_of}
 use Rattle.house_program.specs.declared.status.Status.{Status}
 use Rattle.house_program.proofs.CauseLemmas.{after_calm, calm_either, calm_memory, err_status}
 use Rattle.house_program.proofs.LifeLemmas.{goes_on, memory_plain}
@@ -16,7 +16,7 @@ returns-in_err-lines-clause-lived g c =
 pub returns-in_err-lines-clause-cause : goal.returns-in_err-lines-clause-cause
 returns-in_err-lines-clause-cause g c =
     let b = counts_of g.S.Source.faults g.K.Sink.faults g.F.Folder.faults c.args.source.now c.args.sink.now c.args.folder.now in
-    err_status (HasCause (λ x. ⊥) b b) _ c.from_residual.result c.from_residual.ensures.1 (λ s is. calm_memory (λ x. ⊥) b b s is refl)
+    err_status (HasStatusCause (λ x. ⊥) b b) _ c.from_residual.result c.from_residual.ensures.1 (λ s is. calm_memory (λ x. ⊥) b b s is refl)
 
 pub returns-in_err-begun-clause-lived : goal.returns-in_err-begun-clause-lived
 returns-in_err-begun-clause-lived g c =
@@ -26,7 +26,7 @@ returns-in_err-begun-clause-lived g c =
 pub returns-in_err-begun-clause-cause : goal.returns-in_err-begun-clause-cause
 returns-in_err-begun-clause-cause g c =
     let b = counts_of g.S.Source.faults g.K.Sink.faults g.F.Folder.faults c.args.source.now c.args.sink.now c.args.folder.now in
-    err_status (HasCause (λ x. ⊥) b b) _ c.from_residual-in_err-begun.result c.from_residual-in_err-begun.ensures.1
+    err_status (HasStatusCause (λ x. ⊥) b b) _ c.from_residual-in_err-begun.result c.from_residual-in_err-begun.ensures.1
     (λ s is. calm_either (λ x. ⊥) b b _ _ s c.in_err-begun.ensures.why is refl)
 
 pub segments-init : goal.segments-init
@@ -67,9 +67,9 @@ returns-in_err-left-clause-cause g c =
     let m = counts_of g.S.Source.faults g.K.Sink.faults g.F.Folder.faults c.segments.source c.segments.sink c.segments.folder in
     let b = counts_of g.S.Source.faults g.K.Sink.faults g.F.Folder.faults c.args.source.now c.args.sink.now c.args.folder.now in
     let n = counts_of g.S.Source.faults g.K.Sink.faults g.F.Folder.faults c.serve_on.new.source c.serve_on.new.sink c.serve_on.new.folder in
-    err_status (HasCause (λ x. ⊥) b n) _ c.from_residual-in_err-left.result c.from_residual-in_err-left.ensures.1
+    err_status (HasStatusCause (λ x. ⊥) b n) _ c.from_residual-in_err-left.result c.from_residual-in_err-left.ensures.1
     (λ s is. after_calm (λ x. ⊥) b m n s c.segments.invariant.calm
-    (subst (λ (x : Status). HasCause (λ y. ⊥) m n x) (sym is) c.in_err-left.ensures.cause))
+    (subst (λ (x : Status). HasStatusCause (λ y. ⊥) m n x) (sym is) c.in_err-left.ensures.cause))
 
 pub returns-in-Some-clause-lived : goal.returns-in-Some-clause-lived
 returns-in-Some-clause-lived g c =
@@ -95,5 +95,5 @@ returns-in_err-next-clause-cause g c =
     let grown = goes_on _ (sym c.in_default.is ∙ c.after.ensures) in
     let b = counts_of g.S.Source.faults g.K.Sink.faults g.F.Folder.faults c.args.source.now c.args.sink.now c.args.folder.now in
     let n = counts_of g.S.Source.faults g.K.Sink.faults g.F.Folder.faults c.serve_on.new.source c.serve_on.new.sink c.serve_on.new.folder in
-    err_status (HasCause (λ x. ⊥) b n) _ c.from_residual-in_err-next.result c.from_residual-in_err-next.ensures.1
+    err_status (HasStatusCause (λ x. ⊥) b n) _ c.from_residual-in_err-next.result c.from_residual-in_err-next.ensures.1
     (λ s is. calm_either (λ x. ⊥) b n _ _ s c.in_err-next.ensures.why is (c.in_ok-left.ensures.cause.1 grown ∙ c.segments.invariant.calm))

@@ -1,15 +1,15 @@
 use Rattle.std.proofs.Common.{◌≡◌, ◌-◌, List, ℕ, true}
 use Rattle.house_runs.specs.Folders.{FolderSegment}
-use Rattle.cds_base.specs.Runs.{run_of}
+use Rattle.cds_base.specs.RunEnds.{run_of}
 use Rattle.house_turns.specs.declared.house.House.{House}
 use Rattle.house_program.specs.Beginnings.{FindsSo}
-use Rattle.house_program.specs.Causes.{Counts, counts_of}
+use Rattle.house_program.specs.Causes.{ProcessCounts, counts_of}
 use Rattle.house_program.proofs.FolderLemmas.{found_of}
 use Rattle.house_program.proofs.ProcessLemmas.{IsLiving}
 use Rattle.house_program.proofs.running.serve_all.Given as goal
 
 -- the process goes on, it has the folder, and no call failed
-pub record IsServing (Living Locked : Type 0) (before now : Counts) : Type 0 where
+pub record IsServing (Living Locked : Type 0) (before now : ProcessCounts) : Type 0 where
   pub living : Living
   pub locked : Locked
   pub calm : now ≡ before

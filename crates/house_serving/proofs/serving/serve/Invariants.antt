@@ -4,7 +4,8 @@ use Rattle.cds_base.specs.Lines.{lines_so_far, fault_of_lines}
 use Rattle.cds_base.specs.declared.lines.Lines.{Lines}
 use Rattle.house_segments.specs.Segments.{IsAt, size_of}
 use Rattle.house_segments.specs.declared.segment.Segment.{Segment}
-use Rattle.cds_base.specs.Runs.{run_of}
+use Rattle.cds_base.specs.RunEnds.{run_of}
+use Rattle.house_serving.specs.Serving.{course, first_records, moment}
 use Rattle.house_serving.proofs.Runs.{IsBetween}
 use Rattle.house_serving.proofs.serving.serve.Given as goal
 
@@ -19,8 +20,7 @@ abbrev pub invariant-lines : goal.invariant-lines
 invariant-lines g l =
     IsGoingOn
     (λ before bodies. IsAt g.D.Disk l.fn.segment before bodies)
-    (λ before bodies. IsBetween g.R.Responder.responds g.D.Disk before bodies l.fn.house l.house l.fn.segment l.segment l.fn.lines l.lines
-    (run_of g.S.Source g.K.Sink l.fn.source l.source l.fn.sink l.sink))
+    (λ before bodies. IsBetween g.R.Responder.responds g.D.Disk (first_records before bodies) (course (moment l.fn.house l.fn.segment l.fn.lines) (moment l.house l.segment l.lines) (run_of g.S.Source g.K.Sink l.fn.source l.source l.fn.sink l.sink)))
     l.lines l.fn.segment l.segment l.most
 
 abbrev pub decreases-lines : goal.decreases-lines
