@@ -37,7 +37,11 @@ impl Cell {
                 self.allows_repoint(*house, *dir, *master, others.list())
             }
             Command::Update(house, dir, _) => self.allows_at(*house, *dir),
-            Command::Epoch(dir, master, others) => self.allows_epoch(*dir, *master, others.houses()),
+            Command::Epoch(dir, master, others) => self.allows_epoch(
+                *dir,
+                *master,
+                others.houses(),
+            ),
             Command::Skulk(house, dir) => self.allows_at(*house, *dir),
             Command::Deliver(_) | Command::Lose(_) => Ok(()),
             Command::Crash(house) => self.allows_crash(*house),

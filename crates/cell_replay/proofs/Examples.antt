@@ -25,7 +25,7 @@ use Rattle.cell_replay.specs.FormReadings.{spelling_rule}
 use Rattle.cell_replay.specs.declared.forms.Form.TheVariants as form
 use Rattle.cell_replay.specs.FormWords.{form_of}
 use Rattle.directory.specs.declared.entry.Kind.TheVariants.{Object}
-use Rattle.record_fields.specs.declared.fault.RecordFault.TheVariants.{Trailing}
+use Rattle.record_fields.specs.declared.fault.Rule.TheVariants.{Trailing}
 use Rattle.image_audit.specs.declared.fact.Fact.TheVariants.{Birth, Value}
 use Rattle.image_audit.specs.declared.verdict.Verdict.TheVariants.{NoReplica, Agree, Differ}
 
@@ -103,7 +103,7 @@ a_value_is_missing : verdict_text 1 (Differ 1 (Value (codes "e") (record { time 
 unfolding digits encode_with
 a_value_is_missing = refl
 
-second_image_at_fault : pair_fault_text (record { image = 2; fault = Trailing 146 }) ≡ codes "2 fault Trailing 146" ++ 10 ∷ []
+second_image_at_fault : pair_fault_text (record { image = 2; fault = record { rule = Trailing; place = 146 } }) ≡ codes "2 fault Trailing 146" ++ 10 ∷ []
 unfolding digits
 second_image_at_fault = refl
 

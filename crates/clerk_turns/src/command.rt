@@ -60,7 +60,11 @@ fn read(alloc: Global, words: &mut Words<'_>) -> Parsed<Command>
     ensures { Answers result (said_by (codes "read") words.old) }
 {
     words.exactly(3)?;
-    Ok(Command::Read(words.confidence()?, words.full_name(alloc)?, words.attr_name(alloc)?))
+    Ok(Command::Read(
+        words.confidence()?,
+        words.full_name(alloc)?,
+        words.attr_name(alloc)?,
+    ))
 }
 
 #[tactic(auto, unfolding(crate::specs::ClerkRows::said_by))]

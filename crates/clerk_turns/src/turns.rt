@@ -12,7 +12,10 @@ use crate::says::{say_answer, say_fault};
 use cds_clerk::{Answered, Answers, Heard, Lack, Outcome, Root};
 use cds_stamps::{AllocOr, DirId, HouseNo};
 use cell_names::ChildPointer;
-use clerk_lines::{ClerkLine, ClerkWord, Hearing, RootList, Told, is_last, push_ask, push_show, read_clerk_line, read_root};
+use clerk_lines::{
+    ClerkLine, ClerkWord, Hearing, RootList, Told, is_last, push_ask, push_show, read_clerk_line,
+    read_root,
+};
 use script_answers::{Answer, ScriptRefusal};
 use std::alloc::{AllocError, Global};
 
@@ -72,8 +75,17 @@ fn rest_root(alloc: Global, place: &Option<ChildPointer>) -> Result<Root, AllocE
 fn settled(job: Job) -> Job
     ensures { result ≡ settled job }
 {
-    let Job { number, command, heard, latest } = job;
-    let Heard { near, root: _, answers } = heard;
+    let Job {
+        number,
+        command,
+        heard,
+        latest,
+    } = job;
+    let Heard {
+        near,
+        root: _,
+        answers,
+    } = heard;
     Job {
         number,
         command,
@@ -135,7 +147,13 @@ impl Clerk {
         push_show(&mut line, job.command.is_high(), lack.dir, &lack.name)?;
         let (number, house) = (job.number, lack.house);
         self.jobs.push(job)?;
-        self.ask(alloc, number, house, &line, Topic::Show(lack, Hearing::Begun))
+        self.ask(
+            alloc,
+            number,
+            house,
+            &line,
+            Topic::Show(lack, Hearing::Begun),
+        )
     }
 
     // Goes on with a command that knows where the root directory is: it has its answer, or a house
@@ -247,12 +265,15 @@ impl Clerk {
         match parse_command(alloc, text) {
             Ok(command) => {
                 let heard = self.first_heard(alloc, command.is_high())?;
-                self.go_on(alloc, Job {
-                    number,
-                    command,
-                    heard,
-                    latest: None,
-                })
+                self.go_on(
+                    alloc,
+                    Job {
+                        number,
+                        command,
+                        heard,
+                        latest: None,
+                    },
+                )
             }
             Err(AllocOr::Fault(fault)) => say_fault(alloc, number, fault),
             Err(AllocOr::OutOfMemory) => Err(AllocError),
@@ -273,7 +294,12 @@ impl Clerk {
             return Ok(Vec::new(alloc));
         };
         let Lack { dir, house, name } = lack;
-        job.heard.answers.push(Answered { dir, house, name, told })?;
+        job.heard.answers.push(Answered {
+            dir,
+            house,
+            name,
+            told,
+        })?;
         self.go_on(alloc, job)
     }
 
@@ -323,7 +349,11 @@ impl Clerk {
         ensures { IfOk result
             (λ text. IsAnswered self.old question last.now text.items self.new) }
     {
-        let Question { number: _, job, topic } = question;
+        let Question {
+            number: _,
+            job,
+            topic,
+        } = question;
         match topic {
             Topic::Show(lack, hearing) => self.told(alloc, job, lack, hearing.told(last)),
             Topic::Root(place) => {
@@ -373,7 +403,11 @@ impl Clerk {
         let Some(question) = take_question(&mut self.questions, number) else {
             return Ok(Vec::new(alloc));
         };
-        let Question { number: _, job, topic } = question;
+        let Question {
+            number: _,
+            job,
+            topic,
+        } = question;
         match topic {
             Topic::Show(lack, _) => self.told(alloc, job, lack, Told::Passed),
             Topic::Root(place) => self.root_told(alloc, job, place, None),

@@ -60,7 +60,7 @@ use Rattle.cell_runs.specs.LineAnswers.{refused}
 use Rattle.record_fields.proofs.OneDecoding.{answers_decoding}
 use Rattle.house_turns.specs.declared.said.Said.{Said}
 use Rattle.house_turns.specs.LineOutcomes.{ComesTo, HasNoEnd, IsMessageOf, IsOutcome, Outcome, Posts, StaysAt, TakesMessageOf, Tells}
-use Rattle.house_turns.specs.HouseAnswers.{ascend_from, early_refusal, epoch_refusal, founding_refusal, is_given, maybe_refused, octets_refusal, restored_refusal, take_refusal}
+use Rattle.house_turns.specs.HouseAnswers.{ascend_from, early_refusal, epoch_refusal, founding_refusal, is_given, maybe_refused, restored_refusal, take_refusal}
 use Rattle.own_stamps.specs.OwnStamps.{later_own}
 use Rattle.house_turns.specs.PrivateTurns.{ArePostsOf, Comes, ComesUnless, Does, MakesChild, Says, TakesMessage, TakesUnless, epoch_of, first_members, posts_of_letters, taken_line, taken_outcome}
 use Rattle.house_turns.proofs.Letters.{letters_posts, maybe_letters, posts_both, posts_stand}
@@ -435,7 +435,7 @@ take_comes (Ok s) number c c' clock octets message used decodes takes = record {
 
 -- why octets are refused
 pub take_fault : (c : Clearinghouse) (octets : List ℕ) (f : RecordFault) → decode_by records.message octets ≡ Err f
-    → early_refusal c (order.Take octets) ≡ Some (refused (octets_refusal f))
+    → early_refusal c (order.Take octets) ≡ Some (refused (why.Octets f))
 take_fault c octets f is = ap (take_refusal c (length octets)) is
 
 pub take_trailing : (c : Clearinghouse) (octets : List ℕ) (message : Message) (used : ℕ) → decode_by records.message octets ≡ Ok (message, used)

@@ -20,6 +20,8 @@ use Rattle.directory.specs.declared.entry.Kind.{Kind}
 use Rattle.directory.specs.declared.entry.Kind.TheVariants as kind
 use Rattle.directory.specs.declared.entry.EntryCell.{EntryCell}
 use Rattle.directory.specs.Entries.{Entries}
+use Rattle.record_fields.specs.declared.fault.Rule.{Rule}
+use Rattle.record_fields.specs.declared.fault.Rule.TheVariants as rule
 use Rattle.script_answers.specs.declared.answer.Answer.{Answer}
 use Rattle.script_answers.specs.declared.answer.Answer.TheVariants as answer
 use Rattle.script_answers.specs.declared.answer.ScriptRefusal.{ScriptRefusal}
@@ -78,6 +80,24 @@ abbrev pub accepted_text : Option ℕ → List ℕ
 accepted_text None = []
 accepted_text (Some k) = 32 ∷ decimal k
 
+-- the names of the rules that octets break
+abbrev pub rule_name : Rule → List ℕ
+rule_name rule.Short = codes "Short"
+rule_name rule.BadTag = codes "BadTag"
+rule_name rule.BadLength = codes "BadLength"
+rule_name rule.BadName = codes "BadName"
+rule_name rule.OutOfOrder = codes "OutOfOrder"
+rule_name rule.BadFlag = codes "BadFlag"
+rule_name rule.NotAbove = codes "NotAbove"
+rule_name rule.BadHeld = codes "BadHeld"
+rule_name rule.Trailing = codes "Trailing"
+
+-- the rule that the answer to a line tells: of a message, which breaks none of the last two
+abbrev pub told_rule : Rule → Rule
+told_rule rule.BadHeld = rule.BadLength
+told_rule rule.Trailing = rule.BadLength
+told_rule other = other
+
 -- the names of refusals
 abbrev pub refusal_name : ScriptRefusal → List ℕ
 refusal_name why.HouseExists = codes "HouseExists"
@@ -112,13 +132,8 @@ refusal_name why.NoSuchMember = codes "NoSuchMember"
 refusal_name why.BadPriority = codes "BadPriority"
 refusal_name why.ElementTooLong = codes "ElementTooLong"
 refusal_name why.NoSuchElement = codes "NoSuchElement"
-refusal_name (why.Short place) = codes "Short"
-refusal_name (why.BadTag place) = codes "BadTag"
-refusal_name (why.BadLength place) = codes "BadLength"
-refusal_name (why.BadName place) = codes "BadName"
-refusal_name (why.OutOfOrder place) = codes "OutOfOrder"
-refusal_name (why.BadFlag place) = codes "BadFlag"
-refusal_name (why.NotAbove place) = codes "NotAbove"
+refusal_name (why.Octets fault) = rule_name (told_rule fault.rule)
+refusal_name (why.NotAbove held) = codes "NotAbove"
 
 -- the numbers after them
 abbrev pub refusal_numbers : ScriptRefusal → List ℕ
@@ -127,13 +142,8 @@ refusal_numbers (why.NotJoined held since) = epochs_text held since
 refusal_numbers (why.NoSuchName done) = 32 ∷ decimal done
 refusal_numbers (why.NotDirectory number) = 32 ∷ decimal number
 refusal_numbers (why.Unreachable dir) = 32 ∷ decimal dir.0
-refusal_numbers (why.Short place) = 32 ∷ decimal place
-refusal_numbers (why.BadTag place) = 32 ∷ decimal place
-refusal_numbers (why.BadLength place) = 32 ∷ decimal place
-refusal_numbers (why.BadName place) = 32 ∷ decimal place
-refusal_numbers (why.OutOfOrder place) = 32 ∷ decimal place
-refusal_numbers (why.BadFlag place) = 32 ∷ decimal place
-refusal_numbers (why.NotAbove place) = 32 ∷ decimal place
+refusal_numbers (why.Octets fault) = 32 ∷ decimal fault.place
+refusal_numbers (why.NotAbove held) = 32 ∷ decimal held
 refusal_numbers other = []
 
 -- the name of a message by its tag; other numbers have none

@@ -1,10 +1,39 @@
 // The text of refusals.
 ghost use Rattle.std.specs.Prelude.{◌≡◌, ◌++◌, length, take, OnOk, OnErr};
+ghost use Rattle.script_answers.specs.Texts as texts;
 ghost use Rattle.script_answers.specs.Texts.{accepted_text, refusal_name, refusal_numbers};
 
 use crate::answer::ScriptRefusal;
 use crate::pieces::{push_epochs, push_posted, push_spaced};
+use record_fields::Rule;
 use std::alloc::AllocError;
+
+/// The name of a rule that octets break.
+pub fn rule_name(rule: Rule) -> &'static str
+    ensures { result.now ≡ texts.rule_name rule }
+{
+    match rule {
+        Rule::Short => "Short",
+        Rule::BadTag => "BadTag",
+        Rule::BadLength => "BadLength",
+        Rule::BadName => "BadName",
+        Rule::OutOfOrder => "OutOfOrder",
+        Rule::BadFlag => "BadFlag",
+        Rule::NotAbove => "NotAbove",
+        Rule::BadHeld => "BadHeld",
+        Rule::Trailing => "Trailing",
+    }
+}
+
+// The rule that the answer to a line tells.
+fn told_rule(rule: Rule) -> Rule
+    ensures { result ≡ texts.told_rule rule }
+{
+    match rule {
+        Rule::BadHeld | Rule::Trailing => Rule::BadLength,
+        _ => rule,
+    }
+}
 
 // The name of a refusal.
 fn name_of(refusal: &ScriptRefusal) -> &'static [u8]
@@ -43,12 +72,7 @@ fn name_of(refusal: &ScriptRefusal) -> &'static [u8]
         ScriptRefusal::BadPriority => b"BadPriority",
         ScriptRefusal::ElementTooLong => b"ElementTooLong",
         ScriptRefusal::NoSuchElement => b"NoSuchElement",
-        ScriptRefusal::Short(_) => b"Short",
-        ScriptRefusal::BadTag(_) => b"BadTag",
-        ScriptRefusal::BadLength(_) => b"BadLength",
-        ScriptRefusal::BadName(_) => b"BadName",
-        ScriptRefusal::OutOfOrder(_) => b"OutOfOrder",
-        ScriptRefusal::BadFlag(_) => b"BadFlag",
+        ScriptRefusal::Octets(fault) => rule_name(told_rule(fault.rule)).as_bytes(),
         ScriptRefusal::NotAbove(_) => b"NotAbove",
     }
 }
@@ -67,12 +91,7 @@ fn push_numbers(line: &mut Vec<u8>, refusal: &ScriptRefusal) -> Result<(), Alloc
         ScriptRefusal::NoSuchName(done) => push_spaced(line, u64::from(*done)),
         ScriptRefusal::NotDirectory(number) => push_spaced(line, u64::from(*number)),
         ScriptRefusal::Unreachable(dir) => push_spaced(line, u64::from(dir.0)),
-        ScriptRefusal::Short(place) => push_spaced(line, *place as u64),
-        ScriptRefusal::BadTag(place) => push_spaced(line, *place as u64),
-        ScriptRefusal::BadLength(place) => push_spaced(line, *place as u64),
-        ScriptRefusal::BadName(place) => push_spaced(line, *place as u64),
-        ScriptRefusal::OutOfOrder(place) => push_spaced(line, *place as u64),
-        ScriptRefusal::BadFlag(place) => push_spaced(line, *place as u64),
+        ScriptRefusal::Octets(fault) => push_spaced(line, fault.place as u64),
         ScriptRefusal::NotAbove(place) => push_spaced(line, *place as u64),
         _ => Ok(()),
     }

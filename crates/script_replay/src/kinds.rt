@@ -11,11 +11,13 @@ pub(crate) fn is_change(line: &ScriptLine) -> bool
     ensures { result ≡ line_changes line.now }
 {
     match line {
-        ScriptLine::Cell(Command::Update(
-            _,
-            _,
-            Update::Create(..) | Update::Delete(..) | Update::Add(..) | Update::Remove(..),
-        )) => true,
+        ScriptLine::Cell(
+            Command::Update(
+                _,
+                _,
+                Update::Create(..) | Update::Delete(..) | Update::Add(..) | Update::Remove(..),
+            ),
+        ) => true,
         _ => false,
     }
 }
