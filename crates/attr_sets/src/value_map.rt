@@ -109,6 +109,14 @@ impl ValueMap {
         self.marks.get(value)
     }
 
+    /// Asks for room for so many more marks before they come, but for few at most. An insertion
+    /// asks for what this could not get.
+    pub fn reserve(&mut self, count: usize)
+        ensures { self.new ≡ self.old }
+    {
+        self.marks.reserve(count);
+    }
+
     /// Gives a value this mark. The mark that it had.
     pub fn insert(&mut self, value: Value, mark: ValueMark) -> Result<Option<ValueMark>, AllocError>
         ensures before { IfOk result (λ before. before ≡ map.get self.old value) }
