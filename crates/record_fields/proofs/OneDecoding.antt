@@ -1,5 +1,5 @@
 -- Decoding as a function is what octets decode to, and so is each answer.
-use Rattle.std.proofs.Common.{◌≡◌, ℕ, ◌+◌, ◌-◌, List, length, take, drop, Ok, Err, refl, sym, subst}
+use Rattle.std.proofs.Common.{◌≡◌, ℕ, ◌-◌, List, length, take, drop, Ok, Err, refl, sym, subst}
 use Rattle.std.specs.Prelude.{Result}
 use Rattle.std.specs.Result.{result_map_both}
 use Rattle.std.proofs.lemmas.List.{take-append-drop, length-take-le}

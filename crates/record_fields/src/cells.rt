@@ -60,6 +60,7 @@ impl<'a> Reader<'a> {
             (map_of value (mark above.now cleared.now) count) self.old self.new result }
     {
         let mut marks = ValueMap::new(alloc);
+        marks.reserve(count as usize);
         let mut before = None;
         for _ in 0..count {
             let own = self.add_mark(alloc, &mut marks, above, cleared, before)?;

@@ -9,7 +9,7 @@ use Rattle.record_fields.proofs.MapLoops.{begins, goes_on, ends, is_done}
 use Rattle.record_fields.proofs.fields.Reader.marks.Goals as goal
 
 pub loop-init : goal.loop-init
-loop-init c = rw c.new-marks.ensures (begins value (mark c.args.above.now c.args.cleared.now) c.args.count c.args.self.now)
+loop-init c = rw (c.reserve.ensures, c.new-marks.ensures) (begins value (mark c.args.above.now c.args.cleared.now) c.args.count c.args.self.now)
 
 pub returns-in_err-own : goal.returns-in_err-own
 returns-in_err-own c =
