@@ -2,3 +2,4 @@ pub mod HeardLaws
 mod ClosedLaws
 mod SearchLaws
 pub mod LinkLaws
+mod PlanLaws

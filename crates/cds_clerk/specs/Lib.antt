@@ -4,3 +4,4 @@ pub mod Readings
 pub mod HeardProofs
 pub mod Searches
 pub mod Links
+pub mod Plans

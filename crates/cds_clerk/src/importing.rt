@@ -26,8 +26,8 @@ use std::alloc::{AllocError, Global};
 
 // What was heard, as a reader of a cell: what was not heard is not reached.
 #[derive(Clone, Copy)]
-struct HeardReader<'a> {
-    heard: &'a Heard,
+pub(crate) struct HeardReader<'a> {
+    pub(crate) heard: &'a Heard,
 }
 
 // The values of an attribute that an entry shows.

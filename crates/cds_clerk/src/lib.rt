@@ -5,6 +5,7 @@
 mod heard;
 mod importing;
 mod linking;
+mod planning;
 mod reading;
 mod searching;
 mod walking;
@@ -12,6 +13,7 @@ mod walking;
 pub use heard::{Answered, Answers, Heard, Lack, Looked, Root};
 pub use importing::import;
 pub use linking::read_link;
+pub use planning::{NamedUpdate, Plan, Planned, plan_of, plan_update};
 pub use reading::{Outcome, read};
 pub use searching::{Searched, search};
 pub use walking::{Walked, walk};

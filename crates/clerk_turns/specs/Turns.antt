@@ -1,6 +1,5 @@
 -- What a clerk makes of each line.
 use Rattle.std.specs.Prelude.{◌≡◌, ◌⊎◌, ℕ, ◌+◌, Bool, true, false, nat_lt, if◌then◌else◌, is_some, List, [], ◌∷◌, ◌++◌, Option, Some, None, Result, Ok, Err, slice_get, codes}
-use Rattle.std.specs.Global.{Vec}
 use Rattle.cds_base.specs.Counts.{next_count}
 use Rattle.cds_stamps.specs.Numbers.{root_dir}
 use Rattle.cds_stamps.specs.declared.numbers.HouseNo.{HouseNo}
@@ -35,7 +34,7 @@ use Rattle.clerk_turns.specs.declared.clerk.Topic.TheVariants as topic
 use Rattle.clerk_turns.specs.Commands.{is_high}
 use Rattle.clerk_turns.specs.Answers.{IsAnswer}
 use Rattle.clerk_turns.specs.ClerkRows.{command_said}
-use Rattle.clerk_turns.specs.Clerks.{IsJobTaken, IsQuestionTaken, waits_for}
+use Rattle.clerk_turns.specs.Clerks.{TakesJob, TakesQuestion, waits_for}
 use Rattle.clerk_turns.specs.Says.{answer_said, fault_said}
 
 -- the one, if a test says so, and else the other
@@ -78,11 +77,9 @@ abbrev pub is_unreached : Answer → Bool
 is_unreached (answer.Refused (why.Unreachable dir)) = true
 is_unreached other = false
 
--- a command has this answer, and ends. Where the root directory is is not known any more, if a
--- directory was not reached
-pub record Ends (c : Clerk) (job : Job) (a : Answer) (said : List ℕ) (c' : Clerk) : Type 0 where
-  pub text : said ≡ answer_said job.number a
-  pub after : c' ≡ (if is_unreached a then record c { root = None } else c)
+-- where the root directory is is not known any more, if a directory was not reached
+abbrev pub after_answer : Answer → Clerk → Clerk
+after_answer a c = if is_unreached a then record c { root = None } else c
 
 -- the houses of a clerk are the same, and where the root directory was
 pub record IsSameBut (c c' : Clerk) : Type 0 where
@@ -100,18 +97,27 @@ pub record IsWithJob (c : Clerk) (job : Job) (c' : Clerk) : Type 0 where
   pub jobs : c'.jobs.items ≡ c.jobs.items ++ job ∷ []
   pub questions : c'.questions ≡ c.questions
 
--- a house is asked a line for a command; the question has the next number
-pub record Asks (c : Clerk) (job : ℕ) (house : HouseNo) (line : List ℕ) (of : Topic) (said : List ℕ) (c' : Clerk) : Type 0 where
+-- a house is asked a line for the command of this number; the question has the next number
+pub record Puts (c : Clerk) (job : ℕ) (house : HouseNo) (line : List ℕ) (of : Topic) (said : List ℕ) (c' : Clerk) : Type 0 where
   pub number : c'.asked ≡ next_count c.asked
   pub text : said ≡ ask_text c'.asked job house.0 line
   pub questions : c'.questions.items ≡ c.questions.items ++ record { number = c'.asked; job = job; topic = of } ∷ []
   pub others : IsSameBut c c'
 
--- a house is asked what shows of a name, and the command waits
-pub record AsksName (c : Clerk) (job : Job) (lack : Lack) (said : List ℕ) (c' : Clerk) : Type 0 where
-  pub mid : Clerk
-  pub with_job : IsWithJob c job mid
-  pub asks : Asks mid job.number lack.house (show_text (is_high job.command) lack.dir.0 lack.name) (topic.Show lack Begun) said c'
+-- a house is asked a line for a command, which waits
+pub record Asks (c : Clerk) (job : Job) (house : HouseNo) (line : List ℕ) (of : Topic) (said : List ℕ) (c' : Clerk) : Type 0 where
+  pub number : c'.asked ≡ next_count c.asked
+  pub text : said ≡ ask_text c'.asked job.number house.0 line
+  pub questions : c'.questions.items ≡ c.questions.items ++ record { number = c'.asked; job = job.number; topic = of } ∷ []
+  pub jobs : c'.jobs.items ≡ c.jobs.items ++ job ∷ []
+  pub near : c'.near ≡ c.near
+  pub houses : c'.houses ≡ c.houses
+  pub root : c'.root ≡ c.root
+
+-- a house is asked what shows of a name
+abbrev pub AsksName : Clerk → Job → Lack → (said : List ℕ) → Clerk → Type 0
+AsksName c job lack said c' =
+    Asks c job lack.house (show_text (is_high job.command) lack.dir.0 lack.name) (topic.Show lack Begun) said c'
 
 -- ---- how a command goes on
 
@@ -123,7 +129,8 @@ with_answer job a = record job { heard = record job.heard { answers = job.heard.
 pub record HasAnswer (c : Clerk) (job : Job) (said : List ℕ) (c' : Clerk) : Type 0 where
   pub answer : Answer
   pub is : IsAnswer job.heard job.command answer
-  pub ends : Ends c job answer said c'
+  pub text : said ≡ answer_said job.number answer
+  pub after : c' ≡ after_answer answer c
 
 -- a house is asked what shows of a name, which was not heard
 pub record Lacks (c : Clerk) (job : Job) (said : List ℕ) (c' : Clerk) : Type 0 where
@@ -131,29 +138,9 @@ pub record Lacks (c : Clerk) (job : Job) (said : List ℕ) (c' : Clerk) : Type 0
   pub unheard : IsUnheard job.heard lack
   pub asks : AsksName c job lack said c'
 
--- one of the two, if it knows where the root directory is
-abbrev pub GoesRooted : Clerk → Job → (said : List ℕ) → Clerk → Type 0
-GoesRooted c job said c' = HasAnswer c job said c' ⊎ Lacks c job said c'
-
--- it heard where the root directory is, and goes on so; the next commands begin there
-abbrev pub Settles : Clerk → Job → (said : List ℕ) → Clerk → Type 0
-Settles c job said c' =
-    GoesRooted (record c { root = place_of (root_in job.latest) }) (settled job) said c'
-
--- a house is asked where the root directory is, and the command waits
-pub record AsksHouse (c : Clerk) (job : Job) (place : ℕ) (house : HouseNo) (said : List ℕ) (c' : Clerk) : Type 0 where
-  pub mid : Clerk
-  pub with_job : IsWithJob c job mid
-  pub asks : Asks mid job.number house (codes "status 1") (topic.Root place) said c'
-
--- the house at this place is asked; if there is none, the command goes on
-abbrev pub AsksAtPlace : Option HouseNo → Clerk → Job → (place : ℕ) → (said : List ℕ) → Clerk → Type 0
-AsksAtPlace None c job place said c' = Settles c job said c'
-AsksAtPlace (Some house) c job place said c' = AsksHouse c job place house said c'
-
--- likewise by its place
-abbrev pub AsksAt : Clerk → Job → (place : ℕ) → (said : List ℕ) → Clerk → Type 0
-AsksAt c job place said c' = AsksAtPlace (slice_get c.houses.items place) c job place said c'
+-- a house is asked where the root directory is
+abbrev pub AsksHouse : Clerk → Job → (place : ℕ) → HouseNo → (said : List ℕ) → Clerk → Type 0
+AsksHouse c job place house said c' = Asks c job house (codes "status 1") (topic.Root place) said c'
 
 -- the number of the question to each of these houses, and those after it
 abbrev pub number_after : ℕ → List HouseNo → ℕ
@@ -174,27 +161,49 @@ root_questions asked job place (h ∷ hs) =
     ∷ root_questions (next_count asked) job (place + 1) hs
 
 -- all houses are asked where the root directory is
-pub record AsksEach (c : Clerk) (job : ℕ) (said : List ℕ) (c' : Clerk) : Type 0 where
+pub record PutsEach (c : Clerk) (job : ℕ) (said : List ℕ) (c' : Clerk) : Type 0 where
   pub number : c'.asked ≡ number_after c.asked c.houses.items
   pub text : said ≡ root_asks c.asked job c.houses.items
   pub questions : c'.questions.items ≡ c.questions.items ++ root_questions c.asked job 0 c.houses.items
   pub others : IsSameBut c c'
 
--- all at once, and the command waits
+-- all at once, for a command, which waits
 pub record AsksAll (c : Clerk) (job : Job) (said : List ℕ) (c' : Clerk) : Type 0 where
-  pub mid : Clerk
-  pub with_job : IsWithJob c job mid
-  pub asks : AsksEach mid job.number said c'
+  pub number : c'.asked ≡ number_after c.asked c.houses.items
+  pub text : said ≡ root_asks c.asked job.number c.houses.items
+  pub questions : c'.questions.items ≡ c.questions.items ++ root_questions c.asked job.number 0 c.houses.items
+  pub jobs : c'.jobs.items ≡ c.jobs.items ++ job ∷ []
+  pub near : c'.near ≡ c.near
+  pub houses : c'.houses ≡ c.houses
+  pub root : c'.root ≡ c.root
 
--- where the root directory is is asked: all houses at once, or the first one
-abbrev pub AsksRoot : Clerk → Job → (said : List ℕ) → Clerk → Type 0
-AsksRoot c job said c' = AsksAll c job said c' ⊎ AsksAt c job 0 said c'
+-- a command that knows where the root directory is goes on by all that was heard for it: it has its
+-- answer, or something lacks
+abbrev pub GoesRooted : Clerk → Job → (said : List ℕ) → Clerk → Type 0
+GoesRooted c job said c' = HasAnswer c job said c' ⊎ Lacks c job said c'
 
--- a command goes on by all that was heard for it; where the root directory is is asked only if that
--- was not heard
+-- it heard where the root directory is, and goes on so; the next commands begin there
+abbrev pub Settles : Clerk → Job → (said : List ℕ) → Clerk → Type 0
+Settles c job said c' =
+    GoesRooted (record c { root = place_of (root_in job.latest) }) (settled job) said c'
+
+-- the house at this place is asked; if there is none, the command goes on
+abbrev pub AsksAtPlace : Option HouseNo → Clerk → Job → (place : ℕ) → (said : List ℕ) → Clerk → Type 0
+AsksAtPlace None c job place said c' = Settles c job said c'
+AsksAtPlace (Some house) c job place said c' = AsksHouse c job place house said c'
+
+-- likewise by its place
+abbrev pub AsksAt : Clerk → Job → (place : ℕ) → (said : List ℕ) → Clerk → Type 0
+AsksAt c job place said c' = AsksAtPlace (slice_get c.houses.items place) c job place said c'
+
+-- where the root directory is was not heard, and is asked: of all houses at once, or of the first
+pub record AsksRoot (c : Clerk) (job : Job) (said : List ℕ) (c' : Clerk) : Type 0 where
+  pub unheard : heard_root job.heard.root ≡ None
+  pub asks : AsksAll c job said c' ⊎ AsksAt c job 0 said c'
+
+-- a command goes on by all that was heard for it
 abbrev pub Goes : Clerk → Job → (said : List ℕ) → Clerk → Type 0
-Goes c job said c' =
-    GoesRooted c job said c' ⊎ ((heard_root job.heard.root ≡ None) × AsksRoot c job said c')
+Goes c job said c' = GoesRooted c job said c' ⊎ AsksRoot c job said c'
 
 -- ---- what a line does
 
@@ -219,18 +228,15 @@ Begins c number (Err fault) said c' = (said ≡ fault_said number fault) × (c' 
 abbrev pub IsVain : Clerk → (said : List ℕ) → Clerk → Type 0
 IsVain c said c' = (said ≡ []) × (c' ≡ c)
 
--- the command of this number is taken up, and this comes of it; or there is none
-pub record TakesUp (c : Clerk) (number : ℕ) (P : Clerk → Job → Type 0) : Type 0 where
-  pub jobs : Vec Job
-  pub job : Job
-  pub taken : IsJobTaken number c.jobs.items job jobs.items
-  pub comes : P (record c { jobs = jobs }) job
+-- the command of this number is taken out, and this comes of it
+abbrev pub WithJob : Clerk → (number : ℕ) → (Clerk → Job → Type 0) → Type 0
+WithJob c number P = (mid : Clerk) × (job : Job) × TakesJob number c job mid × P mid job
 
 -- a house told what shows of a name: the command goes on with that
 abbrev pub IsTold : Clerk → (number : ℕ) → Lack → Told → (said : List ℕ) → Clerk → Type 0
 IsTold c number lack t said c' =
     IsVain c said c'
-    ⊎ TakesUp c number (λ d job. Goes d (with_answer job (record { dir = lack.dir; house = lack.house; name = lack.name; told = t })) said c')
+    ⊎ WithJob c number (λ d job. Goes d (with_answer job (record { dir = lack.dir; house = lack.house; name = lack.name; told = t })) said c')
 
 -- a command waits for the others that were asked, or has all answers, and goes on
 abbrev pub Waits : Clerk → Job → (said : List ℕ) → Clerk → Type 0
@@ -247,7 +253,7 @@ RootHeard c job place said c' =
 abbrev pub IsRootTold : Clerk → (number place : ℕ) → Option RootList → (said : List ℕ) → Clerk → Type 0
 IsRootTold c number place list said c' =
     IsVain c said c'
-    ⊎ TakesUp c number (λ d job. RootHeard d (record job { latest = later_list job.latest list }) place said c')
+    ⊎ WithJob c number (λ d job. RootHeard d (record job { latest = later_list job.latest list }) place said c')
 
 -- a question has its whole answer, of which this is the last line
 abbrev pub AnswersTopic : Topic → Clerk → (job : ℕ) → (last said : List ℕ) → Clerk → Type 0
@@ -269,18 +275,15 @@ pub record HearsMore (c : Clerk) (q : Question) (line said : List ℕ) (c' : Cle
   pub others : IsSameBut c c'
   pub asked : c'.asked ≡ c.asked
 
--- the question of this number is taken up, and this comes of it
-pub record TakesQuestion (c : Clerk) (number : ℕ) (P : Clerk → Question → Type 0) : Type 0 where
-  pub questions : Vec Question
-  pub question : Question
-  pub taken : IsQuestionTaken number c.questions.items question questions.items
-  pub comes : P (record c { questions = questions }) question
+-- the question of this number is taken out, and this comes of it
+abbrev pub WithQuestion : Clerk → (number : ℕ) → (Clerk → Question → Type 0) → Type 0
+WithQuestion c number P = (mid : Clerk) × (q : Question) × TakesQuestion number c q mid × P mid q
 
 -- a line of the answer to a question
 abbrev pub Hears : Clerk → (number : ℕ) → (line said : List ℕ) → Clerk → Type 0
 Hears c number line said c' =
     IsVain c said c'
-    ⊎ TakesQuestion c number (λ d q. Cases (is_last line) (IsAnswered d q line said c') (HearsMore d q line said c'))
+    ⊎ WithQuestion c number (λ d q. Cases (is_last line) (IsAnswered d q line said c') (HearsMore d q line said c'))
 
 -- the house of a question is not reached: what it was asked is passed over
 abbrev pub TopicDown : Topic → Clerk → (job : ℕ) → (said : List ℕ) → Clerk → Type 0
@@ -289,7 +292,7 @@ TopicDown (topic.Root place) c job said c' = IsRootTold c job place None said c'
 
 abbrev pub IsDown : Clerk → (number : ℕ) → (said : List ℕ) → Clerk → Type 0
 IsDown c number said c' =
-    IsVain c said c' ⊎ TakesQuestion c number (λ d q. TopicDown q.topic d q.job said c')
+    IsVain c said c' ⊎ WithQuestion c number (λ d q. TopicDown q.topic d q.job said c')
 
 -- what comes of a line by what it is, its number, and its text
 abbrev pub TakesWord : ClerkWord → Clerk → (number : ℕ) → (text said : List ℕ) → Clerk → Type 0

@@ -1,6 +1,6 @@
 // A clerk: the commands that are under way, and what houses are asked for them.
 ghost use Rattle.std.specs.Prelude.{◌≡◌, [], ◌<◌, None, IfNone, IfSome, length, slice_get};
-ghost use Rattle.clerk_turns.specs.Clerks.{IsJobTaken, IsQuestionTaken, waits_for};
+ghost use Rattle.clerk_turns.specs.Clerks.{IsJobTaken, IsQuestionTaken, TakesJob, TakesQuestion, waits_for};
 
 use crate::command::Command;
 use cds_clerk::{Heard, Lack};
@@ -84,8 +84,8 @@ fn place_of_question(questions: &[Question], number: u64) -> Option<usize>
     None
 }
 
-/// Takes a question out by its number.
-pub(crate) fn take_question(questions: &mut Vec<Question>, number: u64) -> Option<Question>
+// Takes a question out by its number.
+fn take_question(questions: &mut Vec<Question>, number: u64) -> Option<Question>
     ensures some { IfSome result (λ q. IsQuestionTaken number questions.old.items q questions.new.items) }
     ensures none { IfNone result (questions.new ≡ questions.old) }
 {
@@ -106,13 +106,31 @@ fn place_of_job(jobs: &[Job], number: u64) -> Option<usize>
     None
 }
 
-/// Takes a command out by its number.
-pub(crate) fn take_job(jobs: &mut Vec<Job>, number: u64) -> Option<Job>
+// Takes a command out by its number.
+fn take_job(jobs: &mut Vec<Job>, number: u64) -> Option<Job>
     ensures some { IfSome result (λ j. IsJobTaken number jobs.old.items j jobs.new.items) }
     ensures none { IfNone result (jobs.new ≡ jobs.old) }
 {
     let place = place_of_job(jobs, number)?;
     Some(jobs.remove(place))
+}
+
+impl Clerk {
+    /// Takes a question out by its number.
+    pub(crate) fn take_question(&mut self, number: u64) -> Option<Question>
+        ensures some { IfSome result (λ q. TakesQuestion number self.old q self.new) }
+        ensures none { IfNone result (self.new ≡ self.old) }
+    {
+        take_question(&mut self.questions, number)
+    }
+
+    /// Takes a command out by its number.
+    pub(crate) fn take_job(&mut self, number: u64) -> Option<Job>
+        ensures some { IfSome result (λ j. TakesJob number self.old j self.new) }
+        ensures none { IfNone result (self.new ≡ self.old) }
+    {
+        take_job(&mut self.jobs, number)
+    }
 }
 
 /// Whether a question waits that is asked for this command.

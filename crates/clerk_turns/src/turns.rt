@@ -1,11 +1,13 @@
 // What a clerk makes of each line that it reads.
-ghost use Rattle.std.specs.Prelude.{◌≡◌, IfOk, IsSome, slice_get};
+ghost use Rattle.std.specs.Prelude.{◌≡◌, ℕ, List, None, IfOk, IsSome, slice_get};
+ghost use Rattle.clerk_lines.specs.ClerkTexts.{show_text};
 ghost use Rattle.cell_script.specs.Words.{words_of};
-ghost use Rattle.cds_clerk.specs.Heards.{heard_root};
+ghost use Rattle.cds_clerk.specs.Heards.{IsUnheard, heard_root};
+ghost use Rattle.clerk_turns.specs.Answers.{IsAnswer};
 ghost use Rattle.clerk_turns.specs.ClerkRows.{command_said};
-ghost use Rattle.clerk_turns.specs.Turns.{Asks, AsksAt, AsksEach, AsksName, AsksRoot, Begins, Ends, Goes, GoesRooted, Hears, HearsMore, IsAnswered, IsDown, IsFirst, IsRootTold, IsTold, IsTurn, Settles, TakesWord, Waits, is_unreached, later_list, place_of, rest_root, root_in, settled};
+ghost use Rattle.clerk_turns.specs.Turns.{Asks, AsksAll, AsksAt, Begins, Goes, GoesRooted, Hears, HearsMore, IsAnswered, IsDown, IsFirst, IsRootTold, IsTold, IsTurn, Puts, PutsEach, Settles, TakesWord, Waits, after_answer, is_unreached, later_list, place_of, rest_root, root_in, settled};
 
-use crate::clerk::{Clerk, Job, Question, Topic, take_job, take_question, waits_for};
+use crate::clerk::{Clerk, Job, Question, Topic, waits_for};
 use crate::command::{Command, parse_command};
 use crate::outcomes::outcome;
 use crate::says::{say_answer, say_fault};
@@ -98,6 +100,15 @@ fn settled(job: Job) -> Job
     }
 }
 
+// The question what shows of a name.
+fn show_line(alloc: Global, high: bool, lack: &Lack) -> Result<Vec<u8>, AllocError>
+    ensures { IfOk result (λ line. line.items ≡ show_text high lack.now.dir.0 lack.now.name) }
+{
+    let mut line = Vec::new(alloc);
+    push_show(&mut line, high, lack.dir, &lack.name)?;
+    Ok(line)
+}
+
 // Whether an answer says that no house of a directory is reached.
 fn is_unreached(answer: &Answer) -> bool
     ensures { result ≡ is_unreached answer.now }
@@ -106,18 +117,26 @@ fn is_unreached(answer: &Answer) -> bool
 }
 
 impl Clerk {
-    // A command has its answer, and ends.
-    fn end(&mut self, alloc: Global, job: Job, answer: Answer) -> Result<Vec<u8>, AllocError>
-        ensures { IfOk result (λ text. Ends self.old job answer text.items self.new) }
+    // Where the root directory is is not known any more, if a directory was not reached.
+    fn forget(&mut self, answer: &Answer)
+        ensures { self.new ≡ after_answer answer.now self.old }
     {
-        if is_unreached(&answer) {
+        if is_unreached(answer) {
             self.root = None;
         }
+    }
+
+    // A command has its answer, and ends.
+    fn end(&mut self, alloc: Global, job: Job, answer: Answer) -> Result<Vec<u8>, AllocError>
+        requires { IsAnswer job.heard job.command answer }
+        ensures { IfOk result (λ text. GoesRooted self.old job text.items self.new) }
+    {
+        self.forget(&answer);
         say_answer(alloc, job.number, &answer)
     }
 
-    // Asks a house for a command.
-    fn ask(
+    // Asks a house for the command of this number.
+    fn put(
         &mut self,
         alloc: Global,
         job: u64,
@@ -126,7 +145,7 @@ impl Clerk {
         topic: Topic,
     ) -> Result<Vec<u8>, AllocError>
         ensures { IfOk result
-            (λ text. Asks self.old job house line.now topic text.items self.new) }
+            (λ text. Puts self.old job house line.now topic text.items self.new) }
     {
         self.asked = self.asked.saturating_add(1);
         self.questions.push(Question {
@@ -139,21 +158,31 @@ impl Clerk {
         Ok(text)
     }
 
+    // Asks a house for a command, which waits.
+    fn ask(
+        &mut self,
+        alloc: Global,
+        job: Job,
+        house: HouseNo,
+        line: &[u8],
+        topic: Topic,
+    ) -> Result<Vec<u8>, AllocError>
+        ensures { (asks : List ℕ) → line.now ≡ asks → IfOk result
+            (λ text. Asks self.old job house asks topic text.items self.new) }
+    {
+        let text = self.put(alloc, job.number, house, line, topic)?;
+        self.jobs.push(job)?;
+        Ok(text)
+    }
+
     // Asks a house what shows of a name.
     fn ask_name(&mut self, alloc: Global, job: Job, lack: Lack) -> Result<Vec<u8>, AllocError>
-        ensures { IfOk result (λ text. AsksName self.old job lack text.items self.new) }
+        requires { IsUnheard job.heard lack }
+        ensures { IfOk result (λ text. GoesRooted self.old job text.items self.new) }
     {
-        let mut line = Vec::new(alloc);
-        push_show(&mut line, job.command.is_high(), lack.dir, &lack.name)?;
-        let (number, house) = (job.number, lack.house);
-        self.jobs.push(job)?;
-        self.ask(
-            alloc,
-            number,
-            house,
-            &line,
-            Topic::Show(lack, Hearing::Begun),
-        )
+        let line = show_line(alloc, job.command.is_high(), &lack)?;
+        let house = lack.house;
+        self.ask(alloc, job, house, &line, Topic::Show(lack, Hearing::Begun))
     }
 
     // Goes on with a command that knows where the root directory is: it has its answer, or a house
@@ -183,11 +212,7 @@ impl Clerk {
         ensures { IfOk result (λ text. AsksAt self.old job place text.items self.new) }
     {
         match self.house_at(place) {
-            Some(house) => {
-                let number = job.number;
-                self.jobs.push(job)?;
-                self.ask(alloc, number, house, STATUS, Topic::Root(place))
-            }
+            Some(house) => self.ask(alloc, job, house, STATUS, Topic::Root(place)),
             None => self.settle(alloc, job),
         }
     }
@@ -200,33 +225,38 @@ impl Clerk {
     }
 
     // Asks all houses where the root directory is.
-    fn ask_each(&mut self, alloc: Global, job: u64) -> Result<Vec<u8>, AllocError>
-        ensures { IfOk result (λ text. AsksEach self.old job text.items self.new) }
+    fn put_each(&mut self, alloc: Global, job: u64) -> Result<Vec<u8>, AllocError>
+        ensures { IfOk result (λ text. PutsEach self.old job text.items self.new) }
     {
         let mut text = Vec::new(alloc);
-        for (place, house) in self.houses.iter().enumerate() {
-            self.asked = self.asked.saturating_add(1);
-            self.questions.push(Question {
-                number: self.asked,
-                job,
-                topic: Topic::Root(place),
-            })?;
-            push_ask(&mut text, self.asked, job, *house, STATUS)?;
+        for place in 0..self.houses.len() {
+            let house = self.houses[place];
+            let asks = self.put(alloc, job, house, STATUS, Topic::Root(place))?;
+            text.extend_from_slice(&asks)?;
         }
+        Ok(text)
+    }
+
+    // The same for a command, which waits.
+    fn ask_each(&mut self, alloc: Global, job: Job) -> Result<Vec<u8>, AllocError>
+        ensures { IfOk result (λ text. AsksAll self.old job text.items self.new) }
+    {
+        let text = self.put_each(alloc, job.number)?;
+        self.jobs.push(job)?;
         Ok(text)
     }
 
     // Asks where the root directory is: all houses at once, if masters alone are trusted, and else
     // the first one.
     fn ask_root(&mut self, alloc: Global, job: Job) -> Result<Vec<u8>, AllocError>
-        ensures { IfOk result (λ text. AsksRoot self.old job text.items self.new) }
+        requires { heard_root job.heard.root ≡ None }
+        ensures { IfOk result (λ text. Goes self.old job text.items self.new) }
     {
         if self.houses.is_empty() || !job.command.is_high() {
-            return self.ask_at(alloc, job, 0);
+            self.ask_at(alloc, job, 0)
+        } else {
+            self.ask_each(alloc, job)
         }
-        let number = job.number;
-        self.jobs.push(job)?;
-        self.ask_each(alloc, number)
     }
 
     // Goes on with a command, by all that was heard for it.
@@ -290,7 +320,7 @@ impl Clerk {
     ) -> Result<Vec<u8>, AllocError>
         ensures { IfOk result (λ text. IsTold self.old number lack told text.items self.new) }
     {
-        let Some(mut job) = take_job(&mut self.jobs, number) else {
+        let Some(mut job) = self.take_job(number) else {
             return Ok(Vec::new(alloc));
         };
         let Lack { dir, house, name } = lack;
@@ -314,7 +344,7 @@ impl Clerk {
         ensures { IfOk result
             (λ text. IsRootTold self.old number place list text.items self.new) }
     {
-        let Some(mut job) = take_job(&mut self.jobs, number) else {
+        let Some(mut job) = self.take_job(number) else {
             return Ok(Vec::new(alloc));
         };
         job.latest = later_list(job.latest, list);
@@ -386,7 +416,7 @@ impl Clerk {
     fn hear(&mut self, alloc: Global, number: u64, line: &[u8]) -> Result<Vec<u8>, AllocError>
         ensures { IfOk result (λ text. Hears self.old number line.now text.items self.new) }
     {
-        let Some(question) = take_question(&mut self.questions, number) else {
+        let Some(question) = self.take_question(number) else {
             return Ok(Vec::new(alloc));
         };
         if is_last(line) {
@@ -400,7 +430,7 @@ impl Clerk {
     fn down(&mut self, alloc: Global, number: u64) -> Result<Vec<u8>, AllocError>
         ensures { IfOk result (λ text. IsDown self.old number text.items self.new) }
     {
-        let Some(question) = take_question(&mut self.questions, number) else {
+        let Some(question) = self.take_question(number) else {
             return Ok(Vec::new(alloc));
         };
         let Question {
