@@ -20,7 +20,10 @@ use cds_stamps::{AllocOr, AttrName, DirId, HouseNo, SimpleName};
 use cell_names::FullName;
 use cell_script::{Note, StringBindings, Uuids};
 use directory::Update;
-use ns_commands::{Updates, add_element, add_member, delete_element, delete_member, export, refusal_of_walk, unexport};
+use ns_commands::{
+    Updates, add_element, add_member, delete_element, delete_member, export, refusal_of_walk,
+    unexport,
+};
 use resolver::laws::ends_are_seen;
 use resolver::{End, EntryReader};
 use script_answers::ScriptRefusal;
@@ -88,7 +91,14 @@ impl Plan {
     {
         match self {
             Plan::Export(name, interface, bindings, objects) => {
-                export(alloc, reader, name, interface, bindings.list(), objects.list())
+                export(
+                    alloc,
+                    reader,
+                    name,
+                    interface,
+                    bindings.list(),
+                    objects.list(),
+                )
             }
             Plan::Unexport(name, interface, objects) => {
                 unexport(alloc, reader, name, interface.as_ref(), objects.list())
