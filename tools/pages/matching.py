@@ -12,7 +12,7 @@ ADDED = {
     "a command": (("Command", "Question", "Step"), (("Commands", "Command"),)),
     "a message": (("Body",), (("Cells", "Body"),)),
     "a form": (("Form", "LineForm"), ()),
-    "a line of a house": (("HouseLine",), ()),
+    "a line of a house": (("HouseLine", "HouseOrder"), ()),
     "a question of a house": (("HouseQuestion",), ()),
     "a reason": (("Cause",), ()),
 }

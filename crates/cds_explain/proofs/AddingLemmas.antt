@@ -12,8 +12,8 @@ use Rattle.cell_model.proofs.Runs.{replay-append}
 use Rattle.cell_runs.specs.Entries.{Entry}
 use Rattle.cell_runs.specs.Views.{seen_at}
 use Rattle.house_logs.specs.declared.log.LogEntry.{LogEntry}
-use Rattle.house_logs.specs.declared.order.LoggedOrder.{LoggedOrder}
-use Rattle.house_logs.specs.declared.order.LoggedOrder.TheVariants as order
+use Rattle.house_lines.specs.declared.line.HouseOrder.{HouseOrder}
+use Rattle.house_lines.specs.declared.line.HouseOrder.TheVariants as order
 use Rattle.cds_explain.specs.Explained.{Scripts, view}
 use Rattle.cds_explain.specs.LoggedEntries.{AreLogged, IsLogged, NextEntry, NoEntry}
 use Rattle.cds_explain.specs.PrivateConsole.{IsReady}
@@ -186,23 +186,18 @@ timed_entry cs x time known l mid new a is does =
     (goes_more cs x time (clock_after a.new x) [] (l ∷ []) mid new a (entry_goes a.new x l new does))
 
 -- what a turn needs is as it was before the clock was set
-ready_then : (g : Cell) (x time : ℕ) (o : LoggedOrder) (serial : ℕ) → IsReady g x o serial → IsReady (outcome g (commands.Clock x time)).cell x o serial
+ready_then : (g : Cell) (x time : ℕ) (o : HouseOrder) (serial : ℕ) → IsReady g x o serial → IsReady (outcome g (commands.Clock x time)).cell x o serial
 ready_then g x time o serial ready = by (first_refusal (refusals_of g (commands.Clock x time)))
   where
-    set : (o : LoggedOrder) → IsReady g x o serial → IsReady (set_clock g x time) x o serial
-    set (order.Root ls) ready = ready
-    set (order.Mkdir d n made ls) ready = ready
-    set (order.Repoint d n m rs) ready = tt
-    set (order.Update d u) ready = tt
-    set (order.Skulk d) ready = tt
-    set (order.Epoch d k list) ready = ready
+    set : (o : HouseOrder) → IsReady g x o serial → IsReady (set_clock g x time) x o serial
     set (order.Take octets) ready = record { m = ready.m; there = ready.there; receiver = ready.receiver; octets_are = ready.octets_are }
+    set other ready = ready
 
     by : (r : Option Refusal) → IsReady (unless g r (stays (set_clock g x time) Done)).cell x o serial
     by None = set o ready
     by (Some r) = ready
 
-pub ready_timed : (cs : List Command) (x time : ℕ) (o : LoggedOrder) (serial : ℕ) (r : Replay) → IsReady (replay cs) x o serial → (timed : IsTimed cs x time r)
+pub ready_timed : (cs : List Command) (x time : ℕ) (o : HouseOrder) (serial : ℕ) (r : Replay) → IsReady (replay cs) x o serial → (timed : IsTimed cs x time r)
     → IsReady (replay (timed_goes cs x time r timed).new) x o serial
 unfolding timed_goes
 ready_timed cs x time o serial r ready (inl (has_done, clock)) = ready

@@ -28,7 +28,7 @@ use Rattle.script_answers.specs.declared.answer.Answer.{Answer}
 use Rattle.house_directory.specs.HouseMessages.{numbers_of}
 use Rattle.house_lines.specs.declared.line.EpochList.{EpochList}
 use Rattle.house_logs.specs.declared.log.PostedOctets.{PostedOctets}
-use Rattle.house_logs.specs.declared.order.LoggedOrder.TheVariants as order
+use Rattle.house_lines.specs.declared.line.HouseOrder.TheVariants as order
 use Rattle.cds_explain.specs.LoggedEntries.{post_of}
 use Rattle.cds_explain.specs.PrivateComparing.{ArePostedAfter, IsPosted, own_of}
 use Rattle.cds_explain.specs.PrivateConsole.{IsListedAs}

@@ -8,32 +8,23 @@ use Rattle.directory.specs.Updates.{change_of}
 use Rattle.cell_model.specs.Cells.{Cell, Message}
 use Rattle.cell_model.specs.Commands as model
 use Rattle.cell_model.specs.Steps.{Outcome, outcome}
-use Rattle.cell_script.specs.Listings.{houses_in, secondaries_in}
-use Rattle.cell_script.specs.declared.lists.Listed.{Listed}
 use Rattle.cell_script.specs.declared.command.Command.{Command}
-use Rattle.house_directory.specs.HouseMessages.{numbers_of}
 use Rattle.cds_cell.specs.Recorded.{octets_of}
 use Rattle.cds_cell.specs.Scripted.{step_of}
 use Rattle.cell_runs.specs.Entries.{Mkdir, Order, Take, Turned}
 use Rattle.cell_runs.specs.LineAnswers.{answer_said}
+use Rattle.cell_runs.specs.LineOrders.{listed_houses, listed_secondaries, order_of}
 use Rattle.cell_runs.specs.Views as views
 use Rattle.cell_runs.specs.Views.{image_in, or_none, seen_at, taking_seen, turn_seen}
 use Rattle.house_logs.specs.declared.log.LoggedTurn.{LoggedTurn}
-use Rattle.house_logs.specs.declared.order.LoggedOrder.{LoggedOrder}
-use Rattle.house_logs.specs.declared.order.LoggedOrder.TheVariants as order
+use Rattle.house_lines.specs.declared.line.HouseOrder.{HouseOrder}
+use Rattle.house_lines.specs.declared.line.HouseOrder.TheVariants as order
 use Rattle.entry_lines.specs.EntryCommands.{IsCommandOf, update_command}
-use Rattle.cds_explain.specs.LoggedEntries.{order_of, turn_of}
+use Rattle.cds_explain.specs.LoggedEntries.{turn_of}
 use Rattle.cds_explain.specs.PrivateComparing.{DoesTurn, IsOrdered}
 
 some_is : {A : Type 0} {x y : A} → Some x ≡ Some y → x ≡ y
 some_is is = cc
-
--- the other houses of a list, and those of them that are secondary
-abbrev houses_of : List Listed → List ℕ
-houses_of ls = numbers_of (houses_in ls)
-
-abbrev secondaries_of : List Listed → List ℕ
-secondaries_of ls = numbers_of (secondaries_in ls)
 
 -- what is seen of a turn that was compared
 pub turn_is : (g : Cell) (x : ℕ) (t : LoggedTurn) (o : Outcome) → DoesTurn g x t o → (g.house x).clock ≡ t.clock
@@ -73,7 +64,7 @@ update_is h d (update.Clear n a) c is = ap step_of (sym (some_is is))
 update_is h d (update.Repoint n houses) c is = absurd (cc (is))
 
 -- a command that does an order, with what the console and the bag have, is seen as that order
-pub order_seen : (g : Cell) (h : HouseNo) (o : LoggedOrder) (serial : ℕ) (c : Command) → IsCommandOf h o serial c → IsOrdered g h.0 o serial (step_of c)
+pub order_seen : (g : Cell) (h : HouseNo) (o : HouseOrder) (serial : ℕ) (c : Command) → IsCommandOf h o serial c → IsOrdered g h.0 o serial (step_of c)
     → seen_at g (step_of c) ≡ turn_seen g h.0 (order_of o) (outcome g (step_of c))
 order_seen g h (order.Root ls) serial c is given =
     subst (λ (z : Command). seen_at g (step_of z) ≡ turn_seen g h.0 (order_of (order.Root ls)) (outcome g (step_of z))) (sym is) refl
@@ -83,10 +74,10 @@ order_seen g h (order.Mkdir d n made ls) serial c is given =
     ∙ ap (λ (k : ℕ). turn_seen g h.0 (Mkdir d.0 n k rs ss) made_there) given)
   where
     rs : List ℕ
-    rs = houses_of ls
+    rs = listed_houses ls
 
     ss : List ℕ
-    ss = secondaries_of ls
+    ss = listed_secondaries ls
 
     made_there : Outcome
     made_there = outcome g (model.Mkdir h.0 d.0 n h.0 rs ss)

@@ -20,8 +20,8 @@ use Rattle.cell_runs.specs.LineAnswers.{answer_said}
 use Rattle.cell_runs.specs.Views.{image_in, is_turn, start_seen}
 use Rattle.house_directory.specs.HouseMessages.{numbers_of}
 use Rattle.house_logs.specs.declared.log.LoggedTurn.{LoggedTurn}
-use Rattle.house_logs.specs.declared.order.LoggedOrder.{LoggedOrder}
-use Rattle.house_logs.specs.declared.order.LoggedOrder.TheVariants as order
+use Rattle.house_lines.specs.declared.line.HouseOrder.{HouseOrder}
+use Rattle.house_lines.specs.declared.line.HouseOrder.TheVariants as order
 use Rattle.script_answers.specs.Texts.{answer_line}
 use Rattle.script_answers.specs.declared.answer.Answer.{Answer}
 use Rattle.script_answers.specs.declared.answer.Answer.TheVariants as answer
@@ -123,14 +123,10 @@ start_done old mid new cs h line image has stepped text lines replayer says same
 
 -- what the console and the bag have to have for an order: of an epoch what the console lists after
 -- it
-pub ordered : (g : Cell) (h : HouseNo) (o : LoggedOrder) (serial : ℕ) (c : Command) (before : List Member) → IsCommandOf h o serial c → IsReady g h.0 o serial
+pub ordered : (g : Cell) (h : HouseNo) (o : HouseOrder) (serial : ℕ) (c : Command) (before : List Member) → IsCommandOf h o serial c → IsReady g h.0 o serial
     → is_turn (outcome g (step_of c)).answer ≡ true → HasMembers g o before → IsListedAs (outcome g (step_of c)).cell o before
     → IsOrdered g h.0 o serial (step_of c)
-ordered g h (order.Root ls) serial c before is ready turn has lists = tt
 ordered g h (order.Mkdir d n made ls) serial c before is ready turn has lists = ready.1
-ordered g h (order.Repoint d n m rs) serial c before is ready turn has lists = tt
-ordered g h (order.Update d u) serial c before is ready turn has lists = tt
-ordered g h (order.Skulk d) serial c before is ready turn has lists = tt
 ordered g h (order.Take octets) serial c before is ready turn has lists = ready
 ordered g h (order.Epoch d k list) serial c before is ready turn has lists = record {
   rs = rs;
@@ -161,6 +157,7 @@ ordered g h (order.Epoch d k list) serial c before is ready turn has lists = rec
     left =
         (λ j. left_members (sym (has ready.0) j) (members j))
         ∙ lists.1
+ordered g h other serial c before is ready turn has lists = tt
 
 -- a line more, and its command, which is a turn of the house h
 pub turn_done : (old mid new : Replay) (cs : List model.Command) (c : Command) (line : List ℕ) (h : HouseNo) (t : LoggedTurn) (serial : ℕ) (before : List Member) (a told : Answer)

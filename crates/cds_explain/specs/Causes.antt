@@ -3,8 +3,8 @@ use Rattle.std.specs.Prelude.{◌≡◌, ◌+◌, ◌≤◌, ◌<◌}
 use Rattle.cds_stamps.specs.declared.numbers.DirId.{DirId}
 use Rattle.cds_stamps.specs.declared.numbers.EpochNo.{EpochNo}
 use Rattle.cell_model.specs.Cells.{Cell}
-use Rattle.house_logs.specs.declared.order.LoggedOrder.{LoggedOrder}
-use Rattle.house_logs.specs.declared.order.LoggedOrder.TheVariants as order
+use Rattle.house_lines.specs.declared.line.HouseOrder.{HouseOrder}
+use Rattle.house_lines.specs.declared.line.HouseOrder.TheVariants as order
 use Rattle.cds_explain.specs.declared.cause.Cause.{Cause}
 use Rattle.cds_explain.specs.declared.cause.Cause.TheVariants as cause
 
@@ -34,7 +34,7 @@ HindersTake cause.NotPosted = Unit {0}
 HindersTake other = ⊥
 
 -- why an order cannot be next in this cell
-abbrev pub Hinders : Cell → LoggedOrder → Cause → Type 0
+abbrev pub Hinders : Cell → HouseOrder → Cause → Type 0
 Hinders g (order.Root ls) c = HindersRoot g c
 Hinders g (order.Mkdir d n made ls) c = HindersMkdir g made c
 Hinders g (order.Epoch d k list) c = HindersEpoch g d k c

@@ -19,8 +19,8 @@ use Rattle.house_logs.specs.declared.log.LoggedTurn.{LoggedTurn}
 use Rattle.house_directory.specs.HouseMessages.{numbers_of}
 use Rattle.house_lines.specs.declared.line.EpochList.{EpochList}
 use Rattle.house_logs.specs.declared.log.PostedOctets.{PostedOctets}
-use Rattle.house_logs.specs.declared.order.LoggedOrder.{LoggedOrder}
-use Rattle.house_logs.specs.declared.order.LoggedOrder.TheVariants as order
+use Rattle.house_lines.specs.declared.line.HouseOrder.{HouseOrder}
+use Rattle.house_lines.specs.declared.line.HouseOrder.TheVariants as order
 use Rattle.cds_explain.specs.LoggedEntries.{post_of}
 
 -- an answer of a turn, as a house has it, which knows no serials; none, if nothing was done
@@ -74,7 +74,7 @@ pub record IsGivenBy (g : Cell) (x : ℕ) (d : DirId) (k : EpochNo) (list : Epoc
 
 -- what the console and the bag have to have for an order of the house x, which the command c does:
 -- the number of a new directory, the list of an epoch, and the message that is taken
-abbrev pub IsOrdered : Cell → (x : ℕ) → LoggedOrder → (serial : ℕ) → Command → Type 0
+abbrev pub IsOrdered : Cell → (x : ℕ) → HouseOrder → (serial : ℕ) → Command → Type 0
 IsOrdered g x (order.Mkdir d n made ls) serial c = g.next_dir ≡ made.0
 IsOrdered g x (order.Epoch d k list) serial c = IsGivenBy g x d k list c
 IsOrdered g x (order.Take octets) serial c = IsPosted g serial x octets

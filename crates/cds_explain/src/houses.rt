@@ -6,7 +6,8 @@ ghost use Rattle.cds_explain.specs.PrivateExplainers.{HasTwin, IsFirstOfHouse, I
 
 use crate::cause::Cause;
 use cds_stamps::{HouseNo, Member, Node};
-use house_logs::{HouseLog, LogEntry, LoggedOrder};
+use house_lines::HouseOrder;
+use house_logs::{HouseLog, LogEntry};
 use std::alloc::{AllocError, Global};
 
 // How many numbers of houses there are.
@@ -84,15 +85,15 @@ fn name_members(named: &mut Vec<bool>, members: &[Member]) {
 }
 
 // Notes the houses that an order names.
-fn name_ordered(named: &mut Vec<bool>, order: &LoggedOrder) {
+fn name_ordered(named: &mut Vec<bool>, order: &HouseOrder) {
     match order {
-        LoggedOrder::Root(others) => name_houses(named, others.houses()),
-        LoggedOrder::Mkdir(_, _, _, others) => name_houses(named, others.houses()),
-        LoggedOrder::Repoint(_, _, master, others) => {
+        HouseOrder::Root(others) => name_houses(named, others.houses()),
+        HouseOrder::Mkdir(_, _, _, others) => name_houses(named, others.houses()),
+        HouseOrder::Repoint(_, _, master, others) => {
             name_house(named, *master);
             name_houses(named, others.list());
         }
-        LoggedOrder::Epoch(_, _, list) => name_members(named, list.members.list()),
+        HouseOrder::Epoch(_, _, list) => name_members(named, list.members.list()),
         _ => (),
     }
 }

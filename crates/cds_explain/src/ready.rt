@@ -10,7 +10,7 @@ use crate::cause::Cause;
 use crate::posted::PostedIndex;
 use cds_cell::Cell;
 use cds_stamps::{DirId, EpochNo, HouseNo};
-use house_logs::LoggedOrder;
+use house_lines::HouseOrder;
 
 const ROOT: DirId = DirId(1);
 
@@ -73,17 +73,17 @@ pub(crate) fn ready(
     cell: &Cell,
     posted: &PostedIndex,
     house: HouseNo,
-    order: &LoggedOrder,
+    order: &HouseOrder,
 ) -> Result<u64, Cause>
     ensures ready { (g : model.Cell) → Stands cell.now g
         → IfOk result (λ n. IsReady g house.0 order.now n) }
     ensures why { (g : model.Cell) → Stands cell.now g → IfErr result (Hinders g order.now) }
 {
     match order {
-        LoggedOrder::Root(_) => root_ready(cell),
-        LoggedOrder::Mkdir(_, _, made, _) => mkdir_ready(cell, *made),
-        LoggedOrder::Epoch(dir, epoch, _) => epoch_ready(cell, *dir, *epoch),
-        LoggedOrder::Take(octets) => posted
+        HouseOrder::Root(_) => root_ready(cell),
+        HouseOrder::Mkdir(_, _, made, _) => mkdir_ready(cell, *made),
+        HouseOrder::Epoch(dir, epoch, _) => epoch_ready(cell, *dir, *epoch),
+        HouseOrder::Take(octets) => posted
             .find(cell, house, octets.list())
             .ok_or(Cause::NotPosted),
         _ => Ok(0),

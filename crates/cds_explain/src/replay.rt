@@ -21,7 +21,8 @@ use cds_cell::Cell;
 use cds_stamps::{AllocOr, HouseNo, Member, Node};
 use cell_script::{Command, Octets};
 use entry_lines::Said;
-use house_logs::{LoggedOrder, LoggedTurn};
+use house_lines::HouseOrder;
+use house_logs::LoggedTurn;
 use script_answers::Answer;
 use script_replay::Replayer;
 use std::alloc::{AllocError, Global};
@@ -38,15 +39,11 @@ pub(crate) struct Replay {
 }
 
 // The members that a directory had before an epoch.
-fn members_before(
-    alloc: Global,
-    cell: &Cell,
-    order: &LoggedOrder,
-) -> Result<Vec<Member>, AllocError>
+fn members_before(alloc: Global, cell: &Cell, order: &HouseOrder) -> Result<Vec<Member>, AllocError>
     ensures { (g : Cell') → Stands cell.now g
         → IfOk result (λ v. HasMembers g order.now (members_of v.items)) }
 {
-    if let LoggedOrder::Epoch(dir, _, _) = order {
+    if let HouseOrder::Epoch(dir, _, _) = order {
         if let Some((_, members)) = cell.listing(*dir) {
             return Vec::from_slice(alloc, members.list());
         }
@@ -55,11 +52,11 @@ fn members_before(
 }
 
 // Whether the console gave the list that an epoch has, after one with these members.
-fn is_given(cell: &Cell, order: &LoggedOrder, before: &[Member]) -> bool
+fn is_given(cell: &Cell, order: &HouseOrder, before: &[Member]) -> bool
     ensures { (g : Cell') → Stands cell.now g
         → OnTrue result (IsListedAs g order.now (members_of before.now)) }
 {
-    let LoggedOrder::Epoch(dir, _, list) = order else {
+    let HouseOrder::Epoch(dir, _, list) = order else {
         return true;
     };
     match cell.listing(*dir) {
@@ -101,7 +98,7 @@ impl Replay {
 
     /// Why an order cannot be next; or the serial number of the message that it takes, if it takes
     /// one.
-    pub(crate) fn ready(&self, house: HouseNo, order: &LoggedOrder) -> Result<u64, Cause>
+    pub(crate) fn ready(&self, house: HouseNo, order: &HouseOrder) -> Result<u64, Cause>
         ensures { (g : Cell') → Stands self.now.replayer.cell g
             → IfOk result (λ n. IsReady g house.0 order.now n) }
     {

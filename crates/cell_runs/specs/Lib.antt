@@ -1,4 +1,5 @@
 pub mod Entries
+pub mod LineOrders
 pub mod LineAnswers
 pub mod OrderSteps
 pub mod HonestRuns

@@ -7,8 +7,8 @@ use Rattle.cds_stamps.specs.declared.members.MemberKind.{MemberKind}
 use Rattle.cds_stamps.specs.declared.members.MemberKind.TheVariants as kind
 use Rattle.cds_stamps.specs.declared.numbers.HouseNo.{HouseNo}
 use Rattle.cell_script.specs.Words.{words_of}
-use Rattle.house_logs.specs.declared.order.LoggedOrder.{LoggedOrder}
-use Rattle.house_logs.specs.declared.order.LoggedOrder.TheVariants as order
+use Rattle.house_lines.specs.declared.line.HouseOrder.{HouseOrder}
+use Rattle.house_lines.specs.declared.line.HouseOrder.TheVariants as order
 use Rattle.script_answers.specs.Texts.{node_octets}
 
 -- words, each after a space
@@ -59,7 +59,7 @@ epoch_line d h ms =
 
 -- the line of a turn of the house h: its own words, or what its order says; of `take` the message
 -- of this serial number is delivered
-abbrev pub turn_line : (h : HouseNo) → (line : List ℕ) → LoggedOrder → (serial : ℕ) → List ℕ
+abbrev pub turn_line : (h : HouseNo) → (line : List ℕ) → HouseOrder → (serial : ℕ) → List ℕ
 turn_line h line (order.Mkdir d n made ls) serial = mkdir_line h (words_of line)
 turn_line h line (order.Epoch d k list) serial = epoch_line d.0 h list.members
 turn_line h line (order.Take octets) serial = codes "deliver" ++ (32 ∷ decimal serial)

@@ -6,7 +6,8 @@ ghost use Rattle.entry_lines.specs.MadeLines.{epoch_line, first_in, making_line,
 
 use cds_stamps::{HouseNo, Member, MemberKind, Node};
 use cell_script::Words;
-use house_logs::{LoggedOrder, LoggedTurn};
+use house_lines::HouseOrder;
+use house_logs::LoggedTurn;
 use script_answers::{push_hex, push_number};
 use std::alloc::{AllocError, Global};
 
@@ -188,9 +189,9 @@ pub(crate) fn turn_line(
         (λ v. v.items ≡ turn_line house turn.now.line turn.now.order serial) }
 {
     match &turn.order {
-        LoggedOrder::Take(_) => delivery_line(alloc, serial),
-        LoggedOrder::Mkdir(_, _, _, _) => mkdir_line(alloc, house, turn.line.list()),
-        LoggedOrder::Epoch(dir, _, list) => {
+        HouseOrder::Take(_) => delivery_line(alloc, serial),
+        HouseOrder::Mkdir(_, _, _, _) => mkdir_line(alloc, house, turn.line.list()),
+        HouseOrder::Epoch(dir, _, list) => {
             epoch_line(alloc, u64::from(dir.0), house, list.members.list())
         }
         _ => same_line(alloc, house, turn.line.list()),

@@ -11,7 +11,7 @@ use cds_stamps::{AttrName, DirId, HouseNo, Node, SimpleName};
 use cell_names::FullName;
 use cell_script::{Command, HouseNos, Listeds};
 use directory::Update;
-use house_logs::LoggedOrder;
+use house_lines::HouseOrder;
 
 /// Whether a command makes this house.
 pub(crate) fn makes(command: &Command, house: HouseNo, node: Node) -> bool
@@ -240,20 +240,20 @@ fn delivers(command: &Command, serial: u64) -> bool
 
 /// Whether a command is the order at this house: the number of a new directory, the list of an
 /// epoch, and what a message has in it are compared apart.
-pub(crate) fn is_order(command: &Command, house: HouseNo, order: &LoggedOrder, serial: u64) -> bool
+pub(crate) fn is_order(command: &Command, house: HouseNo, order: &HouseOrder, serial: u64) -> bool
     ensures { Decides result (IsCommandOf house order.now serial command.now) }
 {
     match order {
-        LoggedOrder::Root(others) => founds(command, house, others),
-        LoggedOrder::Mkdir(dir, name, _, others) => {
+        HouseOrder::Root(others) => founds(command, house, others),
+        HouseOrder::Mkdir(dir, name, _, others) => {
             makes_child(command, house, *dir, name, others)
         }
-        LoggedOrder::Repoint(dir, name, master, others) => {
+        HouseOrder::Repoint(dir, name, master, others) => {
             repoints(command, house, *dir, name, *master, others)
         }
-        LoggedOrder::Update(dir, update) => updates(command, house, *dir, update),
-        LoggedOrder::Skulk(dir) => skulks(command, house, *dir),
-        LoggedOrder::Epoch(dir, _, _) => enters(command, house, *dir),
-        LoggedOrder::Take(_) => delivers(command, serial),
+        HouseOrder::Update(dir, update) => updates(command, house, *dir, update),
+        HouseOrder::Skulk(dir) => skulks(command, house, *dir),
+        HouseOrder::Epoch(dir, _, _) => enters(command, house, *dir),
+        HouseOrder::Take(_) => delivers(command, serial),
     }
 }

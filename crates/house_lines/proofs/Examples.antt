@@ -13,6 +13,7 @@ use Rattle.cell_script.specs.Words.{words_of, number_of}
 use Rattle.cell_script.specs.WordForms.{check_count, take_words}
 use Rattle.house_lines.specs.declared.line.HouseLine.{HouseLine}
 use Rattle.house_lines.specs.declared.line.HouseLine.TheVariants as line
+use Rattle.house_lines.specs.declared.line.HouseOrder.TheVariants as order
 use Rattle.house_lines.specs.declared.line.HouseQuestion.TheVariants as question
 use Rattle.house_lines.specs.MemberWords.{kind_of, member_of}
 use Rattle.house_lines.specs.Listings.{list_said}
@@ -73,42 +74,42 @@ unfolding said_by check_count take_words number_of
 clock_is = refl
 
 -- its master is the house itself, and there need not be another
-root_alone : says (codes "root") ≡ Ok (Some (line.Root []))
+root_alone : says (codes "root") ≡ Ok (Some (line.Order (order.Root [])))
 unfolding said_by check_count take_words
 root_alone = refl
 
 root_is : says (codes "root s2 3") ≡ Ok
-    (Some (line.Root (record { house = record { 0 = 2 }; secondary = true } ∷ record { house = record { 0 = 3 }; secondary = false } ∷ [])))
+    (Some (line.Order (order.Root (record { house = record { 0 = 2 }; secondary = true } ∷ record { house = record { 0 = 3 }; secondary = false } ∷ []))))
 unfolding said_by check_count take_words number_of
 root_is = refl
 
 mkdir_is : says (codes "mkdir 1 sub 2 3") ≡ Ok
-    (Some (line.Mkdir (record { 0 = 1 }) (codes "sub") (record { 0 = 2 }) (record { house = record { 0 = 3 }; secondary = false } ∷ [])))
+    (Some (line.Order (order.Mkdir (record { 0 = 1 }) (codes "sub") (record { 0 = 2 }) (record { house = record { 0 = 3 }; secondary = false } ∷ []))))
 unfolding said_by check_count take_words number_of
 mkdir_is = refl
 
 repoint_is : says (codes "repoint 1 sub 2 3 4") ≡ Ok
-    (Some (line.Repoint (record { 0 = 1 }) (codes "sub") (record { 0 = 2 }) (record { 0 = 3 } ∷ record { 0 = 4 } ∷ [])))
+    (Some (line.Order (order.Repoint (record { 0 = 1 }) (codes "sub") (record { 0 = 2 }) (record { 0 = 3 } ∷ record { 0 = 4 } ∷ []))))
 unfolding said_by check_count take_words number_of
 repoint_is = refl
 
-create_is : says (codes "create 1 lpr") ≡ Ok (Some (line.Update (record { 0 = 1 }) (update.Create (codes "lpr"))))
+create_is : says (codes "create 1 lpr") ≡ Ok (Some (line.Order (order.Update (record { 0 = 1 }) (update.Create (codes "lpr")))))
 unfolding said_by check_count take_words number_of
 create_is = refl
 
-link_is : says (codes "link 1 up /.:/a/b") ≡ Ok (Some (line.Update (record { 0 = 1 }) (update.MakeLink (codes "up") (codes "a" ∷ codes "b" ∷ []))))
+link_is : says (codes "link 1 up /.:/a/b") ≡ Ok (Some (line.Order (order.Update (record { 0 = 1 }) (update.MakeLink (codes "up") (codes "a" ∷ codes "b" ∷ [])))))
 unfolding said_by check_count take_words number_of
 link_is = refl
 
-put_is : says (codes "put 1 lpr A 5072") ≡ Ok (Some (line.Update (record { 0 = 1 }) (update.Put (codes "lpr") (codes "A") (80 ∷ 114 ∷ []))))
+put_is : says (codes "put 1 lpr A 5072") ≡ Ok (Some (line.Order (order.Update (record { 0 = 1 }) (update.Put (codes "lpr") (codes "A") (80 ∷ 114 ∷ [])))))
 unfolding said_by check_count take_words number_of decode_pairs
 put_is = refl
 
-clear_is : says (codes "clear 1 lpr A") ≡ Ok (Some (line.Update (record { 0 = 1 }) (update.Clear (codes "lpr") (codes "A"))))
+clear_is : says (codes "clear 1 lpr A") ≡ Ok (Some (line.Order (order.Update (record { 0 = 1 }) (update.Clear (codes "lpr") (codes "A")))))
 unfolding said_by check_count take_words number_of
 clear_is = refl
 
-take_is : says (codes "take 02fF") ≡ Ok (Some (line.Take (2 ∷ 255 ∷ [])))
+take_is : says (codes "take 02fF") ≡ Ok (Some (line.Order (order.Take (2 ∷ 255 ∷ []))))
 unfolding said_by check_count take_words decode_pairs
 take_is = refl
 
@@ -142,13 +143,13 @@ member house since kind = record { house = record { 0 = house }; since = record 
 abbrev lists : List ℕ → Said
 lists octets = says (codes "epoch 1 7 " ++ octets)
 
-epoch_is : lists (codes "1:1:m 2:7:s 3:4:r") ≡ Ok (Some (line.Epoch (record { 0 = 1 }) (record { 0 = 7 })
-    (record { members = member 1 1 Master ∷ member 2 7 Secondary ∷ member 3 4 ReadOnly ∷ []; leaving = [] })))
+epoch_is : lists (codes "1:1:m 2:7:s 3:4:r") ≡ Ok (Some (line.Order (order.Epoch (record { 0 = 1 }) (record { 0 = 7 })
+    (record { members = member 1 1 Master ∷ member 2 7 Secondary ∷ member 3 4 ReadOnly ∷ []; leaving = [] }))))
 unfolding said_by epoch_words list_said check_count take_words number_of member_of kind_of cut_at_mark
 epoch_is = refl
 
-epoch_without_two : lists (codes "1:1:m - 4 9") ≡ Ok (Some (line.Epoch (record { 0 = 1 }) (record { 0 = 7 })
-    (record { members = member 1 1 Master ∷ []; leaving = record { 0 = 4 } ∷ record { 0 = 9 } ∷ [] })))
+epoch_without_two : lists (codes "1:1:m - 4 9") ≡ Ok (Some (line.Order (order.Epoch (record { 0 = 1 }) (record { 0 = 7 })
+    (record { members = member 1 1 Master ∷ []; leaving = record { 0 = 4 } ∷ record { 0 = 9 } ∷ [] }))))
 unfolding said_by epoch_words list_said check_count take_words number_of member_of kind_of cut_at_mark
 epoch_without_two = refl
 

@@ -3,6 +3,8 @@
 use Rattle.std.specs.Prelude.{ℕ, Bool, true, if◌then◌else◌, List, [], ◌∷◌, ◌++◌, Some, Option, Ok, Result, codes}
 use Rattle.std.specs.Str.{bytes_eq}
 use Rattle.std.specs.Result.{result_err}
+use Rattle.cds_stamps.specs.declared.numbers.DirId.{DirId}
+use Rattle.directory.specs.declared.update.Update.{Update}
 use Rattle.directory.specs.declared.update.Update.TheVariants as update
 use Rattle.cell_script.specs.declared.fault.ParseFault.{ParseFault}
 use Rattle.cell_script.specs.declared.fault.ParseFault.TheVariants.{UnknownCommand}
@@ -11,6 +13,7 @@ use Rattle.cell_script.specs.WordForms.{Builds, Words, check_count, take_words}
 use Rattle.cell_script.specs.CommandRows.{RowOf, said_among, early_among, no_command, line_in, fault_in}
 use Rattle.house_lines.specs.declared.line.HouseLine.{HouseLine}
 use Rattle.house_lines.specs.declared.line.HouseLine.TheVariants as line
+use Rattle.house_lines.specs.declared.line.HouseOrder.TheVariants as order
 use Rattle.house_lines.specs.declared.line.HouseQuestion.TheVariants as question
 use Rattle.house_lines.specs.Listings.{list_said}
 
@@ -23,34 +26,40 @@ abbrev pub making_rows : List (RowOf HouseLine)
 making_rows =
     row (codes "house") (House ∷ Node ∷ []) line.House
     ∷ row (codes "clock") (Time ∷ []) line.Clock
-    ∷ row (codes "root") (Listeds ∷ []) line.Root
-    ∷ row (codes "mkdir") (Directory ∷ SimpleName ∷ Directory ∷ Listeds ∷ []) line.Mkdir
-    ∷ row (codes "repoint") (Directory ∷ SimpleName ∷ House ∷ Houses ∷ []) line.Repoint
+    ∷ row (codes "root") (Listeds ∷ []) (λ ls. line.Order (order.Root ls))
+    ∷ row (codes "mkdir") (Directory ∷ SimpleName ∷ Directory ∷ Listeds ∷ [])
+    (λ d s m ls. line.Order (order.Mkdir d s m ls))
+    ∷ row (codes "repoint") (Directory ∷ SimpleName ∷ House ∷ Houses ∷ [])
+    (λ d s h hs. line.Order (order.Repoint d s h hs))
     ∷ []
+
+-- a line that makes or changes an entry
+abbrev pub entry_line : DirId → Update → HouseLine
+entry_line d u = line.Order (order.Update d u)
 
 -- the updates of an entry
 abbrev pub entry_rows : List (RowOf HouseLine)
 entry_rows =
-    row (codes "create") (Directory ∷ SimpleName ∷ []) (λ d s. line.Update d (update.Create s))
-    ∷ row (codes "link") (Directory ∷ SimpleName ∷ FullName ∷ []) (λ d s n. line.Update d (update.MakeLink s n))
-    ∷ row (codes "delete") (Directory ∷ SimpleName ∷ []) (λ d s. line.Update d (update.Delete s))
+    row (codes "create") (Directory ∷ SimpleName ∷ []) (λ d s. entry_line d (update.Create s))
+    ∷ row (codes "link") (Directory ∷ SimpleName ∷ FullName ∷ []) (λ d s n. entry_line d (update.MakeLink s n))
+    ∷ row (codes "delete") (Directory ∷ SimpleName ∷ []) (λ d s. entry_line d (update.Delete s))
     ∷ []
 
 -- the changes of an entry's values
 abbrev pub value_rows : List (RowOf HouseLine)
 value_rows =
-    row (codes "add") (Directory ∷ SimpleName ∷ AttrName ∷ Value ∷ []) (λ d s a v. line.Update d (update.Add s a v))
-    ∷ row (codes "remove") (Directory ∷ SimpleName ∷ AttrName ∷ Value ∷ []) (λ d s a v. line.Update d (update.Remove s a v))
-    ∷ row (codes "put") (Directory ∷ SimpleName ∷ AttrName ∷ Value ∷ []) (λ d s a v. line.Update d (update.Put s a v))
-    ∷ row (codes "clear") (Directory ∷ SimpleName ∷ AttrName ∷ []) (λ d s a. line.Update d (update.Clear s a))
+    row (codes "add") (Directory ∷ SimpleName ∷ AttrName ∷ Value ∷ []) (λ d s a v. entry_line d (update.Add s a v))
+    ∷ row (codes "remove") (Directory ∷ SimpleName ∷ AttrName ∷ Value ∷ []) (λ d s a v. entry_line d (update.Remove s a v))
+    ∷ row (codes "put") (Directory ∷ SimpleName ∷ AttrName ∷ Value ∷ []) (λ d s a v. entry_line d (update.Put s a v))
+    ∷ row (codes "clear") (Directory ∷ SimpleName ∷ AttrName ∷ []) (λ d s a. entry_line d (update.Clear s a))
     ∷ []
 
 -- a skulk, and the octets of messages
 abbrev pub message_rows : List (RowOf HouseLine)
 message_rows =
-    row (codes "skulk") (Directory ∷ []) line.Skulk
+    row (codes "skulk") (Directory ∷ []) (λ d. line.Order (order.Skulk d))
     ∷ row (codes "more") (Octets ∷ []) line.More
-    ∷ row (codes "take") (Octets ∷ []) line.Take
+    ∷ row (codes "take") (Octets ∷ []) (λ os. line.Order (order.Take os))
     ∷ []
 
 -- the questions
@@ -80,7 +89,7 @@ epoch_words s = do
   dir ← take_words Directory s
   number ← take_words Serial dir.1
   list ← list_said number.1
-  Ok (line.Epoch dir.0 (record { 0 = number.0 }) list)
+  Ok (line.Order (order.Epoch dir.0 (record { 0 = number.0 }) list))
 
 -- what they say
 abbrev pub epoch_said : Words → Result HouseLine ParseFault

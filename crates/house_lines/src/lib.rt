@@ -10,5 +10,5 @@ mod replicas;
 mod updates;
 
 pub use given::GivenMembers;
-pub use line::{EpochList, HouseLine, HouseQuestion};
+pub use line::{EpochList, HouseLine, HouseOrder, HouseQuestion};
 pub use parse::parse_house_line;

@@ -28,11 +28,9 @@ pub enum HouseQuestion {
     Image,
 }
 
-/// What a line of a house says. Its fields are in the order of its words.
+/// What a house does by itself in a turn. Its fields are in the order of the words of its line.
 #[derive(Drop)]
-pub enum HouseLine {
-    House(HouseNo, Node),
-    Clock(u64),
+pub enum HouseOrder {
     Root(Listeds),
     /// A child of a directory, and the number of its own directory.
     Mkdir(DirId, SimpleName, DirId, Listeds),
@@ -42,8 +40,16 @@ pub enum HouseLine {
     Update(DirId, Update),
     Skulk(DirId),
     Epoch(DirId, EpochNo, EpochList),
+    Take(Octets),
+}
+
+/// What a line of a house says. Its fields are in the order of its words.
+#[derive(Drop)]
+pub enum HouseLine {
+    House(HouseNo, Node),
+    Clock(u64),
     /// Octets in front of those of the next message.
     More(Octets),
-    Take(Octets),
     Ask(HouseQuestion),
+    Order(HouseOrder),
 }

@@ -5,7 +5,7 @@
 ghost use Rattle.std.specs.Prelude.{codes};
 ghost use Rattle.house_lines.specs.PrivateLineRows.{Says, by_epoch, by_making_rows, by_message_rows};
 
-use crate::line::HouseLine;
+use crate::line::{HouseLine, HouseOrder};
 use crate::listing::epoch_list;
 use cds_stamps::EpochNo;
 use cell_script::{Parsed, Words};
@@ -29,38 +29,38 @@ pub(crate) fn root(alloc: Global, words: &mut Words<'_>) -> Parsed<HouseLine>
     ensures { Says result (by_making_rows (codes "root") words.old) }
 {
     words.at_least(0)?;
-    Ok(HouseLine::Root(words.listeds(alloc)?))
+    Ok(HouseLine::Order(HouseOrder::Root(words.listeds(alloc)?)))
 }
 
 pub(crate) fn mkdir(alloc: Global, words: &mut Words<'_>) -> Parsed<HouseLine>
     ensures { Says result (by_making_rows (codes "mkdir") words.old) }
 {
     words.at_least(3)?;
-    Ok(HouseLine::Mkdir(
+    Ok(HouseLine::Order(HouseOrder::Mkdir(
         words.directory()?,
         words.simple_name(alloc)?,
         words.directory()?,
         words.listeds(alloc)?,
-    ))
+    )))
 }
 
 pub(crate) fn repoint(alloc: Global, words: &mut Words<'_>) -> Parsed<HouseLine>
     ensures { Says result (by_making_rows (codes "repoint") words.old) }
 {
     words.at_least(3)?;
-    Ok(HouseLine::Repoint(
+    Ok(HouseLine::Order(HouseOrder::Repoint(
         words.directory()?,
         words.simple_name(alloc)?,
         words.house()?,
         words.houses(alloc)?,
-    ))
+    )))
 }
 
 pub(crate) fn skulk(words: &mut Words<'_>) -> Parsed<HouseLine>
     ensures { Says result (by_message_rows (codes "skulk") words.old) }
 {
     words.exactly(1)?;
-    Ok(HouseLine::Skulk(words.directory()?))
+    Ok(HouseLine::Order(HouseOrder::Skulk(words.directory()?)))
 }
 
 #[tactic(auto, unfolding(crate::specs::PrivateLineRows::by_epoch, crate::specs::LineRows::epoch_words))]
@@ -68,11 +68,11 @@ pub(crate) fn epoch(alloc: Global, words: &mut Words<'_>) -> Parsed<HouseLine>
     ensures { Says result (by_epoch words.old) }
 {
     words.at_least(3)?;
-    Ok(HouseLine::Epoch(
+    Ok(HouseLine::Order(HouseOrder::Epoch(
         words.directory()?,
         EpochNo(words.serial()?),
         epoch_list(alloc, words)?,
-    ))
+    )))
 }
 
 pub(crate) fn more(alloc: Global, words: &mut Words<'_>) -> Parsed<HouseLine>
@@ -86,5 +86,5 @@ pub(crate) fn take(alloc: Global, words: &mut Words<'_>) -> Parsed<HouseLine>
     ensures { Says result (by_message_rows (codes "take") words.old) }
 {
     words.exactly(1)?;
-    Ok(HouseLine::Take(words.octets(alloc)?))
+    Ok(HouseLine::Order(HouseOrder::Take(words.octets(alloc)?)))
 }

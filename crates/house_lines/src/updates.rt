@@ -4,7 +4,7 @@
 ghost use Rattle.std.specs.Prelude.{codes};
 ghost use Rattle.house_lines.specs.PrivateLineRows.{Says, by_entry_rows, by_value_rows};
 
-use crate::line::HouseLine;
+use crate::line::{HouseLine, HouseOrder};
 use cell_script::{Parsed, Words};
 use directory::Update;
 use std::alloc::Global;
@@ -13,80 +13,80 @@ pub(crate) fn create(alloc: Global, words: &mut Words<'_>) -> Parsed<HouseLine>
     ensures { Says result (by_entry_rows (codes "create") words.old) }
 {
     words.exactly(2)?;
-    Ok(HouseLine::Update(
+    Ok(HouseLine::Order(HouseOrder::Update(
         words.directory()?,
         Update::Create(words.simple_name(alloc)?),
-    ))
+    )))
 }
 
 pub(crate) fn link(alloc: Global, words: &mut Words<'_>) -> Parsed<HouseLine>
     ensures { Says result (by_entry_rows (codes "link") words.old) }
 {
     words.exactly(3)?;
-    Ok(HouseLine::Update(
+    Ok(HouseLine::Order(HouseOrder::Update(
         words.directory()?,
         Update::MakeLink(words.simple_name(alloc)?, words.full_name(alloc)?),
-    ))
+    )))
 }
 
 pub(crate) fn delete(alloc: Global, words: &mut Words<'_>) -> Parsed<HouseLine>
     ensures { Says result (by_entry_rows (codes "delete") words.old) }
 {
     words.exactly(2)?;
-    Ok(HouseLine::Update(
+    Ok(HouseLine::Order(HouseOrder::Update(
         words.directory()?,
         Update::Delete(words.simple_name(alloc)?),
-    ))
+    )))
 }
 
 pub(crate) fn add(alloc: Global, words: &mut Words<'_>) -> Parsed<HouseLine>
     ensures { Says result (by_value_rows (codes "add") words.old) }
 {
     words.exactly(4)?;
-    Ok(HouseLine::Update(
+    Ok(HouseLine::Order(HouseOrder::Update(
         words.directory()?,
         Update::Add(
             words.simple_name(alloc)?,
             words.attr_name(alloc)?,
             words.value(alloc)?,
         ),
-    ))
+    )))
 }
 
 pub(crate) fn remove(alloc: Global, words: &mut Words<'_>) -> Parsed<HouseLine>
     ensures { Says result (by_value_rows (codes "remove") words.old) }
 {
     words.exactly(4)?;
-    Ok(HouseLine::Update(
+    Ok(HouseLine::Order(HouseOrder::Update(
         words.directory()?,
         Update::Remove(
             words.simple_name(alloc)?,
             words.attr_name(alloc)?,
             words.value(alloc)?,
         ),
-    ))
+    )))
 }
 
 pub(crate) fn put(alloc: Global, words: &mut Words<'_>) -> Parsed<HouseLine>
     ensures { Says result (by_value_rows (codes "put") words.old) }
 {
     words.exactly(4)?;
-    Ok(HouseLine::Update(
+    Ok(HouseLine::Order(HouseOrder::Update(
         words.directory()?,
         Update::Put(
             words.simple_name(alloc)?,
             words.attr_name(alloc)?,
             words.value(alloc)?,
         ),
-    ))
+    )))
 }
 
 pub(crate) fn clear(alloc: Global, words: &mut Words<'_>) -> Parsed<HouseLine>
     ensures { Says result (by_value_rows (codes "clear") words.old) }
 {
     words.exactly(3)?;
-    Ok(HouseLine::Update(
+    Ok(HouseLine::Order(HouseOrder::Update(
         words.directory()?,
         Update::Clear(words.simple_name(alloc)?, words.attr_name(alloc)?),
-    ))
+    )))
 }

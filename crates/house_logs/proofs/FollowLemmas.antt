@@ -6,13 +6,13 @@ use Rattle.std.proofs.lemmas.List.Elements.{All-cons, All-nil}
 use Rattle.cell_script.specs.Words.{words_of}
 use Rattle.house_entries.specs.declared.body.Body.{Body}
 use Rattle.house_lines.specs.LineRows.{said_in}
+use Rattle.house_lines.specs.declared.line.HouseLine.TheVariants as asks
 use Rattle.house_logs.specs.declared.log.LogEntry.{LogEntry}
 use Rattle.house_logs.specs.declared.log.LoggedTurn.{LoggedTurn}
 use Rattle.house_logs.specs.declared.log.PostedOctets.{PostedOctets}
 use Rattle.house_logs.specs.declared.reader.LogReader.{LogReader}
 use Rattle.house_logs.specs.declared.text.TurnText.{TurnText}
 use Rattle.house_logs.specs.Logs.{making_text}
-use Rattle.house_logs.specs.Orders.{line_of}
 use Rattle.house_logs.specs.PrivateReads.{AsMaking, AsNew, AsSegment, AsStart, AsTurn, CanBeNew, CanFollow, CanGoOn, CanMake, CanStart, CanTurn, IsAfterRunning, IsTurnText, MakesHouse, known_in}
 use Rattle.house_logs.specs.Records.{CanBe, image_of}
 use Rattle.house_logs.specs.TurnTexts.{HasNoEnd, IsAnswer, posts_text, turn_text}
@@ -93,7 +93,7 @@ a_start r b image (AsSegment is) shows other =
 -- ---- turns
 
 pub no_turn : (r : LogReader) (b : Body) (parts : TurnText) → IsTurnText b.text.now parts.line.now parts.posts.items parts.answer.now
-    → ((t : LoggedTurn) → said_in (words_of parts.line.now) ≢ Ok (Some (line_of t.order))) → ¬ CanTurn r b
+    → ((t : LoggedTurn) → said_in (words_of parts.line.now) ≢ Ok (Some (asks.Order t.order))) → ¬ CanTurn r b
 no_turn r b parts text none is =
     let same = turn_line_is b.text.now is.line parts.line.now is.turn.answer parts.answer.now is.turn.posts.items parts.posts.items
     (record { parts = is.says.parts; is = is.text }) text in

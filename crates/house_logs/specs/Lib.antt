@@ -1,4 +1,3 @@
-pub mod Orders
 pub mod TurnTexts
 pub mod Records
 pub mod Logs

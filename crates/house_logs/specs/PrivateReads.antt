@@ -20,7 +20,6 @@ use Rattle.house_logs.specs.declared.reader.LogReader.{LogReader}
 use Rattle.house_logs.specs.declared.text.TurnText.{TurnText}
 use Rattle.house_logs.specs.Faults.{IsOfRecord}
 use Rattle.house_logs.specs.Logs.{making_text}
-use Rattle.house_logs.specs.Orders.{line_of}
 use Rattle.house_logs.specs.Reads.{HasRead}
 use Rattle.house_logs.specs.Records.{CanBe, SaysTurn, image_of, running_text}
 use Rattle.house_logs.specs.TurnTexts.{AreParts, HasNoEnd, IsAnswer, IsPost, posts_text, turn_text}
@@ -59,7 +58,7 @@ IsDue octets body = IsBody octets body.number body.clock body.text.now (option_c
 
 -- a turn with the parts of a text, at a clock
 pub record IsTurnBy (parts : TurnText) (clock : ℕ) (t : LoggedTurn) : Type 0 where
-  pub says : said_in (words_of parts.line.now) ≡ Ok (Some (line_of t.order))
+  pub says : said_in (words_of parts.line.now) ≡ Ok (Some (asks.Order t.order))
   pub clock_is : t.clock ≡ clock
   pub posts : t.posts ≡ parts.posts
   pub answer : t.answer ≡ parts.answer.now

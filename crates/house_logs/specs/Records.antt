@@ -5,10 +5,10 @@ use Rattle.cds_stamps.specs.declared.numbers.HouseNo.{HouseNo}
 use Rattle.cell_script.specs.Words.{words_of}
 use Rattle.house_entries.specs.Bodies.{IsBody}
 use Rattle.house_lines.specs.LineRows.{said_in}
+use Rattle.house_lines.specs.declared.line.HouseLine.TheVariants as asks
 use Rattle.house_logs.specs.declared.log.LogEntry.{LogEntry}
 use Rattle.house_logs.specs.declared.log.LogEntry.TheVariants as entry
 use Rattle.house_logs.specs.declared.log.LoggedTurn.{LoggedTurn}
-use Rattle.house_logs.specs.Orders.{line_of}
 use Rattle.house_logs.specs.TurnTexts.{AreParts, HasNoEnd, turn_text}
 
 -- what the first records of a house say: the house, the image with which it was made, if one shows
@@ -31,7 +31,7 @@ start_text s = codes "start" ++ (10 ∷ s.turn)
 
 -- a line, and what it says, of a turn
 pub record SaysTurn (line : List ℕ) (t : LoggedTurn) : Type 0 where
-  pub says : said_in (words_of line) ≡ Ok (Some (line_of t.order))
+  pub says : said_in (words_of line) ≡ Ok (Some (asks.Order t.order))
   pub parts : AreParts line t.posts.items t.answer
 
 -- a turn more

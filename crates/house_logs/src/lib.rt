@@ -4,12 +4,10 @@
 mod fault;
 mod laws;
 mod log;
-mod order;
 mod reader;
 mod text;
 
 pub use fault::LogFault;
 pub use laws::good_segments_have_no_fault;
 pub use log::{HouseLog, LogEntry, LoggedTurn, PostedOctets};
-pub use order::LoggedOrder;
 pub use reader::LogReader;

@@ -2,9 +2,9 @@
 ghost use Rattle.std.specs.Prelude.{◌≡◌, option_copied};
 ghost use Rattle.house_logs.specs.Records.{image_of, with_image};
 
-use crate::order::LoggedOrder;
 use cds_stamps::{HouseNo, Node};
 use cell_script::Octets;
+use house_lines::HouseOrder;
 
 /// A message that was posted: the house that it is for, and its octets.
 #[derive(Drop)]
@@ -19,7 +19,7 @@ pub struct PostedOctets {
 pub struct LoggedTurn {
     pub clock: u64,
     pub line: Octets,
-    pub order: LoggedOrder,
+    pub order: HouseOrder,
     pub posts: Vec<PostedOctets>,
     pub answer: Octets,
     pub image: Option<Octets>,

@@ -5,25 +5,24 @@ ghost use Rattle.cell_script.specs.Words.{words_of};
 ghost use Rattle.house_entries.specs.Bodies.{IsBody, head_of};
 ghost use Rattle.house_lines.specs.LineRows.{said_in};
 ghost use Rattle.house_lines.specs.declared.line.HouseLine.{HouseLine as HouseLine'};
+ghost use Rattle.house_lines.specs.declared.line.HouseLine.TheVariants as asks;
 ghost use Rattle.house_segments.specs.Chains.{digest_after, sealed};
 ghost use Rattle.house_logs.specs.Faults.{IsFaultOf, IsOfRecord, IsOtherHead};
 ghost use Rattle.house_logs.specs.Logs.{IsJournalOf, IsNew};
 ghost use Rattle.house_logs.specs.declared.log.LoggedTurn.{LoggedTurn as LoggedTurn'};
 ghost use Rattle.house_logs.specs.declared.log.Making.{Making as Making'};
 ghost use Rattle.house_logs.specs.declared.reader.LogReader.{LogReader as LogReader'};
-ghost use Rattle.house_logs.specs.Orders.{line_of};
 ghost use Rattle.house_logs.specs.PrivateReads.{CanFollow, CanGoOn, CanMake, CanStart, CanTurn, IsAfterHead, IsDue, IsMadeBy, IsTurnBy, IsTurnText, MakesHouse, ReadsChain, StopsAt, known_in};
 ghost use Rattle.house_logs.specs.Reads.{HasRead, IfFault, ReadsFront, ReadsOn, told_of};
 ghost use Rattle.house_logs.specs.Records.{CanBe, Shows};
 
 use crate::fault::LogFault;
 use crate::log::{HouseLog, LogEntry, LoggedTurn, Making};
-use crate::order::{LoggedOrder, order_in};
 use crate::text::{TurnText, is_after_running, turn_in, without};
 use cds_stamps::AllocOr;
 use cell_script::Octets;
 use house_entries::{Body, head_octets, read_body};
-use house_lines::{HouseLine, parse_house_line};
+use house_lines::{HouseLine, HouseOrder, parse_house_line};
 use house_segments::{DIGEST, first_record, last_record, unsealed};
 use script_answers::push_number;
 use std::alloc::{AllocError, Global};
@@ -74,9 +73,9 @@ fn said_by(alloc: Global, line: &[u8]) -> Result<Option<HouseLine>, AllocError>
 }
 
 // The line of a turn; none of a `take`, whose octets are kept already.
-fn kept_line(alloc: Global, line: &[u8], order: &LoggedOrder) -> Result<Octets, AllocError> {
+fn kept_line(alloc: Global, line: &[u8], order: &HouseOrder) -> Result<Octets, AllocError> {
     match order {
-        LoggedOrder::Take(_) => Ok(Octets::new(alloc)),
+        HouseOrder::Take(_) => Ok(Octets::new(alloc)),
         _ => octets_of(alloc, line),
     }
 }
@@ -126,17 +125,14 @@ fn head_in<'a>(title: &[u8], head: &'a [u8]) -> Option<Named<'a>>
 fn turn_of(alloc: Global, clock: u64, parts: TurnText<'_>) -> Result<Option<LoggedTurn>, AllocError>
     ensures some { IfOk result (λ o. IfSome o (IsTurnBy parts.entry clock)) }
     ensures none { IfOk result (λ o. IfNone o ((t : LoggedTurn')
-        → said_in (words_of parts.entry.line.now) ≢ Ok (Some (line_of t.order)))) }
+        → said_in (words_of parts.entry.line.now) ≢ Ok (Some (asks.Order t.order)))) }
 {
     let TurnText {
         line,
         posts,
         answer,
     } = parts;
-    let Some(says) = said_by(alloc, line)? else {
-        return Ok(None);
-    };
-    let Some(order) = order_in(says) else {
+    let Some(HouseLine::Order(order)) = said_by(alloc, line)? else {
         return Ok(None);
     };
     Ok(Some(LoggedTurn {

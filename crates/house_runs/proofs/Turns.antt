@@ -13,14 +13,14 @@ use Rattle.clearinghouse.specs.HouseImages.{image_of}
 use Rattle.clearinghouse.specs.ModelHouses.{StandsHouse}
 use Rattle.clearinghouse.specs.declared.house.Clearinghouse.{Clearinghouse}
 use Rattle.clearinghouse.proofs.Starting.{got_kept}
-use Rattle.house_lines.specs.declared.line.HouseLine.{HouseLine}
-use Rattle.house_lines.specs.declared.line.HouseLine.TheVariants as line
+use Rattle.house_lines.specs.declared.line.HouseOrder.{HouseOrder}
+use Rattle.house_lines.specs.declared.line.HouseOrder.TheVariants as order
 use Rattle.cell_runs.specs.Entries.{Order, TurnEntry, Post}
 use Rattle.cell_runs.specs.HonestRuns.{HasGoodList, IsImageOf, IsTurnOf, at_clock}
+use Rattle.cell_runs.specs.LineOrders.{listed_houses, order_of}
 use Rattle.cell_runs.specs.OrderSteps.{Carries, order_step}
 use Rattle.house_turns.specs.LineOutcomes.{ComesTo, IsOutcome, Posts}
 use Rattle.house_turns.specs.HouseAnswers.{early_refusal, maybe_refused}
-use Rattle.house_turns.specs.LineSteps.{CarriesIn, listed_houses, order_of, step_of}
 
 -- the image of a clearinghouse is that of each house of the model that it is for
 pub image_stands : (c : Clearinghouse) (now : model.House) → StandsHouse c now → IsImageOf c.house.0 now (image_octets (image_of c))
@@ -62,18 +62,15 @@ by_step (Turns t) clock order posts answer c c' house is = record {
   stands = is.2;
 }
 
--- a line that comes to a turn is that of the model, whichever house the clearinghouse is for, and
+-- an order that comes to a turn is that of the model, whichever house the clearinghouse is for, and
 -- whichever message is taken
-pub turns_to : (c c' : Clearinghouse) (clock : ℕ) (says : HouseLine) (order : Order) (posts : List Post) (answer : List ℕ)
-    → order_of says ≡ Some order → ComesTo c clock says (Posts posts answer) c' → (now : model.House) (m : model.Message) → StandsHouse c now
-    → Carries c.house.0 (at_clock now clock) order m
-    → TurnsTo c.house.0 (entry_of clock order posts answer c') (order_step c.house.0 (at_clock now clock) order m) c'
-turns_to c c' clock says order posts answer is comes now m stands carries =
+pub turns_to : (c c' : Clearinghouse) (clock : ℕ) (told : HouseOrder) (posts : List Post) (answer : List ℕ) → ComesTo c clock told (Posts posts answer) c'
+    → (now : model.House) (m : model.Message) → StandsHouse c now → Carries c.house.0 (at_clock now clock) (order_of told) m
+    → TurnsTo c.house.0 (entry_of clock (order_of told) posts answer c') (order_step c.house.0 (at_clock now clock) (order_of told) m) c'
+turns_to c c' clock told posts answer comes now m stands carries =
     let there : model.House = at_clock now clock in
-    let may : CarriesIn c.house.0 there (order_of says) m = subst (λ (o : Option Order). CarriesIn c.house.0 there o m) (sym is) carries in
-    by_step (order_step c.house.0 there order m) clock order posts answer c c' comes.house
-    (subst (λ (o : Option Order). IsOutcome (step_of c.house.0 there o m) (Posts posts answer) c c') is
-    (comes.step there m (at_clock_stands c now clock stands) refl may))
+    by_step (order_step c.house.0 there (order_of told) m) clock (order_of told) posts answer c c' comes.house
+    (comes.step there m (at_clock_stands c now clock stands) refl carries)
 
 -- ---- houses of a new directory
 
@@ -83,26 +80,9 @@ good_list true bad none = absurd (cc)
 good_list false true none = absurd (cc)
 good_list false false none = refl
 
--- an order, if there is one, gives a good list
-abbrev IsGood : (x : ℕ) → Option Order → Type 0
-IsGood x None = Unit {0}
-IsGood x (Some order) = HasGoodList x order
-
-good_by_line : (c : Clearinghouse) (says : HouseLine) → early_refusal c says ≡ None → IsGood c.house.0 (order_of says)
-good_by_line c (line.Root ls) none =
+-- an order that is not refused early gives a good list
+pub has_good_list : (c : Clearinghouse) (told : HouseOrder) → early_refusal c told ≡ None → HasGoodList c.house.0 (order_of told)
+has_good_list c (order.Root ls) none =
     good_list (is_some (get c.dirs (record { 0 = root_dir }))) (is_bad_list (c.house.0 ∷ listed_houses ls)) none
-good_by_line c (line.Mkdir d n made ls) none = good_list (is_some (get c.dirs made)) (is_bad_list (c.house.0 ∷ listed_houses ls)) none
-good_by_line c (line.Repoint d n h rs) none = tt
-good_by_line c (line.Update d u) none = tt
-good_by_line c (line.Skulk d) none = tt
-good_by_line c (line.Epoch d k list) none = tt
-good_by_line c (line.Take octets) none = tt
-good_by_line c (line.House x n) none = tt
-good_by_line c (line.Clock t) none = tt
-good_by_line c (line.More octets) none = tt
-good_by_line c (line.Ask q) none = tt
-
--- a line that is not refused early gives a good list
-pub has_good_list : (c : Clearinghouse) (says : HouseLine) (order : Order) → order_of says ≡ Some order → early_refusal c says ≡ None
-    → HasGoodList c.house.0 order
-has_good_list c says order is none = subst (IsGood c.house.0) is (good_by_line c says none)
+has_good_list c (order.Mkdir d n made ls) none = good_list (is_some (get c.dirs made)) (is_bad_list (c.house.0 ∷ listed_houses ls)) none
+has_good_list c other none = tt

@@ -15,11 +15,12 @@ use Rattle.clearinghouse.specs.declared.house.Clearinghouse.{Clearinghouse}
 use Rattle.house_lines.specs.LineRows.{said_in}
 use Rattle.house_lines.specs.declared.line.HouseLine.{HouseLine}
 use Rattle.house_lines.specs.declared.line.HouseLine.TheVariants as asks
+use Rattle.house_lines.specs.declared.line.HouseOrder.TheVariants as order
 use Rattle.house_serving.specs.Turns.{Said}
 use Rattle.cell_runs.specs.Orders.{new_house}
 use Rattle.house_turns.specs.declared.house.House.{House}
 use Rattle.house_turns.specs.declared.house.TheConstants.{MOST_MESSAGE}
-use Rattle.house_turns.specs.HouseReplies.{RepliesAnew, RepliesBy, RepliesIf, RepliesMoreIf, RepliesTake, RepliesTo, Responds, TellsLines, with_spaces, new_clearinghouse}
+use Rattle.house_turns.specs.HouseReplies.{RepliesAsked, RepliesClock, RepliesIf, RepliesMade, RepliesMoreIf, RepliesOrder, RepliesTake, RepliesTo, Responds, TellsNone, with_spaces, new_clearinghouse}
 use Rattle.house_turns.proofs.PlainLines.{line_begins}
 use Rattle.house_runs.specs.Tales.{IsMakingBody, LineSays}
 use Rattle.house_runs.proofs.JoinedWords.{words_again}
@@ -55,14 +56,11 @@ module _ (h : House) (home : h.home ≡ None) (number : ℕ) (said : Said) (mid 
   not_made : said.body ≡ None → mid.home ≡ h.home → mid.entry ≡ h.entry → LineWaits h said mid
   not_made none same entry = NotMade none (same ∙ home) entry
 
-  told_lines : (lines : List (List ℕ)) → TellsLines h number lines said mid → LineWaits h said mid
-  told_lines lines told = not_made (ap (λ (s : Said). s.body) told.0) (ap (λ (k : House). k.home) told.1) (ap (λ (k : House). k.entry) told.1)
+  refused_none : TellsNone h number said mid → LineWaits h said mid
+  refused_none told = not_made (ap (λ (s : Said). s.body) told.0) (ap (λ (k : House). k.home) told.1) (ap (λ (k : House). k.entry) told.1)
 
   module _ (words : List (List ℕ)) where
-    anew : (says : HouseLine) → RepliesBy h.home h number (with_spaces words) says said mid → RepliesAnew h number (with_spaces words) says said mid
-    anew says reply = subst (λ (o : Option Clearinghouse). RepliesBy o h number (with_spaces words) says said mid) home reply
-
-    makes : (x : HouseNo) (node : ℕ) → said_in words ≡ Ok (Some (asks.House x node)) → LineSays (with_spaces words) (asks.House x node) → RepliesAnew h number (with_spaces words) (asks.House x node) said mid
+    makes : (x : HouseNo) (node : ℕ) → said_in words ≡ Ok (Some (asks.House x node)) → LineSays (with_spaces words) (asks.House x node) → RepliesMade None h number (with_spaces words) x node said mid
         → LineWaits h said mid
     makes x node read is reply =
         let c : Clearinghouse = new_clearinghouse x node in
@@ -88,35 +86,15 @@ module _ (h : House) (home : h.home ≡ None) (number : ℕ) (said : Said) (mid 
     more_kept false octets reply = not_made (ap (λ (s : Said). s.body) reply.0) (ap (λ (k : House). k.home) reply.1) (ap (λ (k : House). k.entry) reply.1)
 
     by_line : (says : HouseLine) → said_in words ≡ Ok (Some says) → LineSays (with_spaces words) says → RepliesTo h number words says said mid → LineWaits h said mid
+    by_line (asks.House x n) read is reply =
+        makes x n read is (subst (λ (o : Option Clearinghouse). RepliesMade o h number (with_spaces words) x n said mid) home reply)
+    by_line (asks.Clock t) read is reply = refused_none (subst (λ (o : Option Clearinghouse). RepliesClock o h number t said mid) home reply)
     by_line (asks.More octets) read is reply = more_kept (nat_lt MOST_MESSAGE (length (h.more ++ octets))) (h.more ++ octets) reply
-    by_line (asks.Take octets) read is reply =
-        let reply' = subst (λ (o : Option Clearinghouse). RepliesTake o h number (h.more ++ octets) said mid) home reply in
-        not_made (ap (λ (s : Said). s.body) reply'.0) (ap (λ (k : House). k.home) reply'.1) (ap (λ (k : House). k.entry) reply'.1)
-    by_line (asks.House x n) read is reply = makes x n read is (anew (asks.House x n) reply)
-    by_line (asks.Clock t) read is reply =
-        let reply' = anew (asks.Clock t) reply in
-        not_made (ap (λ (s : Said). s.body) reply'.0) (ap (λ (k : House). k.home) reply'.1) (ap (λ (k : House). k.entry) reply'.1)
-    by_line (asks.Root ls) read is reply =
-        let reply' = anew (asks.Root ls) reply in
-        not_made (ap (λ (s : Said). s.body) reply'.0) (ap (λ (k : House). k.home) reply'.1) (ap (λ (k : House). k.entry) reply'.1)
-    by_line (asks.Mkdir d n made ls) read is reply =
-        let reply' = anew (asks.Mkdir d n made ls) reply in
-        not_made (ap (λ (s : Said). s.body) reply'.0) (ap (λ (k : House). k.home) reply'.1) (ap (λ (k : House). k.entry) reply'.1)
-    by_line (asks.Repoint d n y rs) read is reply =
-        let reply' = anew (asks.Repoint d n y rs) reply in
-        not_made (ap (λ (s : Said). s.body) reply'.0) (ap (λ (k : House). k.home) reply'.1) (ap (λ (k : House). k.entry) reply'.1)
-    by_line (asks.Update d u) read is reply =
-        let reply' = anew (asks.Update d u) reply in
-        not_made (ap (λ (s : Said). s.body) reply'.0) (ap (λ (k : House). k.home) reply'.1) (ap (λ (k : House). k.entry) reply'.1)
-    by_line (asks.Skulk d) read is reply =
-        let reply' = anew (asks.Skulk d) reply in
-        not_made (ap (λ (s : Said). s.body) reply'.0) (ap (λ (k : House). k.home) reply'.1) (ap (λ (k : House). k.entry) reply'.1)
-    by_line (asks.Epoch d k list) read is reply =
-        let reply' = anew (asks.Epoch d k list) reply in
-        not_made (ap (λ (s : Said). s.body) reply'.0) (ap (λ (k : House). k.home) reply'.1) (ap (λ (k : House). k.entry) reply'.1)
-    by_line (asks.Ask q) read is reply =
-        let reply' = anew (asks.Ask q) reply in
-        not_made (ap (λ (s : Said). s.body) reply'.0) (ap (λ (k : House). k.home) reply'.1) (ap (λ (k : House). k.entry) reply'.1)
+    by_line (asks.Ask q) read is reply = refused_none (subst (λ (o : Option Clearinghouse). RepliesAsked o h number q said mid) home reply)
+    by_line (asks.Order (order.Take octets)) read is reply =
+        refused_none (subst (λ (o : Option Clearinghouse). RepliesTake o h number (h.more ++ octets) said mid) home reply)
+    by_line (asks.Order told) read is reply =
+        refused_none (subst (λ (o : Option Clearinghouse). RepliesOrder o h number (with_spaces words) told said mid) home reply)
 
   -- a line where no house was made yet
   pub line_waits : (line : List ℕ) → Responds h number line said mid → LineWaits h said mid

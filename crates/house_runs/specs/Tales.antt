@@ -7,13 +7,14 @@ use Rattle.house_entries.specs.Bodies.{IsBody}
 use Rattle.house_lines.specs.LineRows.{said_in}
 use Rattle.house_lines.specs.declared.line.HouseLine.{HouseLine}
 use Rattle.house_lines.specs.declared.line.HouseLine.TheVariants as asks
+use Rattle.house_lines.specs.declared.line.HouseOrder.{HouseOrder}
 use Rattle.cds_stamps.specs.declared.numbers.HouseNo.{HouseNo}
 use Rattle.cell_runs.specs.Entries.{Order, Take, Entry, Post, Started, Turned, TurnEntry}
 use Rattle.cell_runs.specs.HonestRuns.{IsHonest}
+use Rattle.cell_runs.specs.LineOrders.{order_of}
 use Rattle.cell_runs.specs.Orders.{MadeHouse, new_house}
 use Rattle.house_turns.specs.HouseReplies.{take_line, turn_text}
 use Rattle.house_turns.specs.LineOutcomes.{HasNoEnd}
-use Rattle.house_turns.specs.LineSteps.{order_of}
 use Rattle.house_turns.specs.PostTexts.{post_line}
 
 -- the line of a record says this
@@ -24,8 +25,8 @@ LineSays line says = said_in (words_of line) ≡ Ok (Some says)
 -- say it
 pub data SaysOrder : (line : List ℕ) → Order → Type 0 where
   SaysTake : (octets : List ℕ) → SaysOrder (take_line octets) (Take octets)
-  SaysOther : (line : List ℕ) (says : HouseLine) (order : Order)
-      → LineSays line says → order_of says ≡ Some order → SaysOrder line order
+  SaysOther : (line : List ℕ) (told : HouseOrder) → LineSays line (asks.Order told)
+      → SaysOrder line (order_of told)
 
 -- the body of the record of a turn: its line and its answer are one line each, and it does not show
 -- the entry's image

@@ -33,7 +33,7 @@ use Rattle.house_directory.specs.declared.taking.Taken.{Taken}
 use Rattle.house_directory.specs.declared.taking.Taken.TheVariants as taken
 use Rattle.house_directory.specs.DirectorySteps.{IsStampAnswer, IsTakeAnswer, UnlessTaken, is_taken}
 use Rattle.house_directory.specs.HouseMessages.{StandsMessage, leave_of, numbers_of, posts_to}
-use Rattle.house_lines.specs.declared.line.HouseLine.TheVariants as line
+use Rattle.house_lines.specs.declared.line.HouseOrder.TheVariants as order
 use Rattle.cell_model.specs.Cells as model
 use Rattle.cell_model.specs.Commands as command
 use Rattle.script_answers.specs.declared.answer.ScriptRefusal.TheVariants as why
@@ -51,18 +51,18 @@ use Rattle.house_directory.specs.declared.outgoing.Outgoing.TheVariants as out
 use Rattle.clearinghouse.specs.LawfulHouses.{IsLawful}
 use Rattle.clearinghouse.specs.ModelHouses.{StandsHouse}
 use Rattle.house_lines.specs.declared.line.EpochList.{EpochList}
-use Rattle.house_lines.specs.declared.line.HouseLine.{HouseLine}
+use Rattle.house_lines.specs.declared.line.HouseOrder.{HouseOrder}
 use Rattle.cell_runs.specs.Entries.{Post}
-use Rattle.cell_runs.specs.OrderSteps.{IsLetterOf, then_found}
+use Rattle.cell_runs.specs.LineOrders.{listed_houses, order_of}
+use Rattle.cell_runs.specs.OrderSteps.{Carries, IsLetterOf, order_step, then_found}
 use Rattle.cds_cell.specs.Scripted.{update_refusal_of}
 use Rattle.cell_runs.specs.LineAnswers.{refused}
 use Rattle.record_fields.proofs.OneDecoding.{answers_decoding}
 use Rattle.house_turns.specs.declared.said.Said.{Said}
 use Rattle.house_turns.specs.LineOutcomes.{ComesTo, HasNoEnd, IsMessageOf, IsOutcome, Outcome, Posts, StaysAt, TakesMessageOf, Tells}
 use Rattle.house_turns.specs.HouseAnswers.{ascend_from, early_refusal, epoch_refusal, founding_refusal, is_given, maybe_refused, octets_refusal, restored_refusal, take_refusal}
-use Rattle.house_turns.specs.LineSteps.{CarriesAt, first_members, listed_houses, step_at}
 use Rattle.own_stamps.specs.OwnStamps.{later_own}
-use Rattle.house_turns.specs.PrivateTurns.{ArePostsOf, Comes, ComesUnless, Does, MakesChild, Says, TakesMessage, TakesUnless, epoch_of, posts_of_letters, taken_line, taken_outcome}
+use Rattle.house_turns.specs.PrivateTurns.{ArePostsOf, Comes, ComesUnless, Does, MakesChild, Says, TakesMessage, TakesUnless, epoch_of, first_members, posts_of_letters, taken_line, taken_outcome}
 use Rattle.house_turns.proofs.Letters.{letters_posts, maybe_letters, posts_both, posts_stand}
 use Rattle.house_turns.proofs.PlainTexts.{done_ends_nowhere, made_ends_nowhere, taken_is_one_line}
 use Rattle.house_turns.proofs.Outcomes.{Fits, Reads, accept_fits, child_posts, child_tells, posts_outcome, refused_reads, taken_reads, tells_outcome, untaken_reads}
@@ -85,10 +85,10 @@ epoch_letters c d k leaving first ls joins leaves =
     let gone : List Posted = posts_to (numbers_of leaving) (leave_of (sender_of c d) k) in
     posts_both (posts_of_letters first) (posts_of_letters (Some ls)) there gone (maybe_letters first there joins) (letters_posts ls gone leaves)
 
--- ---- what is said, and what a line comes to
+-- ---- what is said, and what an order comes to
 
-module _ (r : Result Said AllocError) (number : ℕ) (c c' : Clearinghouse) (clock : ℕ) (l : HouseLine) where
-  -- it is said what the line comes to
+module _ (r : Result Said AllocError) (number : ℕ) (c c' : Clearinghouse) (clock : ℕ) (l : HouseOrder) where
+  -- it is said what the order comes to
   pub said_comes : (o : Outcome) → IfOk r (λ s. Says number s o) → ComesTo c clock l o c' → IfOk r (λ s. Comes number c c' clock l s)
   said_comes o says comes = go r says
     where
@@ -96,7 +96,7 @@ module _ (r : Result Said AllocError) (number : ℕ) (c c' : Clearinghouse) (clo
       go (Ok s) says = record { outcome = o; says = says; comes = comes }
       go (Err e) says = tt
 
-  -- a line that is refused before the model is asked
+  -- an order that is refused before the model is asked
   pub refused_early : (said : List ℕ) → early_refusal c l ≡ Some said → c' ≡ c → IfOk r (λ s. Says number s (Tells (said ∷ [])))
       → IfOk r (λ s. Does number c c' clock l s)
   refused_early said is same says =
@@ -110,16 +110,16 @@ module _ (r : Result Said AllocError) (number : ℕ) (c c' : Clearinghouse) (clo
   pub asked_model : early_refusal c l ≡ None → IfOk r (λ s. Comes number c c' clock l s) → IfOk r (λ s. Does number c c' clock l s)
   asked_model is comes = subst (λ (o : Option (List ℕ)). IfOk r (λ s. ComesUnless o number c c' clock l s)) (sym is) comes
 
-module _ (Answers : command.Answer → Type 0) (said : List ℕ) (c c' : Clearinghouse) (posted : List Posted) (clock : ℕ) (l : HouseLine)
+module _ (Answers : command.Answer → Type 0) (said : List ℕ) (c c' : Clearinghouse) (posted : List Posted) (clock : ℕ) (l : HouseOrder)
     (house : c'.house ≡ c.house) (node : c'.node ≡ c.node) (lawful : IsLawful c → IsLawful c')
-    (fits : (now : model.House) (m : model.Message) → Fits (step_at c.house.0 now l m))
-    (step : (now : model.House) (m : model.Message) → StandsHouse c now → now.clock ≡ clock → CarriesAt c.house.0 now l m
-    → IsStep Answers (step_at c.house.0 now l m) c c' posted) (takes : (o : Outcome) → TakesMessageOf l c c' o) where
+    (fits : (now : model.House) (m : model.Message) → Fits (order_step c.house.0 now (order_of l) m))
+    (step : (now : model.House) (m : model.Message) → StandsHouse c now → now.clock ≡ clock → Carries c.house.0 now (order_of l) m
+    → IsStep Answers (order_step c.house.0 now (order_of l) m) c c' posted) (takes : (o : Outcome) → TakesMessageOf l c c' o) where
   -- a call that is no turn
   pub comes_tells : Reads Answers false said → c' ≡ c → ComesTo c clock l (Tells (said ∷ [])) c'
   comes_tells reads same = record {
     step = λ now m stands ticks carries.
-        tells_outcome Answers said c c' posted (step_at c.house.0 now l m) (fits now m) reads (step now m stands ticks carries);
+        tells_outcome Answers said c c' posted (order_step c.house.0 now (order_of l) m) (fits now m) reads (step now m stands ticks carries);
     takes = takes (Tells (said ∷ []));
     stays = same;
     one_line = tt;
@@ -132,7 +132,7 @@ module _ (Answers : command.Answer → Type 0) (said : List ℕ) (c c' : Clearin
   pub comes_posts : (posts : List Post) → Reads Answers true said → HasNoEnd said → ArePostsOf posts posted → ComesTo c clock l (Posts posts said) c'
   comes_posts posts reads one_line are = record {
     step = λ now m stands ticks carries.
-        posts_outcome Answers said c c' posted (step_at c.house.0 now l m) posts (fits now m) reads are (step now m stands ticks carries);
+        posts_outcome Answers said c c' posted (order_step c.house.0 now (order_of l) m) posts (fits now m) reads are (step now m stands ticks carries);
     takes = takes (Posts posts said);
     stays = tt;
     one_line = one_line;
@@ -200,7 +200,7 @@ epoch_later (Some (state.Held h)) e k is high =
 -- a child that leads elsewhere is an update
 pub repoint_comes : (r : Result Said AllocError) (number : ℕ) (c c' : Clearinghouse) (clock : ℕ) (d : DirId) (n : List ℕ) (h : HouseNo)
     (rs : List HouseNo) (houses : Houses) → houses ≡ record { master = h.0; others = sorted_houses (numbers_of rs) }
-    → IfOk r (λ s. Does number c c' clock (line.Update d (update.Repoint n houses)) s) → IfOk r (λ s. Comes number c c' clock (line.Repoint d n h rs) s)
+    → IfOk r (λ s. Does number c c' clock (order.Update d (update.Repoint n houses)) s) → IfOk r (λ s. Comes number c c' clock (order.Repoint d n h rs) s)
 repoint_comes (Err e) number c c' clock d n h rs houses is does = tt
 repoint_comes (Ok s) number c c' clock d n h rs houses is does = record {
   outcome = does.outcome;
@@ -220,11 +220,11 @@ repoint_comes (Ok s) number c c' clock d n h rs houses is does = record {
 
 -- and is not refused before, where its houses are a list
 pub repoint_bad : (c : Clearinghouse) (d : DirId) (n : List ℕ) (h : HouseNo) (rs : List HouseNo) → is_bad_list (h.0 ∷ numbers_of rs) ≡ true
-    → early_refusal c (line.Repoint d n h rs) ≡ Some (refused why.BadMembers)
+    → early_refusal c (order.Repoint d n h rs) ≡ Some (refused why.BadMembers)
 repoint_bad c d n h rs bad = rw bad refl
 
 pub repoint_fine : (c : Clearinghouse) (d : DirId) (n : List ℕ) (h : HouseNo) (rs : List HouseNo) → is_bad_list (h.0 ∷ numbers_of rs) ≡ false
-    → early_refusal c (line.Repoint d n h rs) ≡ None
+    → early_refusal c (order.Repoint d n h rs) ≡ None
 repoint_fine c d n h rs good = rw good refl
 
 -- ---- new directories
@@ -270,7 +270,7 @@ still_absent c c' dir made u s o takes absent =
 pub root_comes : (c c' : Clearinghouse) (clock : ℕ) (ls : List Listed) (ms : List Member) (posted : List Posted) (posts : List Post)
     → c'.house ≡ c.house → c'.node ≡ c.node → (IsLawful c → IsLawful c') → ms ≡ first_members c.house.0 ls → ArePostsOf posts posted
     → ((now : model.House) → StandsHouse c now → IsTurn (found_directory c.house.0 now root_dir ms) c' posted)
-    → ComesTo c clock (line.Root ls) (Posts posts (answer_line answer.Done)) c'
+    → ComesTo c clock (order.Root ls) (Posts posts (answer_line answer.Done)) c'
 root_comes c c' clock ls ms posted posts house node lawful is are turns = record {
   step = λ now m stands ticks carries.
       let t : Turn = found_directory c.house.0 now root_dir (first_members c.house.0 ls) in
@@ -288,7 +288,7 @@ root_comes c c' clock ls ms posted posts house node lawful is are turns = record
 pub child_comes : (r : Result Said AllocError) (number : ℕ) (c c' : Clearinghouse) (clock : ℕ) (d : DirId) (n : List ℕ) (made : DirId) (ls : List Listed)
     (u : Change) (ms : List Member) → u ≡ change.MakeChild n (record { dir = made.0; master = c.house.0; others = sorted_houses (listed_houses ls) })
     → ms ≡ first_members c.house.0 ls → IfOk r (MakesChild number c c' clock d u made ms)
-    → IfOk r (λ s. Comes number c c' clock (line.Mkdir d n made ls) s)
+    → IfOk r (λ s. Comes number c c' clock (order.Mkdir d n made ls) s)
 child_comes (Err e) number c c' clock d n made ls u ms child is makes = tt
 child_comes (Ok s) number c c' clock d n made ls u ms child is makes = record {
   outcome = makes.outcome;
@@ -406,7 +406,7 @@ message_in m (Err f) = m
 -- a `take` is that of the message that its octets are
 pub take_comes : (r : Result Said AllocError) (number : ℕ) (c c' : Clearinghouse) (clock : ℕ) (octets : List ℕ) (message : Message) (used : ℕ)
     → Decodes records.message octets (Ok (message, used)) → IfOk r (TakesMessage number c c' message)
-    → IfOk r (λ s. Comes number c c' clock (line.Take octets) s)
+    → IfOk r (λ s. Comes number c c' clock (order.Take octets) s)
 take_comes (Err e) number c c' clock octets message used decodes takes = tt
 take_comes (Ok s) number c c' clock octets message used decodes takes = record {
   outcome = takes.outcome;
@@ -425,7 +425,7 @@ take_comes (Ok s) number c c' clock octets message used decodes takes = record {
     same : (m : Message) → decode_by records.message octets ≡ Ok (m, length octets) → message ≡ m
     same m read = ap (message_in m) (sym (answers_decoding records.message octets (Ok (message, used)) decodes) ∙ read)
 
-    step : (now : model.House) (m : model.Message) → StandsHouse c now → now.clock ≡ clock → CarriesAt c.house.0 now (line.Take octets) m
+    step : (now : model.House) (m : model.Message) → StandsHouse c now → now.clock ≡ clock → Carries c.house.0 now (order_of (order.Take octets)) m
         → IsOutcome (take now m) takes.outcome c c'
     step now m stands ticks carries =
         let letter : IsLetterOf c.house.0 octets m = carries.0 in
@@ -435,28 +435,28 @@ take_comes (Ok s) number c c' clock octets message used decodes takes = record {
 
 -- why octets are refused
 pub take_fault : (c : Clearinghouse) (octets : List ℕ) (f : RecordFault) → decode_by records.message octets ≡ Err f
-    → early_refusal c (line.Take octets) ≡ Some (refused (octets_refusal f))
+    → early_refusal c (order.Take octets) ≡ Some (refused (octets_refusal f))
 take_fault c octets f is = ap (take_refusal c (length octets)) is
 
 pub take_trailing : (c : Clearinghouse) (octets : List ℕ) (message : Message) (used : ℕ) → decode_by records.message octets ≡ Ok (message, used)
-    → used < length octets → early_refusal c (line.Take octets) ≡ Some (codes "refused Trailing " ++ decimal (used + 1))
+    → used < length octets → early_refusal c (order.Take octets) ≡ Some (codes "refused Trailing " ++ decimal (used + 1))
 take_trailing c octets message used is less =
     let test : nat_lt used (length octets) ≡ true = grind (arith, nat_tests, less) in
     ap (take_refusal c (length octets)) is ∙ rw test refl
 
 -- one whole message is refused only for a stamp that the house forgot
 pub take_whole : (c : Clearinghouse) (octets : List ℕ) (message : Message) (used : ℕ) → decode_by records.message octets ≡ Ok (message, used)
-    → length octets ≤ used → early_refusal c (line.Take octets) ≡ restored_refusal (later_own c.node c.floor.time message)
+    → length octets ≤ used → early_refusal c (order.Take octets) ≡ restored_refusal (later_own c.node c.floor.time message)
 take_whole c octets message used is whole =
     let test : nat_lt used (length octets) ≡ false = grind (arith, nat_tests, whole) in
     ap (take_refusal c (length octets)) is ∙ rw test refl
 
--- so a message that is refused, or comes to something, does so as a line
+-- so a message that is refused, or comes to something, does so as an order
 pub take_unless : (r : Result Said AllocError) (number : ℕ) (c c' : Clearinghouse) (clock : ℕ) (octets : List ℕ) (message : Message) (used : ℕ)
-    (refusal : Option (List ℕ)) → Decodes records.message octets (Ok (message, used)) → early_refusal c (line.Take octets) ≡ refusal
-    → IfOk r (TakesUnless refusal number c c' message) → IfOk r (λ s. Does number c c' clock (line.Take octets) s)
+    (refusal : Option (List ℕ)) → Decodes records.message octets (Ok (message, used)) → early_refusal c (order.Take octets) ≡ refusal
+    → IfOk r (TakesUnless refusal number c c' message) → IfOk r (λ s. Does number c c' clock (order.Take octets) s)
 take_unless (Err e) number c c' clock octets message used refusal decodes is takes = tt
 take_unless (Ok s) number c c' clock octets message used None decodes is takes =
-    asked_model (Ok s) number c c' clock (line.Take octets) is (take_comes (Ok s) number c c' clock octets message used decodes takes)
+    asked_model (Ok s) number c c' clock (order.Take octets) is (take_comes (Ok s) number c c' clock octets message used decodes takes)
 take_unless (Ok s) number c c' clock octets message used (Some said) decodes is takes =
-    refused_early (Ok s) number c c' clock (line.Take octets) said is takes.1 takes.0
+    refused_early (Ok s) number c c' clock (order.Take octets) said is takes.1 takes.0

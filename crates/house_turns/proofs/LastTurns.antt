@@ -11,15 +11,19 @@ use Rattle.house_entries.specs.Bodies.{IsBody}
 use Rattle.house_lines.specs.LineRows.{said_in}
 use Rattle.house_lines.specs.declared.line.HouseLine.{HouseLine}
 use Rattle.house_lines.specs.declared.line.HouseLine.TheVariants as asks
+use Rattle.house_lines.specs.declared.line.HouseOrder.{HouseOrder}
+use Rattle.house_lines.specs.declared.line.HouseOrder.TheVariants as order
+use Rattle.house_lines.specs.declared.line.HouseQuestion.{HouseQuestion}
+use Rattle.cds_stamps.specs.declared.numbers.HouseNo.{HouseNo}
 use Rattle.house_serving.specs.Turns.{Said}
 use Rattle.cell_runs.specs.Entries.{Post}
 use Rattle.cell_runs.specs.LineAnswers.{refused}
 use Rattle.house_turns.specs.declared.house.House.{House}
 use Rattle.house_turns.specs.declared.house.TheConstants.{MOST_MESSAGE}
 use Rattle.house_turns.specs.LineOutcomes.{ComesTo, HasNoEnd, Outcome, Posts, Tells}
-use Rattle.house_turns.specs.HouseReplies.{IsReply, IsTurnReply, RepliesAnew, RepliesAt, RepliesBy, RepliesIf, RepliesMoreIf, RepliesTake, RepliesTakeIf, RepliesTo}
-use Rattle.house_turns.specs.HouseReplies.{Responds, TellsLines, UnlessAsked, UnlessRefused, new_clearinghouse, posts_text, take_line, turn_text, with_spaces}
-use Rattle.house_turns.specs.HouseAnswers.{early_refusal, question_said}
+use Rattle.house_turns.specs.HouseReplies.{IsReply, IsTurnReply, RepliesAsked, RepliesClock, RepliesIf, RepliesMade, RepliesMoreIf, RepliesOrder, RepliesTake, RepliesTakeIf, RepliesTo}
+use Rattle.house_turns.specs.HouseReplies.{Responds, TellsLines, UnlessRefused, new_clearinghouse, posts_text, take_line, turn_text, with_spaces}
+use Rattle.house_turns.specs.HouseAnswers.{asked_said, early_refusal}
 use Rattle.house_turns.specs.Openings.{HasTurn, IsTurnText, Redoes, is_skulk}
 use Rattle.house_turns.specs.Records.{IsTurnRecord}
 use Rattle.house_turns.proofs.PlainTexts.{done_ends_nowhere}
@@ -59,36 +63,36 @@ module _ (h : House) (number : ℕ) (said : Said) (h' : House) where
       (subst (λ (l : List ℕ). IsTurnRecord h' l reply.octets) (sym last) reply.record_is)
 
   module _ (c : Clearinghouse) (home : h.home ≡ Some c) (line : List ℕ) (begins : BeginsTurn line) where
-    outcome_kept : (says : HouseLine) (o : Outcome) (c' : Clearinghouse) → ComesTo c h.clock says o c' → IsReply h number line o c' said h'
+    outcome_kept : (told : HouseOrder) (o : Outcome) (c' : Clearinghouse) → ComesTo c h.clock told o c' → IsReply h number line o c' said h'
         → LineKept h said h'
-    outcome_kept says (Tells lines) c' comes reply =
+    outcome_kept told (Tells lines) c' comes reply =
         NoTurn (ap (λ (s : Said). s.body) reply.0)
         (ap (λ (k : House). k.home) reply.1 ∙ ap (λ (d : Clearinghouse). Some d) comes.stays ∙ sym home) (ap (λ (k : House). k.last) reply.1)
-    outcome_kept says (Posts posts answer) c' comes reply = turn_kept h line begins posts answer comes.one_line c' reply
+    outcome_kept told (Posts posts answer) c' comes reply = turn_kept h line begins posts answer comes.one_line c' reply
 
-    refusal_kept : (says : HouseLine) (r : Option (List ℕ)) → UnlessRefused h c number line says r said h' → LineKept h said h'
-    refusal_kept says (Some refusal) reply = lines_kept (refusal ∷ []) reply
-    refusal_kept says None reply = outcome_kept says reply.outcome reply.c' reply.comes reply.reply
+    refusal_kept : (told : HouseOrder) (r : Option (List ℕ)) → UnlessRefused h c number line told r said h' → LineKept h said h'
+    refusal_kept told (Some refusal) reply = lines_kept (refusal ∷ []) reply
+    refusal_kept told None reply = outcome_kept told reply.outcome reply.c' reply.comes reply.reply
 
-    question_kept : (says : HouseLine) (q : Option (List (List ℕ))) → UnlessAsked h c number line says q said h' → LineKept h said h'
-    question_kept says (Some lines) reply = lines_kept lines reply
-    question_kept says None reply = refusal_kept says (early_refusal c says) reply
+  order_kept : (line : List ℕ) → BeginsTurn line → (told : HouseOrder) (o : Option Clearinghouse) → h.home ≡ o
+      → RepliesOrder o h number line told said h' → LineKept h said h'
+  order_kept line begins told None home reply = lines_kept (refused why.NoHouse ∷ []) reply
+  order_kept line begins told (Some c) home reply = refusal_kept c home line begins told (early_refusal c told) reply
 
-    at_kept : (says : HouseLine) → RepliesAt h c number line says said h' → LineKept h said h'
-    at_kept (asks.House x node) reply = lines_kept (refused why.HouseExists ∷ []) reply
-    at_kept (asks.Clock time) reply =
-        NoTurn (ap (λ (s : Said). s.body) reply.0) (ap (λ (k : House). k.home) reply.1) (ap (λ (k : House). k.last) reply.1)
-    at_kept says reply = question_kept says (question_said c says) reply
+  asked_kept : (q : HouseQuestion) (o : Option Clearinghouse) → RepliesAsked o h number q said h' → LineKept h said h'
+  asked_kept q None reply = lines_kept (refused why.NoHouse ∷ []) reply
+  asked_kept q (Some c) reply = lines_kept (asked_said c q) reply
 
-  anew_kept : (line : List ℕ) → BeginsTurn line → (says : HouseLine) → RepliesAnew h number line says said h' → LineKept h said h'
-  anew_kept line begins (asks.House x node) reply =
-      turn_kept (record h { node = node }) line begins [] (answer_line answer.Done) done_ends_nowhere (new_clearinghouse x node) reply
-  anew_kept line begins says reply = lines_kept (refused why.NoHouse ∷ []) reply
-
-  home_kept : (line : List ℕ) → BeginsTurn line → (says : HouseLine) (o : Option Clearinghouse) → h.home ≡ o → RepliesBy o h number line says said h'
+  made_kept : (line : List ℕ) → BeginsTurn line → (x : HouseNo) (node : ℕ) (o : Option Clearinghouse) → RepliesMade o h number line x node said h'
       → LineKept h said h'
-  home_kept line begins says None home reply = anew_kept line begins says reply
-  home_kept line begins says (Some c) home reply = at_kept c home line begins says reply
+  made_kept line begins x node None reply =
+      turn_kept (record h { node = node }) line begins [] (answer_line answer.Done) done_ends_nowhere (new_clearinghouse x node) reply
+  made_kept line begins x node (Some c) reply = lines_kept (refused why.HouseExists ∷ []) reply
+
+  clock_kept : (time : ℕ) (o : Option Clearinghouse) → RepliesClock o h number time said h' → LineKept h said h'
+  clock_kept time None reply = lines_kept (refused why.NoHouse ∷ []) reply
+  clock_kept time (Some c) reply =
+      NoTurn (ap (λ (s : Said). s.body) reply.0) (ap (λ (k : House). k.home) reply.1) (ap (λ (k : House). k.last) reply.1)
 
   more_kept : (many : Bool) (octets : List ℕ) → RepliesMoreIf many h number octets said h' → LineKept h said h'
   more_kept true octets reply = lines_kept (codes "refused TooLong" ∷ []) reply
@@ -98,7 +102,7 @@ module _ (h : House) (number : ℕ) (said : Said) (h' : House) where
   message_kept : (c : Clearinghouse) → h.home ≡ Some c → (many : Bool) (octets : List ℕ) → RepliesTakeIf many h c number octets said h'
       → LineKept h said h'
   message_kept c home true octets reply = lines_kept (codes "refused TooLong" ∷ []) reply
-  message_kept c home false octets reply = at_kept c home (take_line octets) (take_begins octets) (asks.Take octets) reply
+  message_kept c home false octets reply = order_kept (take_line octets) (take_begins octets) (order.Take octets) (Some c) home reply
 
   take_kept : (o : Option Clearinghouse) → h.home ≡ o → (octets : List ℕ) → RepliesTake o h number octets said h' → LineKept h said h'
   take_kept None home octets reply = lines_kept (refused why.NoHouse ∷ []) reply
@@ -106,8 +110,11 @@ module _ (h : House) (number : ℕ) (said : Said) (h' : House) where
 
   words_kept : (words : List (List ℕ)) (says : HouseLine) → said_in words ≡ Ok (Some says) → RepliesTo h number words says said h' → LineKept h said h'
   words_kept words (asks.More octets) is reply = more_kept (nat_lt MOST_MESSAGE (length (h.more ++ octets))) (h.more ++ octets) reply
-  words_kept words (asks.Take octets) is reply = take_kept h.home refl (h.more ++ octets) reply
-  words_kept words says is reply = home_kept (with_spaces words) (line_begins words says is) says h.home refl reply
+  words_kept words (asks.House x node) is reply = made_kept (with_spaces words) (line_begins words (asks.House x node) is) x node h.home reply
+  words_kept words (asks.Clock time) is reply = clock_kept time h.home reply
+  words_kept words (asks.Ask q) is reply = asked_kept q h.home reply
+  words_kept words (asks.Order (order.Take octets)) is reply = take_kept h.home refl (h.more ++ octets) reply
+  words_kept words (asks.Order told) is reply = order_kept (with_spaces words) (line_begins words (asks.Order told) is) told h.home refl reply
 
   pub line_kept : (line : List ℕ) → Responds h number line said h' → LineKept h said h'
   line_kept line reply = by (said_in (words_of line)) refl reply

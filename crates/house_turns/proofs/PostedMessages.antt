@@ -17,7 +17,7 @@ use Rattle.own_stamps.specs.OwnStamps.{later_own}
 use Rattle.own_stamps.proofs.Carried.{not_later}
 use Rattle.own_stamps.proofs.Given.{gave_theirs}
 use Rattle.cell_runs.specs.OrderSteps.{IsLetterOf}
-use Rattle.house_lines.specs.declared.line.HouseLine.TheVariants as line
+use Rattle.house_lines.specs.declared.line.HouseOrder.TheVariants as order
 use Rattle.house_turns.specs.HouseAnswers.{early_refusal, restored_refusal}
 use Rattle.house_turns.proofs.Comes.{take_whole}
 
@@ -33,7 +33,7 @@ whole_message octets m whole =
 -- so a house takes it, or does not, by the model alone
 pub not_refused_early : (g : model.Cell) (m : model.Message) (c : Clearinghouse) (octets : List ℕ) → IsReached g → In m g.bag
     → has m.receiver g.made ≡ true → StandsHouse c (g.house m.receiver) → IsLetterOf m.receiver octets m
-    → early_refusal c (line.Take octets) ≡ None
+    → early_refusal c (order.Take octets) ≡ None
 not_refused_early g m c octets reached posted made stands letter =
     let none : later_own (g.house m.receiver).node (g.house m.receiver).floor letter.carried ≡ None =
     not_later (g.house m.receiver).node (g.house m.receiver).floor m.receiver letter.carried m letter.stands

@@ -26,12 +26,12 @@ use Rattle.clearinghouse.specs.HouseImages.{image_of}
 use Rattle.clearinghouse.specs.declared.house.Clearinghouse.{Clearinghouse}
 use Rattle.own_stamps.specs.OwnStamps.{later_own}
 use Rattle.house_lines.specs.declared.line.EpochList.{EpochList}
-use Rattle.house_lines.specs.declared.line.HouseLine.{HouseLine}
-use Rattle.house_lines.specs.declared.line.HouseLine.TheVariants as line
+use Rattle.house_lines.specs.declared.line.HouseOrder.{HouseOrder}
+use Rattle.house_lines.specs.declared.line.HouseOrder.TheVariants as order
 use Rattle.house_lines.specs.declared.line.HouseQuestion.{HouseQuestion}
 use Rattle.house_lines.specs.declared.line.HouseQuestion.TheVariants as ask
 use Rattle.cell_runs.specs.LineAnswers.{refused}
-use Rattle.house_turns.specs.LineSteps.{listed_houses}
+use Rattle.cell_runs.specs.LineOrders.{listed_houses}
 use Rattle.house_turns.specs.PostTexts.{end_line, octets_line, octets_lines}
 use Rattle.house_turns.specs.Showings.{directories_said, show_said, status_said}
 
@@ -99,15 +99,15 @@ abbrev pub maybe_refused : Option ScriptRefusal → Option (List ℕ)
 maybe_refused None = None
 maybe_refused (Some r) = Some (refused r)
 
--- the refusal of a line that comes before what the model says, if one does
-abbrev pub early_refusal : Clearinghouse → HouseLine → Option (List ℕ)
-early_refusal c (line.Root ls) = maybe_refused (founding_refusal c (record { 0 = root_dir }) ls)
-early_refusal c (line.Mkdir d n made ls) = maybe_refused (founding_refusal c made ls)
-early_refusal c (line.Repoint d n h rs) =
+-- the refusal of an order that comes before what the model says, if one does
+abbrev pub early_refusal : Clearinghouse → HouseOrder → Option (List ℕ)
+early_refusal c (order.Root ls) = maybe_refused (founding_refusal c (record { 0 = root_dir }) ls)
+early_refusal c (order.Mkdir d n made ls) = maybe_refused (founding_refusal c made ls)
+early_refusal c (order.Repoint d n h rs) =
     maybe_refused (if is_bad_list (h.0 ∷ numbers_of rs) then Some why.BadMembers else None)
-early_refusal c (line.Epoch d k list) =
+early_refusal c (order.Epoch d k list) =
     maybe_refused (epoch_refusal c.house.0 k.0 list (get c.dirs d))
-early_refusal c (line.Take octets) =
+early_refusal c (order.Take octets) =
     take_refusal c (length octets) (decode_by records.message octets)
 early_refusal c other = None
 
@@ -142,8 +142,3 @@ asked_said c (ask.Show high d n) = show_said c.house.0 high n (get c.dirs d)
 asked_said c (ask.Status d) = status_said (get c.dirs d)
 asked_said c ask.Directories = directories_said (entries c.dirs)
 asked_said c ask.Image = octets_lines (image_octets (image_of c))
-
--- what a house answers to a line that is a question; nothing, if it is none
-abbrev pub question_said : Clearinghouse → HouseLine → Option (List (List ℕ))
-question_said c (line.Ask q) = Some (asked_said c q)
-question_said c other = None

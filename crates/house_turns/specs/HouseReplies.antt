@@ -13,12 +13,15 @@ use Rattle.clearinghouse.specs.declared.house.Clearinghouse.{Clearinghouse}
 use Rattle.house_lines.specs.LineRows.{said_in}
 use Rattle.house_lines.specs.declared.line.HouseLine.{HouseLine}
 use Rattle.house_lines.specs.declared.line.HouseLine.TheVariants as asks
+use Rattle.house_lines.specs.declared.line.HouseOrder.{HouseOrder}
+use Rattle.house_lines.specs.declared.line.HouseOrder.TheVariants as order
+use Rattle.house_lines.specs.declared.line.HouseQuestion.{HouseQuestion}
 use Rattle.house_serving.specs.Turns.{Said}
 use Rattle.cell_runs.specs.Entries.{Post}
 use Rattle.cell_runs.specs.LineAnswers.{refused}
 use Rattle.house_turns.specs.declared.house.House.{House}
 use Rattle.house_turns.specs.declared.house.TheConstants.{MOST_MESSAGE}
-use Rattle.house_turns.specs.HouseAnswers.{early_refusal, question_said}
+use Rattle.house_turns.specs.HouseAnswers.{asked_said, early_refusal}
 use Rattle.house_turns.specs.LineOutcomes.{ComesTo, Outcome, Posts, Tells}
 use Rattle.house_turns.specs.Records.{IsTurnRecord}
 use Rattle.house_turns.specs.PostTexts.{octets_line, piece_lines, pieces_of, post_line}
@@ -88,12 +91,13 @@ IsReply h number line (Tells lines) c' said h' =
 IsReply h number line (Posts posts answer) c' said h' =
     IsTurnReply h number line posts answer c' said h'
 
--- the reply to a line that asks a clearinghouse for a step (own)
-pub record StepReply (h : House) (c : Clearinghouse) (number : ℕ) (line : List ℕ) (says : HouseLine)
-    (said : Said) (h' : House) : Type 0 where
+-- the reply to an order that asks a clearinghouse for a step (own)
+pub record StepReply (h : House) (c : Clearinghouse) (number : ℕ) (line : List ℕ)
+    (told : HouseOrder) (said : Said)
+    (h' : House) : Type 0 where
   pub outcome : Outcome
   pub c' : Clearinghouse
-  pub comes : ComesTo c h.clock says outcome c'
+  pub comes : ComesTo c h.clock told outcome c'
   pub reply : IsReply h number line outcome c' said h'
 
 -- these lines alone are the answer, and the house has no octets of a message (own)
@@ -101,43 +105,44 @@ abbrev pub TellsLines : House → ℕ → List (List ℕ) → Said → House →
 TellsLines h number lines said h' =
     (said ≡ tells_alone number lines) × (h' ≡ record h { more = [] })
 
--- the reply to a line, unless this refusal comes before (own)
-abbrev pub UnlessRefused : House → (c : Clearinghouse) → ℕ → (line : List ℕ) → HouseLine
+-- no house was made: all but the line that makes one is refused (own)
+abbrev pub TellsNone : House → ℕ → Said → House → Type 0
+TellsNone h number said h' = TellsLines h number (refused why.NoHouse ∷ []) said h'
+
+-- the reply to an order, unless this refusal comes before (own)
+abbrev pub UnlessRefused : House → (c : Clearinghouse) → ℕ → (line : List ℕ) → HouseOrder
     → Option (List ℕ) → Said → House → Type 0
-UnlessRefused h c number line says (Some refusal) said h' =
+UnlessRefused h c number line told (Some refusal) said h' =
     TellsLines h number (refusal ∷ []) said h'
-UnlessRefused h c number line says None said h' = StepReply h c number line says said h'
+UnlessRefused h c number line told None said h' = StepReply h c number line told said h'
 
--- the reply to a line that may be a question (own)
-abbrev pub UnlessAsked : House → (c : Clearinghouse) → ℕ → (line : List ℕ) → HouseLine
-    → Option (List (List ℕ)) → Said → House → Type 0
-UnlessAsked h c number line says (Some lines) said h' = TellsLines h number lines said h'
-UnlessAsked h c number line says None said h' =
-    UnlessRefused h c number line says (early_refusal c says) said h'
+-- the reply to an order, by what the folder has (own)
+abbrev pub RepliesOrder : Option Clearinghouse → House → ℕ → (line : List ℕ) → HouseOrder → Said
+    → House → Type 0
+RepliesOrder None h number line told said h' = TellsNone h number said h'
+RepliesOrder (Some c) h number line told said h' =
+    UnlessRefused h c number line told (early_refusal c told) said h'
 
--- the reply where there is a clearinghouse (own)
-abbrev pub RepliesAt : House → (c : Clearinghouse) → ℕ → (line : List ℕ) → HouseLine → Said → House
-    → Type 0
-RepliesAt h c number line (asks.House x node) said h' =
-    TellsLines h number (refused why.HouseExists ∷ []) said h'
-RepliesAt h c number line (asks.Clock time) said h' =
-    (said ≡ tells_alone number (answer_line answer.Done ∷ []))
-    × (h' ≡ record h { clock = time; more = [] })
-RepliesAt h c number line says said h' =
-    UnlessAsked h c number line says (question_said c says) said h'
+-- the reply to a question (own)
+abbrev pub RepliesAsked : Option Clearinghouse → House → ℕ → HouseQuestion → Said → House → Type 0
+RepliesAsked None h number asked said h' = TellsNone h number said h'
+RepliesAsked (Some c) h number asked said h' = TellsLines h number (asked_said c asked) said h'
 
--- where there is none: it is made, and that is a turn; all else is refused (own)
-abbrev pub RepliesAnew : House → ℕ → (line : List ℕ) → HouseLine → Said → House → Type 0
-RepliesAnew h number line (asks.House x node) said h' =
+-- the reply to a line that makes the house: a turn, if there is none yet (own)
+abbrev pub RepliesMade : Option Clearinghouse → House → ℕ → (line : List ℕ) → HouseNo → (node : ℕ)
+    → Said → House → Type 0
+RepliesMade None h number line x node said h' =
     IsTurnReply (record h { node = node }) number line [] (answer_line answer.Done)
     (new_clearinghouse x node) said h'
-RepliesAnew h number line says said h' = TellsLines h number (refused why.NoHouse ∷ []) said h'
+RepliesMade (Some c) h number line x node said h' =
+    TellsLines h number (refused why.HouseExists ∷ []) said h'
 
--- the reply by what the folder has (own)
-abbrev pub RepliesBy : Option Clearinghouse → House → ℕ → (line : List ℕ) → HouseLine → Said → House
-    → Type 0
-RepliesBy None h number line says said h' = RepliesAnew h number line says said h'
-RepliesBy (Some c) h number line says said h' = RepliesAt h c number line says said h'
+-- the reply to a line that sets the clock (own)
+abbrev pub RepliesClock : Option Clearinghouse → House → ℕ → (time : ℕ) → Said → House → Type 0
+RepliesClock None h number time said h' = TellsNone h number said h'
+RepliesClock (Some c) h number time said h' =
+    (said ≡ tells_alone number (answer_line answer.Done ∷ []))
+    × (h' ≡ record h { clock = time; more = [] })
 
 -- the reply to octets, by whether they are too many for a message; if not, they are kept (own)
 abbrev pub RepliesMoreIf : (many : Bool) → House → ℕ → (octets : List ℕ) → Said → House → Type 0
@@ -158,21 +163,26 @@ abbrev pub RepliesTakeIf : (many : Bool) → House → (c : Clearinghouse) → �
 RepliesTakeIf true h c number octets said h' =
     TellsLines h number (codes "refused TooLong" ∷ []) said h'
 RepliesTakeIf false h c number octets said h' =
-    RepliesAt h c number (take_line octets) (asks.Take octets) said h'
+    RepliesOrder (Some c) h number (take_line octets) (order.Take octets) said h'
 
 -- the reply to all octets of a message (own)
 abbrev pub RepliesTake : Option Clearinghouse → House → ℕ → (octets : List ℕ) → Said → House
     → Type 0
-RepliesTake None h number octets said h' = TellsLines h number (refused why.NoHouse ∷ []) said h'
+RepliesTake None h number octets said h' = TellsNone h number said h'
 RepliesTake (Some c) h number octets said h' =
     RepliesTakeIf (nat_lt MOST_MESSAGE (length octets)) h c number octets said h'
 
 -- the reply to a line of these words, which say this (own)
 abbrev pub RepliesTo : House → ℕ → (words : List (List ℕ)) → HouseLine → Said → House → Type 0
+RepliesTo h number words (asks.House x node) said h' =
+    RepliesMade h.home h number (with_spaces words) x node said h'
+RepliesTo h number words (asks.Clock time) said h' = RepliesClock h.home h number time said h'
 RepliesTo h number words (asks.More octets) said h' = RepliesMore h number octets said h'
-RepliesTo h number words (asks.Take octets) said h' =
+RepliesTo h number words (asks.Ask asked) said h' = RepliesAsked h.home h number asked said h'
+RepliesTo h number words (asks.Order (order.Take octets)) said h' =
     RepliesTake h.home h number (h.more ++ octets) said h'
-RepliesTo h number words says said h' = RepliesBy h.home h number (with_spaces words) says said h'
+RepliesTo h number words (asks.Order told) said h' =
+    RepliesOrder h.home h number (with_spaces words) told said h'
 
 -- the reply to a line that says something, nothing, or has a fault (own)
 abbrev pub RepliesIf : House → ℕ → (words : List (List ℕ)) → Result (Option HouseLine) ParseFault

@@ -1,5 +1,4 @@
 pub mod PostTexts
-pub mod LineSteps
 pub mod Showings
 pub mod HouseAnswers
 pub mod Records

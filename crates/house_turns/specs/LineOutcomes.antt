@@ -1,4 +1,4 @@
--- What a line comes to at a house (own, after C705, updates, skulks and new epochs).
+-- What an order comes to at a house (own, after C705, updates, skulks and new epochs).
 use Rattle.std.specs.Prelude.{◌≡◌, ◌≢◌, All, ℕ, List, [], ◌∷◌, length, map, Ok, codes, if◌then◌else◌}
 use Rattle.record_fields.specs.Decoding.{decode_by}
 use Rattle.cds_records.specs.RecordOctets.{message_octets}
@@ -16,19 +16,19 @@ use Rattle.clearinghouse.specs.HouseTakes.{TakesPosting}
 use Rattle.clearinghouse.specs.LawfulHouses.{IsLawful}
 use Rattle.clearinghouse.specs.ModelHouses.{StandsHouse}
 use Rattle.clearinghouse.specs.declared.house.Clearinghouse.{Clearinghouse}
-use Rattle.house_lines.specs.declared.line.HouseLine.{HouseLine}
-use Rattle.house_lines.specs.declared.line.HouseLine.TheVariants as line
+use Rattle.house_lines.specs.declared.line.HouseOrder.{HouseOrder}
+use Rattle.house_lines.specs.declared.line.HouseOrder.TheVariants as order
 use Rattle.cell_runs.specs.Entries.{Post}
 use Rattle.cell_runs.specs.LineAnswers.{answer_said}
-use Rattle.cell_runs.specs.OrderSteps.{ArePosts}
-use Rattle.house_turns.specs.LineSteps.{CarriesAt, step_at}
+use Rattle.cell_runs.specs.LineOrders.{order_of}
+use Rattle.cell_runs.specs.OrderSteps.{ArePosts, Carries, order_step}
 
 -- no turn: an answer alone; or a turn: what it posts, and its answer (own)
 pub data Outcome : Type 0 where
   Tells : (lines : List (List ℕ)) → Outcome
   Posts : (posts : List Post) → (answer : List ℕ) → Outcome
 
--- a line comes to what the step of the model is: its answer, and nothing changes; or the messages
+-- an order comes to what the step of the model is: its answer, and nothing changes; or the messages
 -- and the answer of the turn, and then the clearinghouse is for the house after it (own)
 abbrev pub IsOutcome : HouseStep → Outcome → (c c' : Clearinghouse) → Type 0
 IsOutcome (Stays answer) (Tells lines) c c' = (lines ≡ answer_said answer ∷ []) × (c' ≡ c)
@@ -64,8 +64,8 @@ pub record IsMessageOf (m : Message) (c c' : Clearinghouse) (outcome : Outcome) 
   pub is : outcome ≡ taken_outcome answer (posts_said posted)
 
 -- a `take` does what the message does that its octets are (own)
-abbrev pub TakesMessageOf : HouseLine → (c c' : Clearinghouse) → Outcome → Type 0
-TakesMessageOf (line.Take octets) c c' outcome =
+abbrev pub TakesMessageOf : HouseOrder → (c c' : Clearinghouse) → Outcome → Type 0
+TakesMessageOf (order.Take octets) c c' outcome =
     (m : Message) → decode_by records.message octets ≡ Ok (m, length octets)
     → IsMessageOf m c c' outcome
 TakesMessageOf other c c' outcome = Unit {0}
@@ -84,15 +84,15 @@ abbrev pub IsOneLine : Outcome → Type 0
 IsOneLine (Tells lines) = Unit {0}
 IsOneLine (Posts posts answer) = HasNoEnd answer
 
--- what a line comes to at a clearinghouse, and how that is after it. Whichever house of the model
+-- what an order comes to at a clearinghouse, and how that is after it. Whichever house of the model
 -- it is for, and whichever message a `take` is for, it is that house's step. A message that is none
 -- of the model does what it says, too (own)
-pub record ComesTo (c : Clearinghouse) (clock : ℕ) (said : HouseLine) (outcome : Outcome)
+pub record ComesTo (c : Clearinghouse) (clock : ℕ) (told : HouseOrder) (outcome : Outcome)
     (c' : Clearinghouse) : Type 0 where
   pub step : (now : model.House) (m : model.Message) → StandsHouse c now → now.clock ≡ clock
-      → CarriesAt c.house.0 now said m
-      → IsOutcome (step_at c.house.0 now said m) outcome c c'
-  pub takes : TakesMessageOf said c c' outcome
+      → Carries c.house.0 now (order_of told) m
+      → IsOutcome (order_step c.house.0 now (order_of told) m) outcome c c'
+  pub takes : TakesMessageOf told c c' outcome
   pub stays : StaysAt outcome c c'
   pub one_line : IsOneLine outcome
   pub house : c'.house ≡ c.house

@@ -7,6 +7,9 @@ use Rattle.script_answers.specs.declared.answer.ScriptRefusal.TheVariants as why
 use Rattle.std.specs.List.{flat_map}
 use Rattle.cds_stamps.specs.declared.numbers.EpochNo.{EpochNo}
 use Rattle.cds_stamps.specs.declared.numbers.HouseNo.{HouseNo}
+use Rattle.cell_model.specs.Steps.{member_list_of}
+use Rattle.cell_script.specs.declared.lists.Listed.{Listed}
+use Rattle.cell_runs.specs.LineOrders.{listed_houses, listed_secondaries}
 use Rattle.cell_runs.specs.OrderSteps.{then_found}
 use Rattle.cell_runs.specs.Entries.{Post}
 use Rattle.cell_runs.specs.LineAnswers.{refused}
@@ -23,8 +26,8 @@ use Rattle.house_directory.specs.declared.states.DirState.{DirState}
 use Rattle.house_directory.specs.declared.states.DirState.TheVariants as state
 use Rattle.clearinghouse.specs.declared.house.Clearinghouse.{Clearinghouse}
 use Rattle.clearinghouse.specs.declared.letters.Letters.{Letters}
-use Rattle.house_lines.specs.declared.line.HouseLine.{HouseLine}
-use Rattle.house_lines.specs.declared.line.HouseLine.TheVariants as asks
+use Rattle.house_lines.specs.declared.line.HouseOrder.{HouseOrder}
+use Rattle.house_lines.specs.declared.line.HouseQuestion.{HouseQuestion}
 use Rattle.house_turns.specs.declared.said.Posts as posts
 use Rattle.house_turns.specs.declared.said.Said as said
 use Rattle.house_turns.specs.declared.said.Said.TheVariants.{Told, Turned}
@@ -51,7 +54,11 @@ use Rattle.house_turns.specs.RunningSkulks.{AllFit, running_lines}
 use Rattle.house_turns.specs.declared.running.RunningLines.{RunningLines}
 use Rattle.clearinghouse.specs.declared.running.RunningSkulk.{RunningSkulk}
 use Rattle.house_turns.specs.Records.{IsTurnRecord}
-use Rattle.house_turns.specs.HouseAnswers.{early_refusal, question_said}
+use Rattle.house_turns.specs.HouseAnswers.{asked_said, early_refusal}
+
+-- the members of a new directory: this house is the master, and the others are what the line says
+abbrev pub first_members : (x : ℕ) → List Listed → List Member
+first_members x ls = member_list_of [] 1 x (listed_houses ls) (listed_secondaries ls)
 
 -- a message to each of its receivers, if there is one
 abbrev pub posts_of_letters : Option Letters → List Post
@@ -102,30 +109,24 @@ Says number (Turned ps octets) (Posts posts answer) =
     (posts_in ps ≡ posts) × (octets.items ≡ answer)
 Says number _ _ = ⊥
 
--- a line comes to what is said
-pub record Comes (number : ℕ) (old new : Clearinghouse) (clock : ℕ) (line : HouseLine)
+-- an order comes to what is said
+pub record Comes (number : ℕ) (old new : Clearinghouse) (clock : ℕ) (told : HouseOrder)
     (s : said.Said) : Type 0 where
   pub outcome : Outcome
   pub says : Says number s outcome
-  pub comes : ComesTo old clock line outcome new
+  pub comes : ComesTo old clock told outcome new
 
--- a line is refused before the model is asked
+-- an order is refused before the model is asked
 abbrev pub ComesUnless : Option (List ℕ) → (number : ℕ) → (old new : Clearinghouse) → (clock : ℕ)
-    → HouseLine → said.Said → Type 0
-ComesUnless (Some refusal) number old new clock line s =
+    → HouseOrder → said.Said → Type 0
+ComesUnless (Some refusal) number old new clock told s =
     Says number s (Tells (refusal ∷ [])) × (new ≡ old)
-ComesUnless None number old new clock line s = Comes number old new clock line s
+ComesUnless None number old new clock told s = Comes number old new clock told s
 
--- what is said to a line at a clearinghouse, which is so before it and so after it
-abbrev pub Does : (number : ℕ) → (old new : Clearinghouse) → (clock : ℕ) → HouseLine → said.Said
+-- what is said to an order at a clearinghouse, which is so before it and so after it
+abbrev pub Does : (number : ℕ) → (old new : Clearinghouse) → (clock : ℕ) → HouseOrder → said.Said
     → Type 0
-Does number old new clock line s = ComesUnless (early_refusal old line) number old new clock line s
-
--- what is said to a question, or to another line
-abbrev pub DoesOrTells : Option (List (List ℕ)) → (number : ℕ) → (old new : Clearinghouse)
-    → (clock : ℕ) → HouseLine → said.Said → Type 0
-DoesOrTells (Some lines) number old new clock line s = Says number s (Tells lines) × (new ≡ old)
-DoesOrTells None number old new clock line s = Does number old new clock line s
+Does number old new clock told s = ComesUnless (early_refusal old told) number old new clock told s
 
 -- what a message comes to: whichever house of the model the clearinghouse is for, and whichever
 -- message, it is that house's step
@@ -165,37 +166,38 @@ pub record MakesChild (number : ℕ) (old new : Clearinghouse) (clock : ℕ) (di
   pub node : new.node ≡ old.node
   pub lawful : IsLawful old → IsLawful new
 
--- what is said to a line that the clearinghouse is asked, if there is one, and the house after it
-abbrev pub AsksHome : Option Clearinghouse → (number : ℕ) → (old new : House) → HouseLine
-    → said.Said → Type 0
-AsksHome None number old new says s = Says number s (Tells (refused why.NoHouse ∷ [])) × (new ≡ old)
-AsksHome (Some c) number old new says s =
-    (c' : Clearinghouse) × DoesOrTells (question_said c says) number c c' old.clock says s
-    × (new ≡ record old { home = Some c' })
+-- no house was made
+abbrev pub SaysNone : (number : ℕ) → said.Said → Type 0
+SaysNone number s = Says number s (Tells (refused why.NoHouse ∷ []))
 
--- what is said to a line where there is a clearinghouse, and the house after it
-abbrev pub DoesAt : (c : Clearinghouse) → (number : ℕ) → (old new : House) → HouseLine → said.Said
+-- what is said to an order, if there is a clearinghouse to do it, and the house after it
+abbrev pub Obeys : Option Clearinghouse → (number : ℕ) → (old new : House) → HouseOrder → said.Said
     → Type 0
-DoesAt c number old new (asks.House x node) s =
-    Says number s (Tells (refused why.HouseExists ∷ [])) × (new ≡ old)
-DoesAt c number old new (asks.Clock time) s =
-    Says number s (Tells (answer_line answer.Done ∷ [])) × (new ≡ record old { clock = time })
-DoesAt c number old new says s =
-    (c' : Clearinghouse) × DoesOrTells (question_said c says) number c c' old.clock says s
+Obeys None number old new told s = SaysNone number s × (new ≡ old)
+Obeys (Some c) number old new told s =
+    (c' : Clearinghouse) × Does number c c' old.clock told s
     × (new ≡ record old { home = Some c' })
 
--- where there is none
-abbrev pub DoesAnew : (number : ℕ) → (old new : House) → HouseLine → said.Said → Type 0
-DoesAnew number old new (asks.House x node) s =
+-- what is said to a question
+abbrev pub SaysAsked : Option Clearinghouse → (number : ℕ) → HouseQuestion → said.Said → Type 0
+SaysAsked None number asked s = SaysNone number s
+SaysAsked (Some c) number asked s = Says number s (Tells (asked_said c asked))
+
+-- what is said to a line that makes the house, and the house after it
+abbrev pub Makes : Option Clearinghouse → (number : ℕ) → (old new : House) → HouseNo → (node : ℕ)
+    → said.Said → Type 0
+Makes None number old new x node s =
     Says number s (Posts [] (answer_line answer.Done))
     × (new ≡ record old { home = Some (new_clearinghouse x node); node = node })
-DoesAnew number old new says s = Says number s (Tells (refused why.NoHouse ∷ [])) × (new ≡ old)
+Makes (Some c) number old new x node s =
+    Says number s (Tells (refused why.HouseExists ∷ [])) × (new ≡ old)
 
--- by what there is
-abbrev pub DoesBy : Option Clearinghouse → (number : ℕ) → (old new : House) → HouseLine → said.Said
-    → Type 0
-DoesBy None number old new says s = DoesAnew number old new says s
-DoesBy (Some c) number old new says s = DoesAt c number old new says s
+-- what is said to a line that sets the clock, and the house after it
+abbrev pub SetsClock : Option Clearinghouse → (number : ℕ) → (old new : House) → (time : ℕ)
+    → said.Said → Type 0
+SetsClock None number old new time s = SaysNone number s × (new ≡ old)
+SetsClock (Some c) number old new time s =
+    Says number s (Tells (answer_line answer.Done ∷ [])) × (new ≡ record old { clock = time })
 
 -- ---- replies
 

@@ -3,7 +3,7 @@ ghost use Rattle.std.specs.Prelude.{◌≡◌, ℕ, None, IfOk, is_some};
 ghost use Rattle.std.specs.FinMap as map;
 ghost use Rattle.cds_stamps.specs.Members.{master_of, members_of};
 ghost use Rattle.directory.specs.Updates.{change_of};
-ghost use Rattle.house_lines.specs.declared.line.HouseLine.TheVariants as line;
+ghost use Rattle.house_lines.specs.declared.line.HouseOrder.TheVariants as order;
 ghost use Rattle.house_turns.specs.PrivateTurns.{Does, MakesChild};
 
 use crate::lists::first_members;
@@ -33,7 +33,7 @@ pub(crate) fn root(
     others: &Listeds,
 ) -> Result<Said, AllocError>
     ensures { (clock : ℕ) → IfOk result
-        (λ s. Does number home.old home.new clock (line.Root others.now) s) }
+        (λ s. Does number home.old home.new clock (order.Root others.now) s) }
 {
     if has(home, DirId::ROOT) {
         return refused(alloc, number, ScriptRefusal::DirectoryExists);
@@ -58,7 +58,7 @@ pub(crate) fn mkdir(
     others: &Listeds,
 ) -> Result<Said, AllocError>
     ensures { IfOk result
-        (λ s. Does number home.old home.new clock (line.Mkdir dir name child others.now) s) }
+        (λ s. Does number home.old home.new clock (order.Mkdir dir name child others.now) s) }
 {
     if has(home, child) {
         return refused(alloc, number, ScriptRefusal::DirectoryExists);

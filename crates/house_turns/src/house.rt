@@ -6,12 +6,11 @@ ghost use Rattle.script_answers.specs.Texts.{lines_text, parse_fault_text};
 ghost use Rattle.house_serving.specs.Replies.{said_in};
 ghost use Rattle.house_turns.specs.HouseReplies as replies;
 ghost use Rattle.clearinghouse.specs.declared.house.Clearinghouse.{Clearinghouse};
-ghost use Rattle.house_lines.specs.declared.line.HouseLine.TheVariants as lines;
-ghost use Rattle.house_turns.specs.HouseReplies.{RepliesAt, RepliesMore, RepliesTake, RepliesTo, Responds, with_spaces, turn_lines};
+ghost use Rattle.house_lines.specs.declared.line.HouseOrder.TheVariants as order;
+ghost use Rattle.house_turns.specs.HouseReplies.{RepliesMore, RepliesOrder, RepliesTake, RepliesTo, Responds, with_spaces, turn_lines};
 ghost use Rattle.house_turns.specs.Openings.{new_house};
 ghost use Rattle.house_turns.specs.Records.{HomeFits, IsRecord, IsTurnRecord, image_in};
-ghost use Rattle.house_turns.specs.PrivateTurns.{AsksHome, DoesBy, DoesOrTells, ReplyOf, TurnReply, posts_in};
-ghost use Rattle.house_turns.specs.HouseAnswers.{question_said};
+ghost use Rattle.house_turns.specs.PrivateTurns.{Does, Makes, Obeys, ReplyOf, SaysAsked, SetsClock, TurnReply, posts_in};
 ghost use Rattle.house_turns.specs.PostTexts.{octets_line};
 
 use crate::asking::ask;
@@ -25,7 +24,7 @@ use cds_stamps::{AllocOr, HouseNo, Node};
 use cell_script::{Octets, ParseFault, Words};
 use clearinghouse::Clearinghouse;
 use house_entries::body_octets;
-use house_lines::{HouseLine, parse_house_line};
+use house_lines::{HouseLine, HouseOrder, HouseQuestion, parse_house_line};
 use house_serving::{Reply, Responder};
 use script_answers::{Answer, ScriptRefusal, begin_line, print_parse_fault, push_hex};
 use std::alloc::{AllocError, Global};
@@ -224,7 +223,7 @@ impl House {
         node: Node,
     ) -> Result<Said, AllocError>
         ensures { IfOk result
-            (λ s. DoesBy self.old.home number self.old self.new (lines.House house node) s) }
+            (λ s. Makes self.old.home number self.old self.new house node s) }
     {
         if self.home.is_some() {
             return refused(alloc, number, ScriptRefusal::HouseExists);
@@ -237,7 +236,7 @@ impl House {
     // Sets the clock.
     fn set_clock(&mut self, alloc: Global, number: u32, time: u64) -> Result<Said, AllocError>
         ensures { IfOk result
-            (λ s. DoesBy self.old.home number self.old self.new (lines.Clock time) s) }
+            (λ s. SetsClock self.old.home number self.old self.new time s) }
     {
         if self.home.is_none() {
             return refused(alloc, number, ScriptRefusal::NoHouse);
@@ -246,26 +245,29 @@ impl House {
         told(alloc, number, &Answer::Done)
     }
 
-    // What a line comes to that neither makes the house nor sets its clock, nor gives octets of a
-    // message.
-    fn ask_home(&mut self, alloc: Global, number: u32, line: HouseLine) -> Result<Said, AllocError>
-        ensures { IfOk result (λ s. AsksHome self.old.home number self.old self.new line s) }
+    // What the house answers to a question.
+    fn answer(
+        &self,
+        alloc: Global,
+        number: u32,
+        question: &HouseQuestion,
+    ) -> Result<Said, AllocError>
+        ensures { IfOk result (λ s. SaysAsked self.now.home number question.now s) }
     {
-        let clock = self.clock;
-        match &mut self.home {
-            Some(home) => come_to(alloc, home, clock, number, line),
+        match &self.home {
+            Some(home) => ask(alloc, home, number, question),
             None => refused(alloc, number, ScriptRefusal::NoHouse),
         }
     }
 
-    // What a line comes to.
-    fn does(&mut self, alloc: Global, number: u32, line: HouseLine) -> Result<Said, AllocError>
-        ensures { IfOk result (λ s. DoesBy self.old.home number self.old self.new line s) }
+    // What an order comes to.
+    fn obey(&mut self, alloc: Global, number: u32, told: HouseOrder) -> Result<Said, AllocError>
+        ensures { IfOk result (λ s. Obeys self.old.home number self.old self.new told s) }
     {
-        match line {
-            HouseLine::House(house, node) => self.make(alloc, number, house, node),
-            HouseLine::Clock(time) => self.set_clock(alloc, number, time),
-            other => self.ask_home(alloc, number, other),
+        let clock = self.clock;
+        match &mut self.home {
+            Some(home) => come_to(alloc, home, clock, number, told),
+            None => refused(alloc, number, ScriptRefusal::NoHouse),
         }
     }
 
@@ -308,8 +310,8 @@ impl House {
     // Takes the message of these octets.
     fn take_whole(&mut self, alloc: Global, number: u32, octets: &[u8]) -> Result<Reply, AllocError>
         ensures { (c : Clearinghouse) → self.old.home ≡ Some c → self.old.more ≡ []
-            → IfOk result (λ r. RepliesAt self.old c number (replies.take_line octets.now)
-            (lines.Take octets.now) (said_in r) self.new) }
+            → IfOk result (λ r. RepliesOrder (Some c) self.old number
+            (replies.take_line octets.now) (order.Take octets.now) (said_in r) self.new) }
     {
         let said = match &mut self.home {
             Some(home) => take(alloc, home, number, octets)?,
@@ -317,6 +319,22 @@ impl House {
         };
         let line = take_line(alloc, octets)?;
         self.reply(alloc, number, &line, said)
+    }
+
+    // The reply to a line that gives no octets of a message: those that were kept are forgotten.
+    fn reply_alone(
+        &mut self,
+        alloc: Global,
+        number: u32,
+        line: &[u8],
+        said: Said,
+    ) -> Result<Reply, AllocError>
+        ensures { IfOk result (λ r. ReplyOf (record self.old { more = [] }) number
+            (with_spaces (words_of line.now)) said (said_in r) self.new) }
+    {
+        self.more.clear();
+        let words = words_joined(alloc, line)?;
+        self.reply(alloc, number, &words, said)
     }
 
     // The reply to a line that says this.
@@ -331,13 +349,23 @@ impl House {
             (λ r. RepliesTo self.old number (words_of line.now) says (said_in r) self.new) }
     {
         match says {
+            HouseLine::House(house, node) => {
+                let said = self.make(alloc, number, house, node)?;
+                self.reply_alone(alloc, number, line, said)
+            }
+            HouseLine::Clock(time) => {
+                let said = self.set_clock(alloc, number, time)?;
+                self.reply_alone(alloc, number, line, said)
+            }
             HouseLine::More(octets) => self.take_more(alloc, number, &octets),
-            HouseLine::Take(octets) => self.take_all(alloc, number, &octets),
-            other => {
-                self.more.clear();
-                let said = self.does(alloc, number, other)?;
-                let words = words_joined(alloc, line)?;
-                self.reply(alloc, number, &words, said)
+            HouseLine::Ask(question) => {
+                let said = self.answer(alloc, number, &question)?;
+                self.reply_alone(alloc, number, line, said)
+            }
+            HouseLine::Order(HouseOrder::Take(octets)) => self.take_all(alloc, number, &octets),
+            HouseLine::Order(told) => {
+                let said = self.obey(alloc, number, told)?;
+                self.reply_alone(alloc, number, line, said)
             }
         }
     }
@@ -358,33 +386,28 @@ impl House {
     }
 }
 
-// What a line comes to at a clearinghouse.
+// What an order comes to at a clearinghouse.
 fn come_to(
     alloc: Global,
     home: &mut Clearinghouse,
     clock: u64,
     number: u32,
-    line: HouseLine,
+    told: HouseOrder,
 ) -> Result<Said, AllocError>
-    ensures { IfOk result (λ s.
-        DoesOrTells (question_said home.old line) number home.old home.new clock line s) }
+    ensures { IfOk result (λ s. Does number home.old home.new clock told s) }
 {
-    match line {
-        HouseLine::Root(others) => root(alloc, home, number, &others),
-        HouseLine::Mkdir(dir, name, child, others) => {
+    match told {
+        HouseOrder::Root(others) => root(alloc, home, number, &others),
+        HouseOrder::Mkdir(dir, name, child, others) => {
             mkdir(alloc, home, clock, number, dir, name, child, &others)
         }
-        HouseLine::Repoint(dir, name, master, others) => {
+        HouseOrder::Repoint(dir, name, master, others) => {
             repoint(alloc, home, clock, number, dir, name, master, others.list())
         }
-        HouseLine::Update(dir, change) => update(alloc, home, clock, number, dir, &change),
-        HouseLine::Skulk(dir) => skulk(alloc, home, clock, number, dir),
-        HouseLine::Epoch(dir, k, list) => epoch(alloc, home, number, dir, k, &list),
-        HouseLine::Ask(question) => ask(alloc, home, number, &question),
-        HouseLine::Take(octets) => take(alloc, home, number, octets.list()),
-        HouseLine::House(_, _) => told(alloc, number, &Answer::Done),
-        HouseLine::Clock(_) => told(alloc, number, &Answer::Done),
-        HouseLine::More(_) => told(alloc, number, &Answer::Done),
+        HouseOrder::Update(dir, change) => update(alloc, home, clock, number, dir, &change),
+        HouseOrder::Skulk(dir) => skulk(alloc, home, clock, number, dir),
+        HouseOrder::Epoch(dir, k, list) => epoch(alloc, home, number, dir, k, &list),
+        HouseOrder::Take(octets) => take(alloc, home, number, octets.list()),
     }
 }
 

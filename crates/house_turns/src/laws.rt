@@ -7,7 +7,7 @@ ghost use Rattle.cell_runs.specs.OrderSteps.{IsLetterOf};
 ghost use Rattle.clearinghouse.specs.ModelHouses.{StandsHouse};
 ghost use Rattle.clearinghouse.specs.declared.house.Clearinghouse.{Clearinghouse};
 ghost use Rattle.house_entries.specs.Bodies.{IsBody};
-ghost use Rattle.house_lines.specs.declared.line.HouseLine.TheVariants as line;
+ghost use Rattle.house_lines.specs.declared.line.HouseOrder.TheVariants as order;
 ghost use Rattle.house_serving.specs.Turns.{Said};
 ghost use Rattle.house_turns.specs.HouseAnswers.{early_refusal};
 ghost use Rattle.house_turns.specs.HouseReplies.{Responds};
@@ -43,5 +43,5 @@ pub fn no_posted_message_is_refused()
     ensures { (g : model.Cell) (m : model.Message) (c : Clearinghouse) (octets : List ℕ)
         → IsReached g → In m g.bag → has m.receiver g.made ≡ true
         → StandsHouse c (g.house m.receiver) → IsLetterOf m.receiver octets m
-        → early_refusal c (line.Take octets) ≡ None }
+        → early_refusal c (order.Take octets) ≡ None }
 {}

@@ -5,8 +5,8 @@ ghost use Rattle.cds_stamps.specs.Members.{is_listed, master_of, members_fault, 
 ghost use Rattle.cell_model.specs.Steps as model;
 ghost use Rattle.house_directory.specs.HouseMessages.{numbers_of};
 ghost use Rattle.house_turns.specs.HouseAnswers.{ascend_from, is_given};
-ghost use Rattle.house_turns.specs.LineSteps.{listed_houses};
-ghost use Rattle.house_turns.specs.LineSteps as steps;
+ghost use Rattle.cell_runs.specs.LineOrders.{listed_houses};
+ghost use Rattle.house_turns.specs.PrivateTurns as turns;
 
 use cds_cell::member_list;
 use cds_stamps::{AllocOr, EpochNo, HouseNo, Member, Members};
@@ -24,7 +24,7 @@ pub(crate) fn first_members(
     ensures { IfOk result (λ o.
         MatchOption o (model.is_bad_list (master.0 ∷ listed_houses others.now) ≡ true)
         (λ ms. (model.is_bad_list (master.0 ∷ listed_houses others.now) ≡ false)
-        × (members_of ms ≡ steps.first_members master.0 others.now))) }
+        × (members_of ms ≡ turns.first_members master.0 others.now))) }
 {
     member_list(alloc, &[], EpochNo(1), master, others)
 }

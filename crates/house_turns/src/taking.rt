@@ -3,7 +3,7 @@ ghost use Rattle.std.specs.Prelude.{◌≡◌, ℕ, ◌+◌, ◌++◌, ◌∷◌
 ghost use Rattle.script_answers.specs.Texts.{stamp_text};
 ghost use Rattle.cds_messages.specs.Validity.{IsValidMessage};
 ghost use Rattle.own_stamps.specs.OwnStamps.{later_own};
-ghost use Rattle.house_lines.specs.declared.line.HouseLine.TheVariants as line;
+ghost use Rattle.house_lines.specs.declared.line.HouseOrder.TheVariants as order;
 ghost use Rattle.house_turns.specs.HouseAnswers.{restored_refusal};
 ghost use Rattle.house_turns.specs.LineOutcomes as outcomes;
 ghost use Rattle.house_turns.specs.PrivateTurns.{Does, Says, TakesMessage, TakesUnless, posts_in, taken_outcome};
@@ -45,7 +45,7 @@ pub(crate) fn take(
     octets: &[u8],
 ) -> Result<Said, AllocError>
     ensures { (clock : ℕ) → IfOk result
-        (λ s. Does number home.old home.new clock (line.Take octets.now) s) }
+        (λ s. Does number home.old home.new clock (order.Take octets.now) s) }
 {
     match cds_records::decode(alloc, octets) {
         Ok((message, used)) => {

@@ -1,6 +1,6 @@
 // Lines that change what a house holds: updates, skulks and epochs.
 ghost use Rattle.std.specs.Prelude.{◌≡◌, ℕ, IfOk, option_copied};
-ghost use Rattle.house_lines.specs.declared.line.HouseLine.TheVariants as line;
+ghost use Rattle.house_lines.specs.declared.line.HouseOrder.TheVariants as order;
 ghost use Rattle.std.specs.FinMap as map;
 ghost use Rattle.clearinghouse.specs.HouseLetters.{posts_at};
 ghost use Rattle.house_turns.specs.PrivateTurns.{ArePostsOf, Does, epoch_of, epoch_refusal_of, posts_of_letters};
@@ -41,7 +41,7 @@ pub(crate) fn update(
     update: &Update,
 ) -> Result<Said, AllocError>
     ensures { IfOk result
-        (λ s. Does number home.old home.new clock (line.Update dir update.now) s) }
+        (λ s. Does number home.old home.new clock (order.Update dir update.now) s) }
 {
     let Turn { answer, outgoing } = home.accept_update(alloc, clock, dir, update)?;
     match answer {
@@ -65,7 +65,7 @@ pub(crate) fn repoint(
     others: &[HouseNo],
 ) -> Result<Said, AllocError>
     ensures { IfOk result
-        (λ s. Does number home.old home.new clock (line.Repoint dir name master others.now) s) }
+        (λ s. Does number home.old home.new clock (order.Repoint dir name master others.now) s) }
 {
     match house_list(alloc, master, others)? {
         Some(houses) => {
@@ -85,7 +85,7 @@ pub(crate) fn skulk(
     dir: DirId,
 ) -> Result<Said, AllocError>
     ensures { IfOk result
-        (λ s. Does number home.old home.new clock (line.Skulk dir) s) }
+        (λ s. Does number home.old home.new clock (order.Skulk dir) s) }
 {
     let Turn { answer, outgoing } = home.begin_skulk(clock, dir)?;
     let posts = Posts::one(letters(alloc, home, dir, outgoing.as_ref())?);
@@ -131,7 +131,7 @@ pub(crate) fn epoch(
     list: &EpochList,
 ) -> Result<Said, AllocError>
     ensures { (clock : ℕ) → IfOk result
-        (λ s. Does number home.old home.new clock (line.Epoch dir epoch list.now) s) }
+        (λ s. Does number home.old home.new clock (order.Epoch dir epoch list.now) s) }
 {
     let Some(held) = epoch_held(home, dir) else {
         return refused(alloc, number, ScriptRefusal::NoReplica);

@@ -1,7 +1,7 @@
 // Lines of a house: each command once with enough memory, and the longest lines.
 use cds_stamps::{EpochNo, HouseNo, Member, MemberKind};
 use cell_script::Octets;
-use house_lines::{EpochList, HouseLine, parse_house_line};
+use house_lines::{EpochList, HouseLine, HouseOrder, parse_house_line};
 use std::alloc::Global;
 use std::test::Fail;
 
@@ -50,7 +50,7 @@ fn each_command_is_read(rt: HostRuntime) -> Result<(), Fail> {
 // The list of an epoch.
 fn listed(alloc: Global, line: &[u8]) -> Result<EpochList, Fail> {
     match said(alloc, line)? {
-        HouseLine::Epoch(_, _, list) => Ok(list),
+        HouseLine::Order(HouseOrder::Epoch(_, _, list)) => Ok(list),
         _ => Err("an epoch".into()),
     }
 }

@@ -5,7 +5,7 @@ use Rattle.cell_model.proofs.Terms.{master_new}
 use Rattle.cell_script.specs.Listings.{secondaries_in}
 use Rattle.house_directory.specs.HouseMessages.{numbers_of}
 use Rattle.cell_runs.specs.LineAnswers.{refused}
-use Rattle.house_turns.specs.LineSteps.{listed_houses}
+use Rattle.cell_runs.specs.LineOrders.{listed_houses}
 use Rattle.cds_stamps.specs.Numbers.{root_dir}
 use Rattle.cds_stamps.specs.declared.numbers.DirId.{DirId}
 use Rattle.script_answers.specs.Texts.{answer_line}
@@ -13,8 +13,8 @@ use Rattle.script_answers.specs.declared.answer.Answer.TheVariants as answer
 use Rattle.script_answers.specs.declared.answer.ScriptRefusal.TheVariants as why
 use Rattle.clearinghouse.specs.declared.house.Clearinghouse.{Clearinghouse}
 use Rattle.clearinghouse.specs.HouseLetters.{posts_at}
-use Rattle.house_lines.specs.declared.line.HouseLine.{HouseLine}
-use Rattle.house_lines.specs.declared.line.HouseLine.TheVariants as line
+use Rattle.house_lines.specs.declared.line.HouseOrder.{HouseOrder}
+use Rattle.house_lines.specs.declared.line.HouseOrder.TheVariants as order
 use Rattle.house_turns.specs.LineOutcomes.{Posts}
 use Rattle.house_turns.specs.PrivateTurns.{posts_in}
 use Rattle.house_turns.proofs.Letters.{maybe_letters, same_posts}
@@ -26,13 +26,13 @@ root_id = record { 0 = root_dir }
 
 pub returns-then-has : goal.returns-then-has
 returns-then-has c clock =
-    refused_early c.refused.result c.args.number c.args.home.now c.args.home.now clock (line.Root c.args.others.now) (refused why.DirectoryExists)
+    refused_early c.refused.result c.args.number c.args.home.now c.args.home.now clock (order.Root c.args.others.now) (refused why.DirectoryExists)
     (founding_held c.args.home.now root_id c.args.others.now (sym c.has.ensures ∙ c.if-has.true)) refl c.refused.ensures
 
 pub returns-in_default : goal.returns-in_default
 returns-in_default c clock =
     let bad = rw (c.in_default.is, c.number.ensures) at c.in_ok-members.ensures in
-    refused_early c.refused-in_default.result c.args.number c.args.home.now c.args.home.now clock (line.Root c.args.others.now) (refused why.BadMembers)
+    refused_early c.refused-in_default.result c.args.number c.args.home.now c.args.home.now clock (order.Root c.args.others.now) (refused why.BadMembers)
     (founding_bad c.args.home.now root_id c.args.others.now (sym c.has.ensures ∙ c.if-has.false) bad) refl c.refused-in_default.ensures
 
 pub found-requires-clause-absent : goal.found-requires-clause-absent
@@ -48,7 +48,7 @@ pub returns : goal.returns
 returns c clock =
     let old : Clearinghouse = c.args.home.now in
     let new : Clearinghouse = c.found.new.self in
-    let l : HouseLine = line.Root c.args.others.now in
+    let l : HouseOrder = order.Root c.args.others.now in
     let good = rw (c.in-Some.is, c.number.ensures) at c.in_ok-members.ensures in
     asked_model c.turned.result c.args.number old new clock l
     (founding_fine old root_id c.args.others.now (sym c.has.ensures ∙ c.if-has.false) good.0)

@@ -4,7 +4,7 @@ use Rattle.cds_stamps.specs.declared.alloc_or.AllocOr.TheVariants.{Fault}
 use Rattle.cds_records.specs.Records.{message}
 use Rattle.record_fields.specs.Decoding.{Decodes, decode_by}
 use Rattle.record_fields.proofs.OneDecoding.{answers_decoding}
-use Rattle.house_lines.specs.declared.line.HouseLine.TheVariants as line
+use Rattle.house_lines.specs.declared.line.HouseOrder.TheVariants as order
 use Rattle.cell_runs.specs.LineAnswers.{refused}
 use Rattle.house_turns.specs.HouseAnswers.{octets_refusal, restored_refusal}
 use Rattle.own_stamps.specs.OwnStamps.{later_own}
@@ -16,14 +16,14 @@ returns-in-Err-Fault c clock =
     let decodes : Decodes message c.args.octets.now (Err (Fault c.in-Err-Fault.fault)) = rw c.in-Err-Fault.field-0-is at c.in-Err-Fault.ensures.decodes in
     let said : decode_by message c.args.octets.now ≡ Err c.in-Err-Fault.fault = answers_decoding message c.args.octets.now
     (Err (Fault c.in-Err-Fault.fault)) decodes in
-    refused_early c.refused.result c.args.number c.args.home.now c.args.home.now clock (line.Take c.args.octets.now) (refused (octets_refusal c.in-Err-Fault.fault))
+    refused_early c.refused.result c.args.number c.args.home.now c.args.home.now clock (order.Take c.args.octets.now) (refused (octets_refusal c.in-Err-Fault.fault))
     (take_fault c.args.home.now c.args.octets.now c.in-Err-Fault.fault said) refl (rw c.octets_refused.ensures at c.refused.ensures)
 
 pub returns-then-used-octets : goal.returns-then-used-octets
 returns-then-used-octets c clock =
     let said : decode_by message c.args.octets.now ≡ Ok (c.in-Ok.message, c.in-Ok.used) = answers_decoding message c.args.octets.now
     (Ok (c.in-Ok.message, c.in-Ok.used)) c.in-Ok.ensures.decodes in
-    refused_early c.trailing.result c.args.number c.args.home.now c.args.home.now clock (line.Take c.args.octets.now)
+    refused_early c.trailing.result c.args.number c.args.home.now c.args.home.now clock (order.Take c.args.octets.now)
     (codes "refused Trailing " ++ decimal (c.in-Ok.used + 1))
     (take_trailing c.args.home.now c.args.octets.now c.in-Ok.message c.in-Ok.used said c.if-used-octets.true) refl c.trailing.ensures
 

@@ -8,8 +8,8 @@ use Rattle.house_directory.specs.DirectorySteps.{IsEpochAnswer}
 use Rattle.house_directory.specs.HouseMessages.{numbers_of}
 use Rattle.clearinghouse.specs.declared.house.Clearinghouse.{Clearinghouse}
 use Rattle.clearinghouse.specs.HouseLetters.{epoch_posts_at}
-use Rattle.house_lines.specs.declared.line.HouseLine.{HouseLine}
-use Rattle.house_lines.specs.declared.line.HouseLine.TheVariants as line
+use Rattle.house_lines.specs.declared.line.HouseOrder.{HouseOrder}
+use Rattle.house_lines.specs.declared.line.HouseOrder.TheVariants as order
 use Rattle.cell_runs.specs.LineAnswers.{refused}
 use Rattle.house_turns.specs.LineOutcomes.{Posts, Tells}
 use Rattle.house_turns.specs.HouseAnswers.{maybe_refused}
@@ -22,14 +22,14 @@ use Rattle.house_turns.proofs.turns.epoch.Goals as goal
 pub returns-in_default : goal.returns-in_default
 returns-in_default c clock =
     let old : Clearinghouse = c.args.home.now in
-    refused_early c.refused.result c.args.number old old clock (line.Epoch c.args.dir c.args.epoch c.args.list.now) (refused why.NoReplica)
+    refused_early c.refused.result c.args.number old old clock (order.Epoch c.args.dir c.args.epoch c.args.list.now) (refused why.NoReplica)
     (ap maybe_refused (epoch_absent old.house.0 c.args.epoch.0 c.args.list.now (get old.dirs c.args.dir) (sym c.epoch_held.ensures ∙ c.in_default.is))) refl c.refused.ensures
 
 pub returns-in_default-2 : goal.returns-in_default-2
 returns-in_default-2 c clock =
     let old : Clearinghouse = c.args.home.now in
     let bad = rw (c.in_default-2.is, c.number.ensures) at c.in_ok-members.ensures in
-    refused_early c.refused-in_default-2.result c.args.number old old clock (line.Epoch c.args.dir c.args.epoch c.args.list.now) (refused why.BadMembers)
+    refused_early c.refused-in_default-2.result c.args.number old old clock (order.Epoch c.args.dir c.args.epoch c.args.list.now) (refused why.BadMembers)
     (ap maybe_refused (epoch_listed old.house.0 c.args.epoch.0 c.args.list.now (get old.dirs c.args.dir) c.in-Some.held (sym c.epoch_held.ensures ∙ c.in-Some.is) bad))
     refl c.refused-in_default-2.ensures
 
@@ -37,7 +37,7 @@ pub returns-then-epoch-held : goal.returns-then-epoch-held
 returns-then-epoch-held c clock =
     let old : Clearinghouse = c.args.home.now in
     let good = rw (c.in-Some-2.is, c.number.ensures) at c.in_ok-members.ensures in
-    refused_early c.refused-then-epoch-held.result c.args.number old old clock (line.Epoch c.args.dir c.args.epoch c.args.list.now)
+    refused_early c.refused-then-epoch-held.result c.args.number old old clock (order.Epoch c.args.dir c.args.epoch c.args.list.now)
     (refused (why.NotAbove c.in-Some.held.0))
     (ap maybe_refused (epoch_low old.house.0 c.args.epoch.0 c.args.list.now (get old.dirs c.args.dir) c.in-Some.held (sym c.epoch_held.ensures ∙ c.in-Some.is) good.0
     c.if-epoch-held.true)) refl (rw c.not_above.ensures at c.refused-then-epoch-held.ensures)
@@ -54,7 +54,7 @@ returns-in-Err c clock =
     let dir = c.args.dir in
     let k = c.args.epoch in
     let list = c.args.list.now in
-    let l : HouseLine = line.Epoch dir k list in
+    let l : HouseOrder = order.Epoch dir k list in
     let good = rw (c.in-Some-2.is, c.number.ensures) at c.in_ok-members.ensures in
     let held = sym c.epoch_held.ensures ∙ c.in-Some.is in
     let later = epoch_later (get old.dirs dir) c.in-Some.held k.0 held c.if-epoch-held.false in
@@ -76,7 +76,7 @@ returns c clock =
     let dir = c.args.dir in
     let k = c.args.epoch in
     let list = c.args.list.now in
-    let l : HouseLine = line.Epoch dir k list in
+    let l : HouseOrder = order.Epoch dir k list in
     let good = rw (c.in-Some-2.is, c.number.ensures) at c.in_ok-members.ensures in
     let held = sym c.epoch_held.ensures ∙ c.in-Some.is in
     let later = epoch_later (get old.dirs dir) c.in-Some.held k.0 held c.if-epoch-held.false in

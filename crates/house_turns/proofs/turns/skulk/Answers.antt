@@ -5,8 +5,8 @@ use Rattle.house_directory.specs.declared.skulks.Begun.TheVariants as begun
 use Rattle.house_directory.specs.DirectorySteps.{IsBegunAnswer}
 use Rattle.clearinghouse.specs.declared.house.Clearinghouse.{Clearinghouse}
 use Rattle.clearinghouse.specs.HouseLetters.{posts_at}
-use Rattle.house_lines.specs.declared.line.HouseLine.{HouseLine}
-use Rattle.house_lines.specs.declared.line.HouseLine.TheVariants as line
+use Rattle.house_lines.specs.declared.line.HouseOrder.{HouseOrder}
+use Rattle.house_lines.specs.declared.line.HouseOrder.TheVariants as order
 use Rattle.cds_cell.specs.Scripted.{update_refusal_of}
 use Rattle.cell_runs.specs.LineAnswers.{refused}
 use Rattle.house_turns.specs.LineOutcomes.{Posts, Tells}
@@ -21,7 +21,7 @@ pub returns-in-Ok-Started : goal.returns-in-Ok-Started
 returns-in-Ok-Started c =
     let old : Clearinghouse = c.args.home.now in
     let new : Clearinghouse = c.begin_skulk.new.self in
-    let l : HouseLine = line.Skulk c.args.dir in
+    let l : HouseOrder = order.Skulk c.args.dir in
     let s = c.in-Ok-Started.stamp in
     said_comes c.turned.result c.args.number old new c.args.clock l (Posts (posts_in c.one-posts.result) (answer_line (answer.Stamped s [])))
     (rw c.new.ensures at c.turned.ensures c.args.number)
@@ -36,7 +36,7 @@ pub returns-in-Ok-Complete : goal.returns-in-Ok-Complete
 returns-in-Ok-Complete c =
     let old : Clearinghouse = c.args.home.now in
     let new : Clearinghouse = c.begin_skulk.new.self in
-    let l : HouseLine = line.Skulk c.args.dir in
+    let l : HouseOrder = order.Skulk c.args.dir in
     let s = c.in-Ok-Complete.stamp in
     said_comes c.turned-in-Ok-Complete.result c.args.number old new c.args.clock l (Posts (posts_in c.one-posts.result) (answer_line (answer.Complete s [])))
     (rw c.new-in-Ok-Complete.ensures at c.turned-in-Ok-Complete.ensures c.args.number)
@@ -51,7 +51,7 @@ pub returns : goal.returns
 returns c =
     let old : Clearinghouse = c.args.home.now in
     let new : Clearinghouse = c.begin_skulk.new.self in
-    let l : HouseLine = line.Skulk c.args.dir in
+    let l : HouseOrder = order.Skulk c.args.dir in
     let r = c.in-Err.refusal in
     let same = (rw c.in-Err.is at c.in_ok-answer.ensures.refused).0 in
     said_comes c.refused.result c.args.number old new c.args.clock l (Tells (refused (update_refusal_of r) ∷ []))

@@ -5,8 +5,8 @@ use Rattle.script_answers.specs.declared.answer.Answer.TheVariants as answer
 use Rattle.house_directory.specs.DirectorySteps.{IsStampAnswer}
 use Rattle.clearinghouse.specs.declared.house.Clearinghouse.{Clearinghouse}
 use Rattle.clearinghouse.specs.HouseLetters.{posts_at}
-use Rattle.house_lines.specs.declared.line.HouseLine.{HouseLine}
-use Rattle.house_lines.specs.declared.line.HouseLine.TheVariants as line
+use Rattle.house_lines.specs.declared.line.HouseOrder.{HouseOrder}
+use Rattle.house_lines.specs.declared.line.HouseOrder.TheVariants as order
 use Rattle.cds_cell.specs.Scripted.{update_refusal_of}
 use Rattle.cell_runs.specs.LineAnswers.{refused}
 use Rattle.house_turns.specs.LineOutcomes.{Posts, Tells}
@@ -21,7 +21,7 @@ pub returns-in-Ok : goal.returns-in-Ok
 returns-in-Ok c =
     let old : Clearinghouse = c.args.home.now in
     let new : Clearinghouse = c.accept_update.new.self in
-    let l : HouseLine = line.Update c.args.dir c.args.update.now in
+    let l : HouseOrder = order.Update c.args.dir c.args.update.now in
     let s = c.in-Ok.stamp in
     said_comes c.turned.result c.args.number old new c.args.clock l (Posts (posts_in c.one-posts.result) (answer_line (answer.Stamped s [])))
     (rw c.new.ensures at c.turned.ensures c.args.number)
@@ -36,7 +36,7 @@ pub returns : goal.returns
 returns c =
     let old : Clearinghouse = c.args.home.now in
     let new : Clearinghouse = c.accept_update.new.self in
-    let l : HouseLine = line.Update c.args.dir c.args.update.now in
+    let l : HouseOrder = order.Update c.args.dir c.args.update.now in
     let r = c.in-Err.refusal in
     let same = (rw c.in-Err.is at c.in_ok-answer.ensures.refused).0 in
     said_comes c.refused.result c.args.number old new c.args.clock l (Tells (refused (update_refusal_of r) ∷ []))
