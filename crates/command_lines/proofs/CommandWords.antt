@@ -105,7 +105,8 @@ of_words w ws is are = record {
       (All-append (λ b. is_printable b ≡ true) w (words_behind ws) (word_shown w is.marks) (behind_shown ws are));
 }
 
-given : (w : List ℕ) (ws : List (List ℕ)) → 0 < length w → list_all is_mark w ≡ true → AreWords ws → IsLineOf (w ∷ ws)
+-- likewise after a word that is given
+pub given : (w : List ℕ) (ws : List (List ℕ)) → 0 < length w → list_all is_mark w ≡ true → AreWords ws → IsLineOf (w ∷ ws)
 given w ws some is are = of_words w ws (given_word w some is) are
 
 pub line_of_words : (c : Command) → CanBeSaid c → IsLineOf (command_words c)

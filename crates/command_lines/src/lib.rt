@@ -6,5 +6,5 @@ mod lines;
 mod members;
 mod updates;
 
-pub use lines::push_command;
+pub use lines::{push_command, push_number_word, push_word};
 pub use members::listed_others;

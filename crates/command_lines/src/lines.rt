@@ -99,16 +99,16 @@ fn push_message(line: &mut Vec<u8>, word: &[u8], serial: u64) -> Result<(), Allo
     push_number_word(line, serial)
 }
 
-/// A word, after a space.
-pub(crate) fn push_word(line: &mut Vec<u8>, word: &[u8]) -> Result<(), AllocError>
+/// Puts a word after what is there, and a space before it.
+pub fn push_word(line: &mut Vec<u8>, word: &[u8]) -> Result<(), AllocError>
     ensures { OnOk result (line.new.items ≡ line.old.items ++ (32 ∷ word.now)) }
 {
     line.push(b' ')?;
     line.extend_from_slice(word)
 }
 
-// A number, after a space.
-fn push_number_word(line: &mut Vec<u8>, number: u64) -> Result<(), AllocError>
+/// The same of a number.
+pub fn push_number_word(line: &mut Vec<u8>, number: u64) -> Result<(), AllocError>
     ensures { OnOk result (line.new.items ≡ line.old.items ++ (32 ∷ decimal number)) }
 {
     line.push(b' ')?;

@@ -4,7 +4,7 @@ use Rattle.std.specs.Prelude.{None, codes, decimal, filter, not, nat_lt, ◌==�
 use Rattle.std.specs.Char.{is_ascii_digit}
 use Rattle.std.specs.List.{All, AllByRecursion, AllPass, flat_map, list_all, slice_split}
 use Rattle.std.specs.Str.{all_ascii_digits}
-use Rattle.std.proofs.lemmas.Bool.{and_parts}
+use Rattle.std.proofs.lemmas.Bool.{and_from, and_parts}
 use Rattle.std.proofs.lemmas.Bool.Decides.{nat_tests}
 use Rattle.std.proofs.lemmas.Fmt.{decimal_nonempty, digits_decimal}
 use Rattle.std.proofs.lemmas.List.Concat.{flat_map-cons}
@@ -82,7 +82,10 @@ given_word w some is = record { some = some; marks = AllPass-from_list_all is_ma
 pub attr_word : (w : List ℕ) → attr_fault w ≡ None → IsWord w
 attr_word w none =
     let name : IsAttrName w = (attr_name_laws w).0 none in
-    record { some = name.filled; marks = All-weaker (λ b. IsTrue (is_attr_octet b)) (λ b. is_mark b ≡ true) (λ b e. grind (arith, e)) w name.each }
+    record { some = name.filled; marks = All-weaker (λ b. IsTrue (is_attr_octet b)) (λ b. is_mark b ≡ true) shown w name.each }
+  where
+    shown : (b : ℕ) → IsTrue (is_attr_octet b) → is_mark b ≡ true
+    shown b e = and_from (nat_lt 32 b) (nat_lt b 127) (grind (arith, e)) (grind (arith, e))
 
 simple_marks : (c : List ℕ) → IsSimpleName c → AreMarks c
 simple_marks c name = All-weaker (λ b. IsTrue (is_name_octet b)) (λ b. is_mark b ≡ true) (λ b e. grind (arith, e)) c name.each
