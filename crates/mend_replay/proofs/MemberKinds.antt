@@ -17,7 +17,7 @@ use Rattle.cell_model.proofs.Lists.{eq_from, eq_to, or_cases}
 use Rattle.cell_model.proofs.PresentLists.{houses_of}
 use Rattle.cell_script.specs.declared.lists.Listed.{Listed}
 use Rattle.command_lines.specs.ListedMembers.{listed_member, listed_others}
-use Rattle.mend_replay.specs.MendLines.{listed}
+use Rattle.mend_replay.specs.MendLines.{listed_house}
 use Rattle.mend_model.specs.Leaving.{kept_members}
 use Rattle.mend_replay.specs.PrivateLines.{AreOrdered, led_member}
 
@@ -144,17 +144,17 @@ kinds_known (z ∷ zs) once =
 
 -- the members but the master are listed as the others
 pub listed_match : (ss : List ℕ) (m : HouseNo) (ms : List declared.Member) → KindsKnown ss (members_of ms)
-    → listed_others m ms ≡ map (listed ss) (others_of m.0 (members_of ms))
+    → listed_others m ms ≡ map (listed_house ss) (others_of m.0 (members_of ms))
 listed_match ss m [] all = refl
 listed_match ss m (y ∷ ys) all = by_house (listed_match ss m ys all.1) (y.house.0 == m.0)
   where
-    by_house : listed_others m ys ≡ map (listed ss) (others_of m.0 (members_of ys)) → (b : Bool)
+    by_house : listed_others m ys ≡ map (listed_house ss) (others_of m.0 (members_of ys)) → (b : Bool)
         → (if b then listed_others m ys else listed_member y ∷ listed_others m ys)
-        ≡ map (listed ss) (if b then others_of m.0 (members_of ys) else y.house.0 ∷ others_of m.0 (members_of ys))
+        ≡ map (listed_house ss) (if b then others_of m.0 (members_of ys) else y.house.0 ∷ others_of m.0 (members_of ys))
     by_house rest true = rest
     by_house rest false =
         ap (λ (ls : List Listed). listed_member y ∷ ls) rest
-        ∙ ap (λ (b : Bool). let first : Listed = record { house = y.house; secondary = b } in first ∷ map (listed ss) (others_of m.0 (members_of ys)))
+        ∙ ap (λ (b : Bool). let first : Listed = record { house = y.house; secondary = b } in first ∷ map (listed_house ss) (others_of m.0 (members_of ys)))
         (sym all.0)
 
 -- ---- secondary ones among the others

@@ -20,21 +20,21 @@ use Rattle.command_lines.specs.CommandTexts.{command_words as script_words, line
 use Rattle.command_lines.specs.SayableCommands.{AreListed, CanBeSaid as IsSayable, IsHouse}
 use Rattle.command_lines.proofs.CommandWords.{line_of_words, line_fits as script_line_fits}
 use Rattle.command_lines.proofs.SaidCommands.{command_said}
-use Rattle.mend_replay.specs.MendLines.{command_line, command_words, listed}
+use Rattle.mend_replay.specs.MendLines.{command_line, command_words, listed_house}
 use Rattle.mend_replay.specs.SayableCommands.{CanBeSaid, SaysCommand}
 
 -- ---- the steps that they are
 
-houses_again : (ss rs : List ℕ) → numbers_of (houses_in (map (listed ss) rs)) ≡ rs
+houses_again : (ss rs : List ℕ) → numbers_of (houses_in (map (listed_house ss) rs)) ≡ rs
 houses_again ss [] = refl
 houses_again ss (x ∷ rs) = ap (λ (xs : List ℕ). x ∷ xs) (houses_again ss rs)
 
-secondaries_again : (ss rs : List ℕ) → numbers_of (secondaries_in (map (listed ss) rs)) ≡ filter (λ x. has x ss) rs
+secondaries_again : (ss rs : List ℕ) → numbers_of (secondaries_in (map (listed_house ss) rs)) ≡ filter (λ x. has x ss) rs
 secondaries_again ss [] = refl
 secondaries_again ss (x ∷ rs) = by_kind (has x ss) (secondaries_again ss rs)
   where
-    by_kind : (b : Bool) → numbers_of (secondaries_in (map (listed ss) rs)) ≡ filter (λ x. has x ss) rs
-        → numbers_of (if b then record { 0 = x } ∷ secondaries_in (map (listed ss) rs) else secondaries_in (map (listed ss) rs))
+    by_kind : (b : Bool) → numbers_of (secondaries_in (map (listed_house ss) rs)) ≡ filter (λ x. has x ss) rs
+        → numbers_of (if b then record { 0 = x } ∷ secondaries_in (map (listed_house ss) rs) else secondaries_in (map (listed_house ss) rs))
         ≡ (if b then x ∷ filter (λ x. has x ss) rs else filter (λ x. has x ss) rs)
     by_kind true rest = ap (λ (xs : List ℕ). x ∷ xs) rest
     by_kind false rest = rest
@@ -67,7 +67,7 @@ can_mend (model.Crash h) can = absurd can
 -- such a command in the script
 abbrev pub as_command : model.Command → Command
 as_command (model.Start h) = command.Start (record { 0 = h })
-as_command (model.Epoch d m rs ss) = command.Epoch (record { 0 = d }) (record { 0 = m }) (map (listed ss) rs)
+as_command (model.Epoch d m rs ss) = command.Epoch (record { 0 = d }) (record { 0 = m }) (map (listed_house ss) rs)
 as_command (model.Skulk h d) = command.Skulk (record { 0 = h }) (record { 0 = d })
 as_command (model.Deliver n) = command.Deliver n
 as_command _ = command.Deliver 0
@@ -76,7 +76,7 @@ as_command _ = command.Deliver 0
 pub is_as_command : (c : model.Command) → CanMend c → step_of (as_command c) ≡ c
 is_as_command (model.Start h) can = refl
 is_as_command (model.Epoch d m rs ss) can =
-    ap (λ (hs : List ℕ). model.Epoch d m hs (numbers_of (secondaries_in (map (listed ss) rs)))) (houses_again ss rs)
+    ap (λ (hs : List ℕ). model.Epoch d m hs (numbers_of (secondaries_in (map (listed_house ss) rs)))) (houses_again ss rs)
     ∙ ap (model.Epoch d m rs) (secondaries_again ss rs ∙ sym can)
 is_as_command (model.Skulk h d) can = refl
 is_as_command (model.Deliver n) can = refl
@@ -89,7 +89,7 @@ is_as_command (model.Accept h d u) can = absurd can
 is_as_command (model.Lose n) can = absurd can
 is_as_command (model.Crash h) can = absurd can
 
-are_listed : (ss rs : List ℕ) → ((x : ℕ) → In x rs → IsHouse x) → AreListed (map (listed ss) rs)
+are_listed : (ss rs : List ℕ) → ((x : ℕ) → In x rs → IsHouse x) → AreListed (map (listed_house ss) rs)
 are_listed ss [] are = tt
 are_listed ss (x ∷ rs) are = (are x (inl refl), are_listed ss rs (λ y i. are y (inr i)))
 
@@ -156,7 +156,7 @@ line_length (w ∷ ws) all =
 number_short : (n : ℕ) → n < 2 ^ 64 → length (decimal n) ≤ 20
 number_short n few = length-decimal-le 20 n (omega arith) (omega (arith, few)) few
 
-listed_short : (ss rs : List ℕ) → ((x : ℕ) → In x rs → IsHouse x) → AreShort (map listed_word (map (listed ss) rs))
+listed_short : (ss rs : List ℕ) → ((x : ℕ) → In x rs → IsHouse x) → AreShort (map listed_word (map (listed_house ss) rs))
 listed_short ss [] are = tt
 listed_short ss (x ∷ rs) are = (by_kind (has x ss), listed_short ss rs (λ y i. are y (inr i)))
   where
@@ -191,7 +191,7 @@ few_words : (c : model.Command) → CanBeSaid c → length (command_words c) ≤
 few_words (model.Start h) can = omega arith
 few_words (model.Epoch d m rs ss) can = let few = can.4 in let size = length_map ss rs in omega (arith, few, size)
   where
-    length_map : (ss rs : List ℕ) → length (map listed_word (map (listed ss) rs)) ≡ length rs
+    length_map : (ss rs : List ℕ) → length (map listed_word (map (listed_house ss) rs)) ≡ length rs
     length_map ss [] = refl
     length_map ss (x ∷ rs) = ap (λ (n : ℕ). suc n) (length_map ss rs)
 few_words (model.Skulk h d) can = omega arith

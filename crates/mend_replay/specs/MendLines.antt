@@ -18,8 +18,8 @@ use Rattle.mend_replay.specs.Readiness.{is_ready}
 -- ---- lines
 
 -- a house of a list, as a script has it: it may be one of the secondary ones
-abbrev pub listed : (ss : List ℕ) → ℕ → Listed
-listed ss x = record { house = record { 0 = x }; secondary = has x ss }
+abbrev pub listed_house : (ss : List ℕ) → ℕ → Listed
+listed_house ss x = record { house = record { 0 = x }; secondary = has x ss }
 
 -- the words of these four commands, as a script has them; the others mend nothing, and have none
 -- here
@@ -27,7 +27,7 @@ abbrev pub command_words : Command → List (List ℕ)
 command_words (Start h) = text.command_words (script.Start (record { 0 = h }))
 command_words (Epoch d m rs ss) =
     text.command_words
-    (script.Epoch (record { 0 = d }) (record { 0 = m }) (map (listed ss) rs))
+    (script.Epoch (record { 0 = d }) (record { 0 = m }) (map (listed_house ss) rs))
 command_words (Skulk h d) =
     text.command_words (script.Skulk (record { 0 = h }) (record { 0 = d }))
 command_words (Deliver n) = text.command_words (script.Deliver n)
