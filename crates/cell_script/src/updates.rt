@@ -50,7 +50,11 @@ pub(crate) fn add(alloc: Global, words: &mut Words<'_>) -> Parsed<ScriptLine>
     Ok(ScriptLine::Cell(Command::Update(
         words.house()?,
         words.directory()?,
-        Update::Add(words.simple_name(alloc)?, words.attr_name(alloc)?, words.value(alloc)?),
+        Update::Add(
+            words.simple_name(alloc)?,
+            words.attr_name(alloc)?,
+            words.value(alloc)?,
+        ),
     )))
 }
 
@@ -62,7 +66,11 @@ pub(crate) fn remove(alloc: Global, words: &mut Words<'_>) -> Parsed<ScriptLine>
     Ok(ScriptLine::Cell(Command::Update(
         words.house()?,
         words.directory()?,
-        Update::Remove(words.simple_name(alloc)?, words.attr_name(alloc)?, words.value(alloc)?),
+        Update::Remove(
+            words.simple_name(alloc)?,
+            words.attr_name(alloc)?,
+            words.value(alloc)?,
+        ),
     )))
 }
 
@@ -74,7 +82,11 @@ pub(crate) fn put(alloc: Global, words: &mut Words<'_>) -> Parsed<ScriptLine>
     Ok(ScriptLine::Cell(Command::Update(
         words.house()?,
         words.directory()?,
-        Update::Put(words.simple_name(alloc)?, words.attr_name(alloc)?, words.value(alloc)?),
+        Update::Put(
+            words.simple_name(alloc)?,
+            words.attr_name(alloc)?,
+            words.value(alloc)?,
+        ),
     )))
 }
 
