@@ -35,12 +35,12 @@ long_unsaid line octets c is long s = long (subst (λ (o : List ℕ). length o �
 
 -- ---- a house that has no number
 
+zero_house : house_of (decimal 0) ≡ None
+unfolding number_of digits
+zero_house = refl
+
 no_house : (h : HouseNo) → h.0 ≡ 0 → house_of (decimal h.0) ≡ None
 no_house h none = ap (λ (n : ℕ). house_of (decimal n)) none ∙ zero_house
-  where
-    zero_house : house_of (decimal 0) ≡ None
-    unfolding number_of digits
-    zero_house = refl
 
 -- words with a fault are not said
 unsaid : (ws : List (List ℕ)) (fault : ParseFault) (c : Command) → IsLineOf ws → said_in ws ≡ Err fault → ¬ SaysCommand (line_of ws) c

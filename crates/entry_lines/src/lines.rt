@@ -120,9 +120,7 @@ pub(crate) fn turn_line(
     match &turn.order {
         HouseOrder::Take(_) => printed(alloc, &Command::Deliver(serial)),
         HouseOrder::Mkdir(_, _, _, _) => mkdir_line(alloc, house, turn.line.list()),
-        HouseOrder::Epoch(dir, _, list) => {
-            epoch_line(alloc, *dir, house, list.members.list())
-        }
+        HouseOrder::Epoch(dir, _, list) => { epoch_line(alloc, *dir, house, list.members.list()) }
         _ => same_line(alloc, house, turn.line.list()),
     }
 }

@@ -56,7 +56,15 @@ fn led_text(
     let kept = kept_members(alloc, members.list(), without, master)?;
     let others = count_others(master, members.list());
     let mut script = Vec::new(alloc);
-    push_leaving(alloc, &mut script, cell, dir, master, kept.as_slice(), others)?;
+    push_leaving(
+        alloc,
+        &mut script,
+        cell,
+        dir,
+        master,
+        kept.as_slice(),
+        others,
+    )?;
     Ok(script)
 }
 
