@@ -1,10 +1,6 @@
 -- A command that does what an entry says, and what is seen of it.
 use Rattle.std.proofs.Common.{◌≡◌, ℕ, Bool, true, eqb, cond, List, drop, length, map, Option, Some, None, refl, sym, ◌∙◌, ap, subst, arith}
-use Rattle.cds_stamps.specs.declared.numbers.DirId.{DirId}
 use Rattle.cds_stamps.specs.declared.numbers.HouseNo.{HouseNo}
-use Rattle.directory.specs.declared.update.Update.{Update}
-use Rattle.directory.specs.declared.update.Update.TheVariants as update
-use Rattle.directory.specs.Updates.{change_of}
 use Rattle.cell_model.specs.Cells.{Cell, Message}
 use Rattle.cell_model.specs.Commands as model
 use Rattle.cell_model.specs.Steps.{Outcome, outcome}
@@ -19,12 +15,9 @@ use Rattle.cell_runs.specs.Views.{image_in, or_none, seen_at, taking_seen, turn_
 use Rattle.house_logs.specs.declared.log.LoggedTurn.{LoggedTurn}
 use Rattle.house_lines.specs.declared.line.HouseOrder.{HouseOrder}
 use Rattle.house_lines.specs.declared.line.HouseOrder.TheVariants as order
-use Rattle.entry_lines.specs.EntryCommands.{IsCommandOf, update_command}
+use Rattle.entry_lines.specs.EntryCommands.{IsCommandOf}
 use Rattle.cds_explain.specs.LoggedEntries.{turn_of}
 use Rattle.cds_explain.specs.PrivateComparing.{DoesTurn, IsOrdered}
-
-some_is : {A : Type 0} {x y : A} → Some x ≡ Some y → x ≡ y
-some_is is = cc
 
 -- what is seen of a turn that was compared
 pub turn_is : (g : Cell) (x : ℕ) (t : LoggedTurn) (o : Outcome) → DoesTurn g x t o → (g.house x).clock ≡ t.clock
@@ -51,18 +44,6 @@ turn_is g x t o does clock =
       }),
     ))
 
--- an update's command is the update
-update_is : (h : HouseNo) (d : DirId) (u : Update) (c : Command) → update_command h d u ≡ Some c → step_of c ≡ model.Accept h.0 d.0 (change_of u)
-update_is h d (update.Create n) c is = ap step_of (sym (some_is is))
-update_is h d (update.MakeLink n target) c is = ap step_of (sym (some_is is))
-update_is h d (update.MakeChild n pointer) c is = absurd (cc (is))
-update_is h d (update.Delete n) c is = ap step_of (sym (some_is is))
-update_is h d (update.Add n a v) c is = ap step_of (sym (some_is is))
-update_is h d (update.Remove n a v) c is = ap step_of (sym (some_is is))
-update_is h d (update.Put n a v) c is = ap step_of (sym (some_is is))
-update_is h d (update.Clear n a) c is = ap step_of (sym (some_is is))
-update_is h d (update.Repoint n houses) c is = absurd (cc (is))
-
 -- a command that does an order, with what the console and the bag have, is seen as that order
 pub order_seen : (g : Cell) (h : HouseNo) (o : HouseOrder) (serial : ℕ) (c : Command) → IsCommandOf h o serial c → IsOrdered g h.0 o serial (step_of c)
     → seen_at g (step_of c) ≡ turn_seen g h.0 (order_of o) (outcome g (step_of c))
@@ -87,7 +68,7 @@ order_seen g h (order.Mkdir d n made ls) serial c is given =
 order_seen g h (order.Repoint d n m rs) serial c is given =
     subst (λ (z : Command). seen_at g (step_of z) ≡ turn_seen g h.0 (order_of (order.Repoint d n m rs)) (outcome g (step_of z))) (sym is) refl
 order_seen g h (order.Update d u) serial c is given =
-    subst (λ (z : model.Command). seen_at g z ≡ turn_seen g h.0 (order_of (order.Update d u)) (outcome g z)) (sym (update_is h d u c is)) refl
+    subst (λ (z : Command). seen_at g (step_of z) ≡ turn_seen g h.0 (order_of (order.Update d u)) (outcome g (step_of z))) (sym is) refl
 order_seen g h (order.Skulk d) serial c is given =
     subst (λ (z : Command). seen_at g (step_of z) ≡ turn_seen g h.0 (order_of (order.Skulk d)) (outcome g (step_of z))) (sym is) refl
 order_seen g h (order.Epoch d k list) serial c is given =

@@ -1,6 +1,5 @@
 pub mod Rising
 pub mod Adding
-pub mod WordTexts
 pub mod AnswerTexts
 pub mod ReadBack
 mod Examples

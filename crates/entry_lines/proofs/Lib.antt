@@ -1,2 +1,2 @@
-pub mod LineLemmas
 pub mod SameLists
+pub mod UnsaidLines

@@ -1,18 +1,20 @@
-// Lines with the commands that they say: each is made, read again, and compared with what it is to
-// do.
-ghost use Rattle.std.specs.Prelude.{◌≡◌, ◌≤◌, ◌++◌, ◌∷◌, ℕ, true, false, IfNone, IfOk, IfSome, MatchOption, codes, decimal};
+// Lines with the commands that they say. That of a turn is read again, and compared with what it is
+// to do.
+ghost use Rattle.std.specs.Prelude.{◌≡◌, ◌≤◌, ℕ, IfNone, IfOk, IfSome, MatchOption};
 ghost use Rattle.std.specs.Bool.{Decides};
 ghost use Rattle.std.specs.List.{list_all};
 ghost use Rattle.cds_base.specs.LineFaults.{IsLine, is_printable};
 ghost use Rattle.cds_base.specs.declared.scan.TheConstants.{MOST_LINES};
-ghost use Rattle.cell_script.specs.declared.command.Command.TheVariants as command;
-ghost use Rattle.entry_lines.specs.EntryCommands.{IsCommandOf};
 ghost use Rattle.cell_script.specs.declared.command.Command.{Command as Command'};
-ghost use Rattle.entry_lines.specs.MadeLines.{making_line, turn_line};
+ghost use Rattle.cell_script.specs.declared.command.Command.TheVariants as command;
+ghost use Rattle.command_lines.specs.CommandTexts.{command_line};
+ghost use Rattle.command_lines.specs.SayableCommands.{CanBeSaid};
+ghost use Rattle.entry_lines.specs.EntryCommands.{IsCommandOf};
+ghost use Rattle.entry_lines.specs.MadeLines.{turn_line};
 ghost use Rattle.entry_lines.specs.SaidLines.{SaysCommand};
 
-use crate::lines::{clock_line, crash_line, making_line, start_line, turn_line};
-use crate::meaning::{crashes, is_order, makes, sets_clock, starts};
+use crate::lines::{printed, turn_line};
+use crate::meaning::is_order;
 use cds_base::LONGEST_LINE;
 use cds_stamps::{AllocOr, HouseNo, Node};
 use cell_script::{Command, ScriptLine, parse_line};
@@ -63,17 +65,18 @@ fn command_in(alloc: Global, line: &[u8]) -> Result<Option<Command>, AllocError>
     }
 }
 
-// A line with its command, if that is the wanted one.
-fn if_wanted(line: Vec<u8>, command: Command, is_wanted: bool) -> Option<Said>
-    ensures line { IfSome result (λ s. (s.line ≡ line) × (s.command ≡ command)) }
-    ensures wanted { IfSome result (λ s. is_wanted ≡ true) }
-    ensures other { IfNone result (is_wanted ≡ false) }
+// The line of a command that lines can say; none, if it is too long for one.
+fn said(alloc: Global, command: Command) -> Result<Option<Said>, AllocError>
+    requires { CanBeSaid command }
+    ensures says { IfOk result (λ o. IfSome o (λ s. SaysCommand s.line.items s.command)) }
+    ensures is { IfOk result (λ o. IfSome o (λ s. s.command ≡ command)) }
+    ensures none { IfOk result (λ o. IfNone o (¬ SaysCommand (command_line command) command)) }
 {
-    if is_wanted {
-        Some(Said { line, command })
-    } else {
-        None
+    let line = printed(alloc, &command)?;
+    if line.len() > LONGEST_LINE {
+        return Ok(None);
     }
+    Ok(Some(Said { line, command }))
 }
 
 /// `house H NODE`; none, if that is no line which makes this house.
@@ -81,14 +84,13 @@ pub fn making(alloc: Global, house: HouseNo, node: Node) -> Result<Option<Said>,
     ensures says { IfOk result (λ o. IfSome o (λ s. SaysCommand s.line.items s.command)) }
     ensures is { IfOk result (λ o. IfSome o (λ s. s.command ≡ command.House house node)) }
     ensures none { IfOk result (λ o. IfNone o
-        (¬ SaysCommand (making_line house node) (command.House house node))) }
+        (¬ SaysCommand (command_line (command.House house node)) (command.House house node))) }
 {
-    let line = making_line(alloc, house, node)?;
-    let Some(command) = command_in(alloc, &line)? else {
+    let _below = node.number();
+    if house.0 == 0 {
         return Ok(None);
-    };
-    let is_wanted = makes(&command, house, node);
-    Ok(if_wanted(line, command, is_wanted))
+    }
+    said(alloc, Command::House(house, node))
 }
 
 /// `clock H TIME`; none, if that is no line which sets this clock.
@@ -96,15 +98,12 @@ pub fn setting(alloc: Global, house: HouseNo, time: u64) -> Result<Option<Said>,
     ensures says { IfOk result (λ o. IfSome o (λ s. SaysCommand s.line.items s.command)) }
     ensures is { IfOk result (λ o. IfSome o (λ s. s.command ≡ command.Clock house time)) }
     ensures none { IfOk result (λ o. IfNone o
-        (¬ SaysCommand (codes "clock" ++ (32 ∷ (decimal house.0 ++ (32 ∷ decimal time))))
-        (command.Clock house time))) }
+        (¬ SaysCommand (command_line (command.Clock house time)) (command.Clock house time))) }
 {
-    let line = clock_line(alloc, house, time)?;
-    let Some(command) = command_in(alloc, &line)? else {
+    if house.0 == 0 {
         return Ok(None);
-    };
-    let is_wanted = sets_clock(&command, house, time);
-    Ok(if_wanted(line, command, is_wanted))
+    }
+    said(alloc, Command::Clock(house, time))
 }
 
 /// `crash H`; none, if that is no line of this crash.
@@ -112,14 +111,12 @@ pub fn crash(alloc: Global, house: HouseNo) -> Result<Option<Said>, AllocError>
     ensures says { IfOk result (λ o. IfSome o (λ s. SaysCommand s.line.items s.command)) }
     ensures is { IfOk result (λ o. IfSome o (λ s. s.command ≡ command.Crash house)) }
     ensures none { IfOk result (λ o. IfNone o
-        (¬ SaysCommand (codes "crash" ++ (32 ∷ decimal house.0)) (command.Crash house))) }
+        (¬ SaysCommand (command_line (command.Crash house)) (command.Crash house))) }
 {
-    let line = crash_line(alloc, house)?;
-    let Some(command) = command_in(alloc, &line)? else {
+    if house.0 == 0 {
         return Ok(None);
-    };
-    let is_wanted = crashes(&command, house);
-    Ok(if_wanted(line, command, is_wanted))
+    }
+    said(alloc, Command::Crash(house))
 }
 
 /// `start H`; none, if that is no line of this start.
@@ -127,14 +124,12 @@ pub fn start(alloc: Global, house: HouseNo) -> Result<Option<Said>, AllocError>
     ensures says { IfOk result (λ o. IfSome o (λ s. SaysCommand s.line.items s.command)) }
     ensures is { IfOk result (λ o. IfSome o (λ s. s.command ≡ command.Start house)) }
     ensures none { IfOk result (λ o. IfNone o
-        (¬ SaysCommand (codes "start" ++ (32 ∷ decimal house.0)) (command.Start house))) }
+        (¬ SaysCommand (command_line (command.Start house)) (command.Start house))) }
 {
-    let line = start_line(alloc, house)?;
-    let Some(command) = command_in(alloc, &line)? else {
+    if house.0 == 0 {
         return Ok(None);
-    };
-    let is_wanted = starts(&command, house);
-    Ok(if_wanted(line, command, is_wanted))
+    }
+    said(alloc, Command::Start(house))
 }
 
 /// The line of a turn of a house, which takes the message of this serial number if it takes one;
@@ -156,6 +151,8 @@ pub fn turn(
     let Some(command) = command_in(alloc, &line)? else {
         return Ok(None);
     };
-    let is_wanted = is_order(&command, house, &turn.order, serial);
-    Ok(if_wanted(line, command, is_wanted))
+    if !is_order(&command, house, &turn.order, serial) {
+        return Ok(None);
+    }
+    Ok(Some(Said { line, command }))
 }

@@ -4,54 +4,14 @@ ghost use Rattle.std.specs.Bool.{Decides};
 ghost use Rattle.directory.specs.declared.update.Update.TheVariants as update';
 ghost use Rattle.cell_script.specs.declared.command.Command.TheVariants as command';
 ghost use Rattle.cell_script.specs.declared.lists.Listed.{Listed};
-ghost use Rattle.entry_lines.specs.EntryCommands.{IsCommandOf, update_command};
+ghost use Rattle.entry_lines.specs.EntryCommands.{IsCommandOf};
 
 use attr_sets::Value;
-use cds_stamps::{AttrName, DirId, HouseNo, Node, SimpleName};
-use cell_names::FullName;
+use cds_stamps::{AttrName, DirId, HouseNo, SimpleName};
+use cell_names::{ChildPointer, FullName, HouseList};
 use cell_script::{Command, HouseNos, Listeds};
 use directory::Update;
 use house_lines::HouseOrder;
-
-/// Whether a command makes this house.
-pub(crate) fn makes(command: &Command, house: HouseNo, node: Node) -> bool
-    ensures { Decides result (command.now ≡ command'.House house node) }
-{
-    match command {
-        Command::House(h, n) => *h == house && *n == node,
-        _ => false,
-    }
-}
-
-/// Whether a command sets the clock of this house to this time.
-pub(crate) fn sets_clock(command: &Command, house: HouseNo, time: u64) -> bool
-    ensures { Decides result (command.now ≡ command'.Clock house time) }
-{
-    match command {
-        Command::Clock(h, t) => *h == house && *t == time,
-        _ => false,
-    }
-}
-
-/// Whether a command is a crash of this house.
-pub(crate) fn crashes(command: &Command, house: HouseNo) -> bool
-    ensures { Decides result (command.now ≡ command'.Crash house) }
-{
-    match command {
-        Command::Crash(h) => *h == house,
-        _ => false,
-    }
-}
-
-/// Whether a command starts this house.
-pub(crate) fn starts(command: &Command, house: HouseNo) -> bool
-    ensures { Decides result (command.now ≡ command'.Start house) }
-{
-    match command {
-        Command::Start(h) => *h == house,
-        _ => false,
-    }
-}
 
 // Whether an update creates an entry of this name.
 fn creates(update: &Update, name: &SimpleName) -> bool
@@ -130,18 +90,49 @@ fn clears(update: &Update, name: &SimpleName, attr: &AttrName) -> bool
     }
 }
 
+// Whether an update makes a child of this name with this pointer.
+fn makes_entry(update: &Update, name: &SimpleName, pointer: &ChildPointer) -> bool
+    ensures { Decides result (update.now ≡ update'.MakeChild name.now pointer.now) }
+{
+    match update {
+        Update::MakeChild(n, p) => n == name && p == pointer,
+        _ => false,
+    }
+}
+
+// Whether it sets the houses of a child of this name to these.
+fn sets_houses(update: &Update, name: &SimpleName, houses: &HouseList) -> bool
+    ensures { Decides result (update.now ≡ update'.Repoint name.now houses.now) }
+{
+    match update {
+        Update::Repoint(n, h) => n == name && h == houses,
+        _ => false,
+    }
+}
+
+// Whether two updates are the same.
+fn is_same_update(update: &Update, other: &Update) -> bool
+    ensures { Decides result (update.now ≡ other.now) }
+{
+    match other {
+        Update::Create(n) => creates(update, n),
+        Update::MakeLink(n, t) => links(update, n, t),
+        Update::MakeChild(n, p) => makes_entry(update, n, p),
+        Update::Delete(n) => deletes(update, n),
+        Update::Add(n, a, v) => adds(update, n, a, v),
+        Update::Remove(n, a, v) => removes(update, n, a, v),
+        Update::Put(n, a, v) => puts(update, n, a, v),
+        Update::Clear(n, a) => clears(update, n, a),
+        Update::Repoint(n, h) => sets_houses(update, n, h),
+    }
+}
+
 // Whether a command is this update of this directory at this house.
 fn updates(command: &Command, house: HouseNo, dir: DirId, update: &Update) -> bool
-    ensures { Decides result (update_command house dir update.now ≡ Some command.now) }
+    ensures { Decides result (command.now ≡ command'.Update house dir update.now) }
 {
     match command {
-        Command::Create(h, d, n) => *h == house && *d == dir && creates(update, n),
-        Command::Link(h, d, n, t) => *h == house && *d == dir && links(update, n, t),
-        Command::Delete(h, d, n) => *h == house && *d == dir && deletes(update, n),
-        Command::Add(h, d, n, a, v) => *h == house && *d == dir && adds(update, n, a, v),
-        Command::Remove(h, d, n, a, v) => *h == house && *d == dir && removes(update, n, a, v),
-        Command::Put(h, d, n, a, v) => *h == house && *d == dir && puts(update, n, a, v),
-        Command::Clear(h, d, n, a) => *h == house && *d == dir && clears(update, n, a),
+        Command::Update(h, d, u) => *h == house && *d == dir && is_same_update(u, update),
         _ => false,
     }
 }

@@ -1,7 +1,7 @@
 -- Lines of skulks that run: they are read back as they were written.
-use Rattle.std.proofs.Common.{◌≡◌, ◌≢◌, ℕ, zero, suc, ◌<◌, ◌^◌, ◌/◌, ◌%◌, Bool, true, false, eqb, List, [], ◌∷◌, ◌++◌, length, take, drop, get_or, refl, sym, ap, subst, ◌∙◌, append_assoc, arith}
+use Rattle.std.proofs.Common.{◌≡◌, ◌≢◌, ℕ, ◌<◌, ◌^◌, Bool, true, false, eqb, List, [], ◌∷◌, ◌++◌, length, take, drop, get_or, refl, sym, ap, subst, ◌∙◌, append_assoc, arith}
 use Rattle.std.specs.Prelude.{◌==◌, nat_eq, not, codes, decimal, Ok, Result}
-use Rattle.std.specs.Int.{from_be_bytes, to_be_bytes, w64}
+use Rattle.std.specs.Int.{from_be_bytes, w64}
 use Rattle.std.specs.List.{All, after_first, before_first, list_all, starts_with}
 use Rattle.std.specs.Str.{all_ascii_digits, bytes_eq}
 use Rattle.std.proofs.lemmas.Slice.Eq.{bytes_eq-Decides}
@@ -11,13 +11,13 @@ use Rattle.std.proofs.lemmas.Fmt.{decimal_injective, digits_decimal}
 use Rattle.std.proofs.lemmas.Grind.{flat_map-append}
 use Rattle.std.proofs.lemmas.List.Concat.{flat_map-cons}
 use Rattle.std.proofs.lemmas.List.Elements.{All-append, All-cons, All-head, All-nil, All-tail, All-weaker}
-use Rattle.std.proofs.lemmas.Nat.{from_be_bytes-to_be_bytes_8}
 use Rattle.std.proofs.lemmas.Str.Parse.{numerals_by_value, tells_all_ascii_digits}
-use Rattle.hex.specs.Hex.{IsBytes, decode_of, encode_lower}
+use Rattle.hex.specs.Hex.{decode_of, encode_lower}
 use Rattle.hex.proofs.HexLemmas.{decode_of-encode_lower}
 use Rattle.cds_stamps.specs.declared.stamp.Stamp.{Stamp}
 use Rattle.record_fields.specs.FieldRanges.{FitsStamp}
 use Rattle.script_answers.specs.Texts.{node_octets, stamp_text}
+use Rattle.script_answers.proofs.ReadWords.{node_bytes, node_is}
 use Rattle.clearinghouse.specs.declared.running.Round.{Round}
 use Rattle.clearinghouse.specs.declared.running.Round.TheVariants.{Gather, Spread}
 use Rattle.clearinghouse.specs.declared.running.RunningSkulk.{RunningSkulk}
@@ -76,26 +76,6 @@ hex_no_space : (octets : List ℕ) → All (λ b. b ≢ 32) (encode_lower octets
 hex_no_space octets = All-weaker IsDigit (λ (b : ℕ). b ≢ 32) no_space (encode_lower octets) (hex_digits octets)
 
 -- ---- nodes
-
-low : (n : ℕ) → n % 256 < 256
-low n = omega arith
-
-pub node_bytes : (n : ℕ) → IsBytes (node_octets n)
-node_bytes n zero = low (n / 1099511627776)
-node_bytes n (suc zero) = low (n / 4294967296)
-node_bytes n (suc (suc zero)) = low (n / 16777216)
-node_bytes n (suc (suc (suc zero))) = low (n / 65536)
-node_bytes n (suc (suc (suc (suc zero)))) = low (n / 256)
-node_bytes n (suc (suc (suc (suc (suc zero))))) = low n
-node_bytes n (suc (suc (suc (suc (suc (suc i)))))) = low 0
-
--- a node of 48 bits, out of its octets
-pub node_is : (n : ℕ) → n < 2 ^ 48 → from_be_bytes w64 (0 ∷ 0 ∷ node_octets n) ≡ n
-node_is n small =
-    let first : 0 ≡ n / 72057594037927936 % 256 = omega (arith, small) in
-    let second : 0 ≡ n / 281474976710656 % 256 = omega (arith, small) in
-    let whole : 0 ∷ 0 ∷ node_octets n ≡ to_be_bytes w64 n = λ i. first i ∷ second i ∷ node_octets n in
-    ap (from_be_bytes w64) whole ∙ from_be_bytes-to_be_bytes_8 n (omega (arith, small))
 
 node_again : (n m : ℕ) → n < 2 ^ 48 → m < 2 ^ 48 → encode_lower (node_octets n) ≡ encode_lower (node_octets m) → n ≡ m
 node_again n m small small' same =

@@ -9,12 +9,13 @@ use Rattle.hex.specs.declared.error.FromHexError.{FromHexError}
 use Rattle.hex.proofs.HexLemmas.{decode_sized-encode_lower}
 use Rattle.cds_stamps.specs.declared.stamp.Stamp.{Stamp}
 use Rattle.script_answers.specs.Texts.{node_octets, stamp_text}
+use Rattle.script_answers.proofs.ReadWords.{node_bytes}
 use Rattle.clearinghouse.specs.HouseImages.{with_skulks}
 use Rattle.clearinghouse.specs.declared.house.Clearinghouse.{Clearinghouse}
 use Rattle.clearinghouse.specs.declared.running.RunningSkulk.{RunningSkulk}
 use Rattle.house_turns.specs.RunningSkulks.{AllFit, FitsRunning, round_word, running_line, running_lines}
 use Rattle.house_turns.proofs.Cuts.{cut_after, cut_before}
-use Rattle.house_turns.proofs.RunningLines.{decimal_no_sign, decimal_no_space, fit_more, line_words, no_spaces, node_bytes, round_no_space, round_words, stamp_no_space, stamp_words}
+use Rattle.house_turns.proofs.RunningLines.{decimal_no_sign, decimal_no_space, fit_more, line_words, no_spaces, round_no_space, round_words, stamp_no_space, stamp_words}
 
 -- ---- cuts
 

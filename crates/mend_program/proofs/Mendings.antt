@@ -22,7 +22,7 @@ use Rattle.script_replay.specs.Scripts.{IsScript}
 use Rattle.mend_model.specs.Leaving.{leaving_commands, new_master, smaller_list}
 use Rattle.mend_model.proofs.LeftOut.{chosen_stays, leaving_lem}
 use Rattle.mend_replay.specs.MendLines.{command_line, command_lines, leaving_text, mend_text, mending_text, mends, refusal_line, text_led_by}
-use Rattle.mend_replay.specs.SayableCommands.{IsDirectory, IsHouse}
+use Rattle.command_lines.specs.SayableCommands.{IsDirectory, IsHouse}
 use Rattle.mend_replay.proofs.Ready.{ready_is}
 use Rattle.mend_program.specs.Mended.{IsMended, MendsBehind, members_without}
 use Rattle.mend_program.proofs.Sayable.{AllSaid, leaving_mend, leaving_said, mends_mend, mends_said, skulk_few}

@@ -21,7 +21,7 @@ use Rattle.cds_base.specs.RunEnds.{Run}
 use Rattle.line_forms.specs.Runs.{IsWhole, Wrote}
 use Rattle.script_replay.specs.Scripts.{state_after_lines}
 use Rattle.script_replay.proofs.Scripts.{faultless_script, script_due, told_with}
-use Rattle.mend_replay.specs.SayableCommands.{IsDirectory}
+use Rattle.command_lines.specs.SayableCommands.{IsDirectory}
 use Rattle.mend_program.specs.Mended.{IsMending}
 use Rattle.mend_program.specs.ProgramWords.{are_houses, directory_named}
 use Rattle.mend_replay.specs.MendLines.{mend_text}

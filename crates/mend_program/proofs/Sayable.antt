@@ -16,7 +16,8 @@ use Rattle.cell_model.proofs.Terms.{In-others_of}
 use Rattle.mend_replay.specs.Readiness.{is_ready}
 use Rattle.cell_script.specs.Words.{most_serial}
 use Rattle.mend_replay.specs.MendLines.{mends}
-use Rattle.mend_replay.specs.SayableCommands.{CanBeSaid, IsDirectory, IsHouse}
+use Rattle.command_lines.specs.SayableCommands.{IsDirectory, IsHouse}
+use Rattle.mend_replay.specs.SayableCommands.{CanBeSaid}
 use Rattle.mend_replay.proofs.ReadBack.{CanMend, can_mend}
 use Rattle.mend_model.specs.Leaving.{kept_members, leaving_commands}
 use Rattle.mend_model.proofs.KeptMembers.{house_kept, kept_few, kept_house, kept_once}

@@ -37,7 +37,7 @@ use Rattle.cds_cell.specs.Scripted.{step_of}
 use Rattle.script_replay.specs.Replies.{Numbered, does, question_said, steps_of, trusted_reader}
 use Rattle.script_replay.specs.Headline.{commands_from}
 use Rattle.script_replay.specs.Scripts.{IsScript, Says, IsScriptOf}
-use Rattle.mend_replay.specs.SayableCommands.{IsHouse}
+use Rattle.command_lines.specs.SayableCommands.{IsHouse}
 
 -- of what comes of something without a fault, this holds
 abbrev Holds : {A E : Type 0} → Result A E → (A → Type 0) → Type 0

@@ -7,7 +7,7 @@ ghost use Rattle.script_replay.specs.Headline.{cell_after_script};
 ghost use Rattle.script_replay.specs.Scripts.{IsScript};
 ghost use Rattle.mend_model.specs.Leaving.{new_master};
 ghost use Rattle.mend_replay.specs.MendLines.{mend_text};
-ghost use Rattle.mend_replay.specs.SayableCommands.{IsDirectory};
+ghost use Rattle.command_lines.specs.SayableCommands.{IsDirectory};
 ghost use Rattle.mend_program.specs.Mended.{IsMended, members_without};
 
 /// A script followed by the lines that mend a directory after it mends it without the houses that

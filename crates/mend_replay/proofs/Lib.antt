@@ -1,5 +1,3 @@
-pub mod Digits
-pub mod Words
 pub mod MemberKinds
 pub mod PutLines
 pub mod ReadBack

@@ -1,22 +1,25 @@
--- The kinds of the members of a list: which words they have, and that the secondary ones are some
--- of the others.
+-- The kinds of the members of a list: how lines list them, and that the secondary ones are some of
+-- the others.
 use Rattle.std.proofs.Common.{◌≡◌, inl, inr, ⊎_elim, ℕ, ◌+◌, ◌<◌, ◌≤◌, le_refl, Bool, true, false, ◌||◌, List, [], ◌∷◌, ◌++◌, map, refl, sym, ◌∙◌, ap, subst}
 use Rattle.std.proofs.Common.{arith, if◌then◌else◌}
 use Rattle.std.specs.Prelude.{None, Some, ◌==◌, nat_lt, filter}
 use Rattle.std.specs.List.{AllByRecursion}
-use Rattle.std.specs.Fmt.{decimal}
 use Rattle.std.proofs.lemmas.Bool.Decides.{nat_tests}
-use Rattle.cds_stamps.specs.Members.{Member, first_unordered, is_master, is_secondary, master_of, members_fault, others_of, secondaries_of}
+use Rattle.cds_stamps.specs.Members.{Member, first_unordered, is_master, is_secondary, master_of, members_fault, members_of, others_of, secondaries_of}
+use Rattle.cds_stamps.specs.declared.members.Member as declared
 use Rattle.cds_stamps.specs.declared.members.MemberKind.{MemberKind}
 use Rattle.cds_stamps.specs.declared.members.MemberKind.TheVariants.{Master, ReadOnly, Secondary}
+use Rattle.cds_stamps.specs.declared.numbers.HouseNo.{HouseNo}
 use Rattle.cds_stamps.proofs.MemberLaws.{no_members_fault}
 use Rattle.cell_model.specs.Sets.{In, has}
 use Rattle.cell_model.proofs.Answerings.{Once}
 use Rattle.cell_model.proofs.Lists.{eq_from, eq_to, or_cases}
 use Rattle.cell_model.proofs.PresentLists.{houses_of}
-use Rattle.mend_replay.specs.MendLines.{listed_word, words_behind}
+use Rattle.cell_script.specs.declared.lists.Listed.{Listed}
+use Rattle.command_lines.specs.ListedMembers.{listed_member, listed_others}
+use Rattle.mend_replay.specs.MendLines.{listed_house}
 use Rattle.mend_model.specs.Leaving.{kept_members}
-use Rattle.mend_replay.specs.PrivateLines.{AreOrdered, led_member, listed_words, member_word}
+use Rattle.mend_replay.specs.PrivateLines.{AreOrdered, led_member}
 
 -- ---- houses that stand once
 
@@ -137,20 +140,22 @@ kinds_known (z ∷ zs) once =
         none true there = absurd (once.0 (secondary_there z.house zs there))
         none false there = refl
 
--- ---- their words
+-- ---- how lines list them
 
--- the words of the members but the master are those of the others
-pub words_match : (ss : List ℕ) (m : ℕ) (ms : List Member) → KindsKnown ss ms → listed_words m ms ≡ words_behind (map (listed_word ss) (others_of m ms))
-words_match ss m [] all = refl
-words_match ss m (y ∷ ys) all = by_house (words_match ss m ys all.1) (y.house == m)
+-- the members but the master are listed as the others
+pub listed_match : (ss : List ℕ) (m : HouseNo) (ms : List declared.Member) → KindsKnown ss (members_of ms)
+    → listed_others m ms ≡ map (listed_house ss) (others_of m.0 (members_of ms))
+listed_match ss m [] all = refl
+listed_match ss m (y ∷ ys) all = by_house (listed_match ss m ys all.1) (y.house.0 == m.0)
   where
-    by_house : listed_words m ys ≡ words_behind (map (listed_word ss) (others_of m ys))
-        → (b : Bool) → (if b then listed_words m ys else 32 ∷ (member_word (is_secondary y.kind) y.house ++ listed_words m ys))
-        ≡ words_behind (map (listed_word ss) (if b then others_of m ys else y.house ∷ others_of m ys))
+    by_house : listed_others m ys ≡ map (listed_house ss) (others_of m.0 (members_of ys)) → (b : Bool)
+        → (if b then listed_others m ys else listed_member y ∷ listed_others m ys)
+        ≡ map (listed_house ss) (if b then others_of m.0 (members_of ys) else y.house.0 ∷ others_of m.0 (members_of ys))
     by_house rest true = rest
     by_house rest false =
-        ap (λ (ws : List ℕ). 32 ∷ (member_word (is_secondary y.kind) y.house ++ ws)) rest
-        ∙ ap (λ (b : Bool). 32 ∷ ((if b then 115 ∷ decimal y.house else decimal y.house) ++ words_behind (map (listed_word ss) (others_of m ys)))) (sym all.0)
+        ap (λ (ls : List Listed). listed_member y ∷ ls) rest
+        ∙ ap (λ (b : Bool). let first : Listed = record { house = y.house; secondary = b } in first ∷ map (listed_house ss) (others_of m.0 (members_of ys)))
+        (sym all.0)
 
 -- ---- secondary ones among the others
 

@@ -1,6 +1,5 @@
 -- The commands that mend a directory, as lines of a script.
 use Rattle.std.specs.Prelude.{ℕ, if◌then◌else◌, List, [], ◌∷◌, ◌++◌, map, codes, is_some, Option, Some, None}
-use Rattle.std.specs.Fmt.{decimal}
 use Rattle.std.specs.List.{flat_map}
 use Rattle.cds_stamps.specs.Members.{master_of}
 use Rattle.cell_model.specs.Cells.{Cell}
@@ -9,31 +8,30 @@ use Rattle.cell_model.specs.Mending.{mend_commands, skulking_at}
 use Rattle.cell_model.specs.Sets.{has}
 use Rattle.cell_model.specs.Steps.{is_unknown}
 use Rattle.cell_model.specs.Turns.{stamp_at}
+use Rattle.cell_script.specs.declared.command.Command.TheVariants as script
+use Rattle.cell_script.specs.declared.lists.Listed.{Listed}
+use Rattle.command_lines.specs.CommandTexts as text
+use Rattle.command_lines.specs.CommandTexts.{line_of}
 use Rattle.mend_model.specs.Leaving.{leaving_commands, new_master}
 use Rattle.mend_replay.specs.Readiness.{is_ready}
 
 -- ---- lines
 
--- a house of a list, after an `s` where it is one of the secondary ones
-abbrev pub listed_word : (ss : List ℕ) → ℕ → List ℕ
-listed_word ss x = if has x ss then 115 ∷ decimal x else decimal x
+-- a house of a list, as a script has it: it may be one of the secondary ones
+abbrev pub listed_house : (ss : List ℕ) → ℕ → Listed
+listed_house ss x = record { house = record { 0 = x }; secondary = has x ss }
 
--- the words of these four commands; the others mend nothing, and have none here
+-- the words of these four commands, as a script has them; the others mend nothing, and have none
+-- here
 abbrev pub command_words : Command → List (List ℕ)
-command_words (Start h) = codes "start" ∷ decimal h ∷ []
-command_words (Epoch d m rs ss) = codes "epoch" ∷ decimal d ∷ decimal m ∷ map (listed_word ss) rs
-command_words (Skulk h d) = codes "skulk" ∷ decimal h ∷ decimal d ∷ []
-command_words (Deliver n) = codes "deliver" ∷ decimal n ∷ []
+command_words (Start h) = text.command_words (script.Start (record { 0 = h }))
+command_words (Epoch d m rs ss) =
+    text.command_words
+    (script.Epoch (record { 0 = d }) (record { 0 = m }) (map (listed_house ss) rs))
+command_words (Skulk h d) =
+    text.command_words (script.Skulk (record { 0 = h }) (record { 0 = d }))
+command_words (Deliver n) = text.command_words (script.Deliver n)
 command_words _ = []
-
--- words after others, each after a space
-abbrev pub words_behind : List (List ℕ) → List ℕ
-words_behind = flat_map (λ w. 32 ∷ w)
-
--- words in a line, with a space between two of them
-abbrev pub line_of : List (List ℕ) → List ℕ
-line_of [] = []
-line_of (w ∷ ws) = w ++ words_behind ws
 
 -- the line of a command, without its end
 abbrev pub command_line : Command → List ℕ

@@ -12,17 +12,6 @@ use Rattle.mend_replay.specs.MendLines.{command_lines}
 abbrev pub IsScriptWith : (old new : List ℕ) → List Command → Type 0
 IsScriptWith old new cs = new ≡ old ++ command_lines cs
 
--- the word of a member
-abbrev pub member_word : (secondary : Bool) → ℕ → List ℕ
-member_word secondary x = if secondary then 115 ∷ decimal x else decimal x
-
--- the words of members but the master, each after a space
-abbrev pub listed_words : (m : ℕ) → List Member → List ℕ
-listed_words m [] = []
-listed_words m (y ∷ ys) =
-    if y.house == m then listed_words m ys else 32 ∷ member_word (is_secondary y.kind) y.house ++
-    listed_words m ys
-
 -- the house numbers ascend
 abbrev pub AreOrdered : List Member → Type 0
 AreOrdered ms = first_unordered 1 0 ms ≡ None

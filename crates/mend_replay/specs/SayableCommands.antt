@@ -1,23 +1,14 @@
 -- What the lines of commands say when they are read.
-use Rattle.std.specs.Prelude.{◌≡◌, ℕ, ◌<◌, ◌≤◌, List, filter, length, Some, Ok}
+use Rattle.std.specs.Prelude.{◌≡◌, ℕ, ◌<◌, List, filter, length, Some, Ok}
 use Rattle.cds_stamps.specs.Members.{most_members}
 use Rattle.cell_model.specs.Commands as model
 use Rattle.cell_model.specs.Sets.{In, has}
 use Rattle.cell_script.specs.declared.command.Command.{Command}
 use Rattle.cell_script.specs.declared.command.ScriptLine.TheVariants as line
 use Rattle.cell_script.specs.CommandRows.{said_in}
-use Rattle.cell_script.specs.Words.{most_directory, most_house, most_serial, words_of}
+use Rattle.cell_script.specs.Words.{words_of}
 use Rattle.cds_cell.specs.Scripted.{step_of}
-
--- the number of a house, a directory and a message, as lines have them
-abbrev pub IsHouse : ℕ → Type 0
-IsHouse x = (1 ≤ x) × (x ≤ most_house)
-
-abbrev pub IsDirectory : ℕ → Type 0
-IsDirectory d = (1 ≤ d) × (d ≤ most_directory)
-
-abbrev pub IsSerial : ℕ → Type 0
-IsSerial n = (1 ≤ n) × (n ≤ most_serial)
+use Rattle.command_lines.specs.SayableCommands.{IsDirectory, IsHouse, IsSerial}
 
 -- one of the four commands that mend, with numbers that lines can have; of an epoch, the secondary
 -- houses are some of the others, in their order

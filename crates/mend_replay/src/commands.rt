@@ -57,12 +57,13 @@ fn listed_text(
         return refusal_line(alloc, b"StampsSpent");
     }
     let mut script = Vec::new(alloc);
-    push_mends(&mut script, cell, dir, epoch, members)?;
+    push_mends(alloc, &mut script, cell, dir, epoch, members)?;
     Ok(script)
 }
 
 // The commands that mend it; a skulk is enough where its houses are ready.
 fn push_mends(
+    alloc: Global,
     script: &mut Vec<u8>,
     cell: &Cell,
     dir: DirId,
@@ -78,12 +79,13 @@ fn push_mends(
         let others = count_others(members.master(), members.list());
         push_skulking(script, cell.posted(), dir, members.master(), others)
     } else {
-        push_mending(script, cell, dir, members)
+        push_mending(alloc, script, cell, dir, members)
     }
 }
 
 // The houses are started, get a new epoch and take its Joins, and then a skulk completes.
 fn push_mending(
+    alloc: Global,
     script: &mut Vec<u8>,
     cell: &Cell,
     dir: DirId,
@@ -95,7 +97,7 @@ fn push_mending(
 {
     let others = count_others(members.master(), members.list());
     push_starts(script, cell, members.list())?;
-    push_epoch(script, dir, members.master(), members.list())?;
+    push_epoch(alloc, script, dir, members.master(), members.list())?;
     push_deliveries(script, cell.posted(), others)?;
     push_skulking(
         script,

@@ -56,13 +56,22 @@ fn led_text(
     let kept = kept_members(alloc, members.list(), without, master)?;
     let others = count_others(master, members.list());
     let mut script = Vec::new(alloc);
-    push_leaving(&mut script, cell, dir, master, kept.as_slice(), others)?;
+    push_leaving(
+        alloc,
+        &mut script,
+        cell,
+        dir,
+        master,
+        kept.as_slice(),
+        others,
+    )?;
     Ok(script)
 }
 
 // The houses that stay are started, get an epoch without the others and take its Joins; then a
 // skulk completes. The epoch posts so many messages.
 fn push_leaving(
+    alloc: Global,
     script: &mut Vec<u8>,
     cell: &Cell,
     dir: DirId,
@@ -80,7 +89,7 @@ fn push_leaving(
 {
     let others = count_others(master, kept);
     push_starts(script, cell, kept)?;
-    push_epoch(script, dir, master, kept)?;
+    push_epoch(alloc, script, dir, master, kept)?;
     push_deliveries(script, cell.posted(), others)?;
     push_skulking(script, cell.posted() + posted, dir, master, others)
 }

@@ -1,6 +1,6 @@
 use Rattle.std.proofs.Common.{length, sym, ◌∙◌, arith}
 use Rattle.std.proofs.lemmas.Bool.{le-leb, leb-true}
-use Rattle.entry_lines.proofs.LineLemmas.{line_short, line_shown, printable_line}
+use Rattle.command_lines.proofs.LineLemmas.{line_short, line_shown, printable_line}
 use Rattle.entry_lines.proofs.command.is_line.Goals as goal
 
 pub returns-then-octets-le-LONGEST_LINE : goal.returns-then-octets-le-LONGEST_LINE

@@ -2,7 +2,7 @@ use Rattle.std.proofs.Common.{[], ◌∷◌, ◌++◌, ◌∙◌, ◌≡◌, Lis
 use Rattle.std.specs.Prelude.{Option, Some, None}
 use Rattle.std.specs.Int.{from_be_bytes, w64}
 use Rattle.std.specs.Result.{result_ok}
-use Rattle.house_turns.proofs.RunningLines.{node_is}
+use Rattle.script_answers.proofs.ReadWords.{node_is}
 use Rattle.house_turns.proofs.SkulkWords.{node_made, node_read}
 use Rattle.house_turns.proofs.running.node_in.Goals as goal
 
