@@ -6,6 +6,7 @@ ghost use Rattle.script_answers.specs.Texts.{lines_text, parse_fault_text};
 ghost use Rattle.house_serving.specs.Replies.{said_in};
 ghost use Rattle.house_turns.specs.HouseReplies as replies;
 ghost use Rattle.clearinghouse.specs.declared.house.Clearinghouse.{Clearinghouse};
+ghost use Rattle.house_lines.specs.declared.line.HouseLine.TheVariants as asks;
 ghost use Rattle.house_lines.specs.declared.line.HouseOrder.TheVariants as order;
 ghost use Rattle.house_turns.specs.HouseReplies.{RepliesMore, RepliesOrder, RepliesTake, RepliesTo, Responds, with_spaces, turn_lines};
 ghost use Rattle.house_turns.specs.Openings.{new_house};
@@ -337,6 +338,26 @@ impl House {
         self.reply(alloc, number, &words, said)
     }
 
+    // The reply to an order. A message is that of the octets that were kept, and these.
+    fn reply_order(
+        &mut self,
+        alloc: Global,
+        number: u32,
+        line: &[u8],
+        told: HouseOrder,
+    ) -> Result<Reply, AllocError>
+        ensures { IfOk result (λ r. RepliesTo self.old number (words_of line.now) (asks.Order told)
+            (said_in r) self.new) }
+    {
+        match told {
+            HouseOrder::Take(octets) => self.take_all(alloc, number, &octets),
+            other => {
+                let said = self.obey(alloc, number, other)?;
+                self.reply_alone(alloc, number, line, said)
+            }
+        }
+    }
+
     // The reply to a line that says this.
     fn reply_to(
         &mut self,
@@ -362,11 +383,7 @@ impl House {
                 let said = self.answer(alloc, number, &question)?;
                 self.reply_alone(alloc, number, line, said)
             }
-            HouseLine::Order(HouseOrder::Take(octets)) => self.take_all(alloc, number, &octets),
-            HouseLine::Order(told) => {
-                let said = self.obey(alloc, number, told)?;
-                self.reply_alone(alloc, number, line, said)
-            }
+            HouseLine::Order(told) => self.reply_order(alloc, number, line, told),
         }
     }
 
