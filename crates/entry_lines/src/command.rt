@@ -65,8 +65,8 @@ fn command_in(alloc: Global, line: &[u8]) -> Result<Option<Command>, AllocError>
     }
 }
 
-// The line of a command that lines can say; none, if it is too long for one.
-fn said(alloc: Global, command: Command) -> Result<Option<Said>, AllocError>
+// A command that lines can say, with its line; none, if it is too long for one.
+fn with_line(alloc: Global, command: Command) -> Result<Option<Said>, AllocError>
     requires { CanBeSaid command }
     ensures says { IfOk result (λ o. IfSome o (λ s. SaysCommand s.line.items s.command)) }
     ensures is { IfOk result (λ o. IfSome o (λ s. s.command ≡ command)) }
@@ -90,7 +90,7 @@ pub fn making(alloc: Global, house: HouseNo, node: Node) -> Result<Option<Said>,
     if house.0 == 0 {
         return Ok(None);
     }
-    said(alloc, Command::House(house, node))
+    with_line(alloc, Command::House(house, node))
 }
 
 /// `clock H TIME`; none, if that is no line which sets this clock.
@@ -103,7 +103,7 @@ pub fn setting(alloc: Global, house: HouseNo, time: u64) -> Result<Option<Said>,
     if house.0 == 0 {
         return Ok(None);
     }
-    said(alloc, Command::Clock(house, time))
+    with_line(alloc, Command::Clock(house, time))
 }
 
 /// `crash H`; none, if that is no line of this crash.
@@ -116,7 +116,7 @@ pub fn crash(alloc: Global, house: HouseNo) -> Result<Option<Said>, AllocError>
     if house.0 == 0 {
         return Ok(None);
     }
-    said(alloc, Command::Crash(house))
+    with_line(alloc, Command::Crash(house))
 }
 
 /// `start H`; none, if that is no line of this start.
@@ -129,7 +129,7 @@ pub fn start(alloc: Global, house: HouseNo) -> Result<Option<Said>, AllocError>
     if house.0 == 0 {
         return Ok(None);
     }
-    said(alloc, Command::Start(house))
+    with_line(alloc, Command::Start(house))
 }
 
 /// The line of a turn of a house, which takes the message of this serial number if it takes one;
