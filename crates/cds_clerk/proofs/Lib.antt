@@ -1,3 +1,4 @@
 pub mod HeardLaws
 mod ClosedLaws
 mod SearchLaws
+mod InquiryLaws
