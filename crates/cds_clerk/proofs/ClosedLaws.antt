@@ -25,14 +25,12 @@ use Rattle.ns_import.specs.Orders.{Reaches, here, order, there, unfold_paths}
 use Rattle.ns_import.proofs.Importing.{searched_reached, steps_enough}
 use Rattle.ns_import.proofs.Landing.{shown_lead}
 use Rattle.ns_commands.specs.Imported.{bindings_told, import_answer}
-use Rattle.clerk_lines.specs.ShownEntries.{attr_values}
 use Rattle.cds_clerk.specs.declared.heard.Heard.{Heard}
 use Rattle.cds_clerk.specs.Agreements.{Agrees}
-use Rattle.cds_clerk.specs.Heards.{heard_values, values_told}
 use Rattle.cds_clerk.specs.HeardProofs.{least_shows_only, told_objects}
-use Rattle.cds_clerk.specs.Readings.{IsShown, least_reader}
-use Rattle.cds_clerk.specs.Searches.{IsFollowed, IsSearch, IsSettled, object_in}
-use Rattle.cds_clerk.proofs.HeardLaws.{end_is, least_agrees}
+use Rattle.cds_clerk.specs.Readings.{least_reader}
+use Rattle.cds_clerk.specs.Searches.{IsClosed, IsFollowed, IsSettled, object_in}
+use Rattle.cds_clerk.proofs.HeardLaws.{end_is, least_agrees, values_alike}
 
 pub none_ascend : IsStrictlySortedBy octets_cmp []
 unfolding IsStrictlySortedBy
@@ -91,13 +89,11 @@ module _ {A : Type 0} (same : A → A → Bool) (P : A → Type 0) (f g : A → 
 
 -- ---- a closed search
 
-module _ (h : Heard) (wanted : Wanted) (name : List (List ℕ)) (entries : List Found) (closed : IsSearch h wanted.interface name entries []) where
-  settled : (n : List (List ℕ)) → IsFollowed h entries [] n → IsSettled h entries n
+module _ (h : Heard) (wanted : Wanted) (name : List (List ℕ)) (entries : List Found) (closed : IsClosed h wanted.interface name entries) where
+  settled : (n : List (List ℕ)) → IsFollowed h entries [] [] n → IsSettled h entries n
   settled n (inl c) = absurd (Contains-none n c)
-  settled n (inr s) = s
-
-
-
+  settled n (inr (inl s)) = s
+  settled n (inr (inr w)) = absurd (Contains-none w.lack w.among)
 
   module _ (r : Reader) (agrees : Agrees r h) where
     -- a name that is settled leads to one object by both
@@ -106,11 +102,7 @@ module _ (h : Heard) (wanted : Wanted) (name : List (List ℕ)) (entries : List 
 
     -- an entry has the same values by both
     values_same : (e : Found) (a : List ℕ) → Contains entries e → r.values e a ≡ (least_reader h).values e a
-    values_same e a c =
-        let shown = closed.shown e c in
-        let vs : List (List ℕ) = attr_values a shown.entry.attrs in
-        let heard : heard_values h e a ≡ Some vs = ap (λ o. values_told o a) shown.told in
-        agrees.values e a vs heard ∙ sym ((least_agrees h).values e a vs heard)
+    values_same e a c = values_alike h r agrees e a (closed.shown e c)
 
     names_same : (e : Found) → Contains entries e → names_of r wanted.interface e ≡ names_of (least_reader h) wanted.interface e
     names_same e c =
@@ -174,8 +166,12 @@ module _ (h : Heard) (wanted : Wanted) (name : List (List ℕ)) (entries : List 
         let leads : object_of r name ≡ Some start = ap result_ok (object_at_same ∙ is) in
         ap Ok (imports_alike start (lands_inside name start (settled name closed.begins) leads_mine) leads leads_mine)
 
-    -- an import answers the same by both
+    -- an import lists the same by both
+    pub imports_listed : import_list (least_reader h) mine wanted name ≡ import_list r objects wanted name
+    imports_listed =
+        sym (ap (result_map_both (imports_from r objects wanted) (λ fault. fault)) object_at_same
+        ∙ lists_alike (object_at (least_reader h) name) refl)
+
+    -- and answers the same
     pub answers_alike : import_answer (least_reader h) mine wanted name ≡ import_answer r objects wanted name
-    answers_alike =
-        ap bindings_told (sym (ap (result_map_both (imports_from r objects wanted) (λ fault. fault)) object_at_same
-        ∙ lists_alike (object_at (least_reader h) name) refl))
+    answers_alike = ap bindings_told imports_listed

@@ -3,3 +3,4 @@ mod ClosedLaws
 mod SearchLaws
 pub mod LinkLaws
 mod PlanLaws
+mod InquiryLaws

@@ -5,3 +5,4 @@ pub mod HeardProofs
 pub mod Searches
 pub mod Links
 pub mod Plans
+pub mod Inquirings

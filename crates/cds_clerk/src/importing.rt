@@ -7,13 +7,12 @@ ghost use Rattle.resolver.specs.Readers.{Reader, ShowsOnly};
 ghost use Rattle.ns_commands.specs.Imported.{import_answer};
 ghost use Rattle.clerk_lines.specs.ShownEntries.{attr_values};
 ghost use Rattle.cds_clerk.specs.Agreements.{Agrees};
-ghost use Rattle.cds_clerk.specs.Heards.{IsUnheard, heard_root};
+ghost use Rattle.cds_clerk.specs.Heards.{heard_root};
 ghost use Rattle.cds_clerk.specs.HeardProofs.{least_shows_only, told_objects};
-ghost use Rattle.cds_clerk.specs.Searches.{IsSearch};
-ghost use Rattle.cds_clerk.specs.Readings.{IfSaid, IfUnknown, IfUnrooted, least_reader};
+ghost use Rattle.cds_clerk.specs.Searches.{AreAll, AreAsked, IfClosed, IfLost, IfMisses, IsClosed, IsSought};
+ghost use Rattle.cds_clerk.specs.Readings.{least_reader};
 
 use crate::heard::{Heard, Looked, Root};
-use crate::reading::Outcome;
 use crate::searching::{Searched, search};
 use attr_sets::Value;
 use cds_stamps::{AttrName, SimpleName};
@@ -107,32 +106,37 @@ fn closed_import(
     wanted: Wanted,
 ) -> Result<Answer, AllocError>
     requires { (entries : List Found)
-        × IsSearch heard.now wanted.interface name.now entries [] }
+        × IsClosed heard.now wanted.interface name.now entries }
     ensures { IfOk result (λ a. (r : Reader) (objects : List Found)
         → Agrees r heard.now → ShowsOnly r objects → a ≡ import_answer r objects wanted name.now) }
 {
     ns_commands::import(alloc, &HeardReader { heard }, name, wanted)
 }
 
-/// The answer to an import by what was heard. Each reader that agrees with what was heard, and shows
-/// finitely many objects, has that answer, whatever else it tells; and what lacks was not heard.
+/// The answer to an import by what was heard. Each reader that agrees with what was heard, and
+/// shows finitely many objects, has that answer, whatever else it tells. What lacks was not heard,
+/// and the search comes to a name of which the walk needs it; nothing else lacks that can be told
+/// so far.
 pub fn import(
     alloc: Global,
     heard: &Heard,
     name: &FullName,
     wanted: Wanted,
-) -> Result<Outcome, AllocError>
-    ensures done { IfOk result (λ x. IfSaid x (λ a. (r : Reader) (objects : List Found)
+) -> Result<Searched<Answer>, AllocError>
+    ensures done { IfOk result (λ x. IfClosed x (λ a. (r : Reader) (objects : List Found)
         → Agrees r heard.now → ShowsOnly r objects → a ≡ import_answer r objects wanted name.now)) }
-    ensures asks { IfOk result (λ x. IfUnknown x (IsUnheard heard.now)) }
-    ensures root { IfOk result (λ x. IfUnrooted x (heard_root heard.now.root ≡ None)) }
+    ensures asks { IfOk result (λ x. IfMisses x
+        (AreAsked heard.now (IsSought heard.now wanted.interface name.now))) }
+    ensures all { IfOk result (λ x. IfMisses x
+        (AreAll heard.now wanted.interface name.now)) }
+    ensures root { IfOk result (λ x. IfLost x (heard_root heard.now.root ≡ None)) }
 {
     let searched = search(alloc, heard, name, &wanted.interface)?;
     match searched {
         Searched::Closed(_entries) => {
-            Ok(Outcome::Said(closed_import(alloc, heard, name, wanted)?))
+            Ok(Searched::Closed(closed_import(alloc, heard, name, wanted)?))
         }
-        Searched::LacksRoot => Ok(Outcome::LacksRoot),
-        Searched::Lacks(lack) => Ok(Outcome::Lacks(lack)),
+        Searched::LacksRoot => Ok(Searched::LacksRoot),
+        Searched::Lacks(lacks) => Ok(Searched::Lacks(lacks)),
     }
 }
