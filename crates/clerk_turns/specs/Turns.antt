@@ -232,36 +232,42 @@ IsVain c said c' = (said ≡ []) × (c' ≡ c)
 abbrev pub WithJob : Clerk → (number : ℕ) → (Clerk → Job → Type 0) → Type 0
 WithJob c number P = (mid : Clerk) × (job : Job) × TakesJob number c job mid × P mid job
 
+-- what a house told of a name
+abbrev pub answer_to : Lack → Told → Answered
+answer_to lack t = record { dir = lack.dir; house = lack.house; name = lack.name; told = t }
+
 -- a house told what shows of a name: the command goes on with that
-abbrev pub IsTold : Clerk → (number : ℕ) → Lack → Told → (said : List ℕ) → Clerk → Type 0
-IsTold c number lack t said c' =
-    IsVain c said c'
-    ⊎ WithJob c number (λ d job. Goes d (with_answer job (record { dir = lack.dir; house = lack.house; name = lack.name; told = t })) said c')
+abbrev pub IsTold : Clerk → (number : ℕ) → Answered → (said : List ℕ) → Clerk → Type 0
+IsTold c number a said c' =
+    IsVain c said c' ⊎ WithJob c number (λ d job. Goes d (with_answer job a) said c')
 
 -- a command waits for the others that were asked, or has all answers, and goes on
 abbrev pub Waits : Clerk → Job → (said : List ℕ) → Clerk → Type 0
 Waits c job said c' =
     Cases (waits_for job.number c.questions.items) ((said ≡ []) × IsWithJob c job c') (Settles c job said c')
 
--- a house told where the root directory is, or nothing: if masters alone are trusted all houses are
--- waited for, and else the next one is asked only if none told it
-abbrev pub RootHeard : Clerk → Job → (place : ℕ) → (said : List ℕ) → Clerk → Type 0
-RootHeard c job place said c' =
-    Cases (is_high job.command) (Waits c job said c')
-    (Cases (is_some job.latest) (Settles c job said c') (AsksAt c job (next_count place) said c'))
+-- a command goes on if a house told where the root directory is, and else the next house is asked
+abbrev pub AsksOn : Clerk → Job → (place : ℕ) → (said : List ℕ) → Clerk → Type 0
+AsksOn c job place said c' = Cases (is_some job.latest) (Settles c job said c') (AsksAt c job (next_count place) said c')
 
+-- if masters alone are trusted, all houses are waited for
+abbrev pub RootHeard : Clerk → Job → (place : ℕ) → (said : List ℕ) → Clerk → Type 0
+RootHeard c job place said c' = Cases (is_high job.command) (Waits c job said c') (AsksOn c job place said c')
+
+-- a command for which one list more of the root directory was heard, if there is one
+abbrev pub with_list : Job → Option RootList → Job
+with_list job list = record job { latest = later_list job.latest list }
+
+-- a house told where the root directory is, or nothing of that
 abbrev pub IsRootTold : Clerk → (number place : ℕ) → Option RootList → (said : List ℕ) → Clerk → Type 0
 IsRootTold c number place list said c' =
-    IsVain c said c'
-    ⊎ WithJob c number (λ d job. RootHeard d (record job { latest = later_list job.latest list }) place said c')
+    IsVain c said c' ⊎ WithJob c number (λ d job. RootHeard d (with_list job list) place said c')
 
 -- a question has its whole answer, of which this is the last line
 abbrev pub AnswersTopic : Topic → Clerk → (job : ℕ) → (last said : List ℕ) → Clerk → Type 0
-AnswersTopic (topic.Show lack hearing) c job last said c' = IsTold c job lack (told_at_end hearing last) said c'
+AnswersTopic (topic.Show lack hearing) c job last said c' =
+    IsTold c job (answer_to lack (told_at_end hearing last)) said c'
 AnswersTopic (topic.Root place) c job last said c' = IsRootTold c job place (root_said (words_of last)) said c'
-
-abbrev pub IsAnswered : Clerk → Question → (last said : List ℕ) → Clerk → Type 0
-IsAnswered c q last said c' = AnswersTopic q.topic c q.job last said c'
 
 -- what was heard of an answer with one more line
 abbrev pub topic_with : Topic → List ℕ → Topic
@@ -279,15 +285,18 @@ pub record HearsMore (c : Clerk) (q : Question) (line said : List ℕ) (c' : Cle
 abbrev pub WithQuestion : Clerk → (number : ℕ) → (Clerk → Question → Type 0) → Type 0
 WithQuestion c number P = (mid : Clerk) × (q : Question) × TakesQuestion number c q mid × P mid q
 
+-- a line of the answer to this question: the last one, or not
+abbrev pub HearsLine : Clerk → Question → (line said : List ℕ) → Clerk → Type 0
+HearsLine c q line said c' = Cases (is_last line) (AnswersTopic q.topic c q.job line said c') (HearsMore c q line said c')
+
 -- a line of the answer to a question
 abbrev pub Hears : Clerk → (number : ℕ) → (line said : List ℕ) → Clerk → Type 0
 Hears c number line said c' =
-    IsVain c said c'
-    ⊎ WithQuestion c number (λ d q. Cases (is_last line) (IsAnswered d q line said c') (HearsMore d q line said c'))
+    IsVain c said c' ⊎ WithQuestion c number (λ d q. HearsLine d q line said c')
 
 -- the house of a question is not reached: what it was asked is passed over
 abbrev pub TopicDown : Topic → Clerk → (job : ℕ) → (said : List ℕ) → Clerk → Type 0
-TopicDown (topic.Show lack hearing) c job said c' = IsTold c job lack Passed said c'
+TopicDown (topic.Show lack hearing) c job said c' = IsTold c job (answer_to lack Passed) said c'
 TopicDown (topic.Root place) c job said c' = IsRootTold c job place None said c'
 
 abbrev pub IsDown : Clerk → (number : ℕ) → (said : List ℕ) → Clerk → Type 0

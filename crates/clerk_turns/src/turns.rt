@@ -1,11 +1,11 @@
 // What a clerk makes of each line that it reads.
-ghost use Rattle.std.specs.Prelude.{◌≡◌, ℕ, List, None, IfOk, IsSome, slice_get};
+ghost use Rattle.std.specs.Prelude.{◌≡◌, ℕ, List, [], None, IfOk, IsSome, slice_get};
 ghost use Rattle.clerk_lines.specs.ClerkTexts.{show_text};
 ghost use Rattle.cell_script.specs.Words.{words_of};
 ghost use Rattle.cds_clerk.specs.Heards.{IsUnheard, heard_root};
 ghost use Rattle.clerk_turns.specs.Answers.{IsAnswer};
 ghost use Rattle.clerk_turns.specs.ClerkRows.{command_said};
-ghost use Rattle.clerk_turns.specs.Turns.{Asks, AsksAll, AsksAt, Begins, Goes, GoesRooted, Hears, HearsMore, IsAnswered, IsDown, IsFirst, IsRootTold, IsTold, IsTurn, Puts, PutsEach, Settles, TakesWord, Waits, after_answer, is_unreached, later_list, place_of, rest_root, root_in, settled};
+ghost use Rattle.clerk_turns.specs.Turns.{AnswersTopic, Asks, AsksAll, AsksAt, AsksOn, Begins, BeginsCommand, Goes, GoesRooted, Hears, HearsLine, HearsMore, IsDown, IsFirst, IsRootTold, IsTold, IsTurn, IsWithJob, Puts, PutsEach, RootHeard, Settles, TakesWord, TopicDown, Waits, after_answer, answer_to, is_unreached, later_list, place_of, rest_root, root_in, settled, with_answer, with_list};
 
 use crate::clerk::{Clerk, Job, Question, Topic, waits_for};
 use crate::command::{Command, parse_command};
@@ -107,6 +107,73 @@ fn show_line(alloc: Global, high: bool, lack: &Lack) -> Result<Vec<u8>, AllocErr
     let mut line = Vec::new(alloc);
     push_show(&mut line, high, lack.dir, &lack.name)?;
     Ok(line)
+}
+
+// Nothing is said.
+fn nothing(alloc: Global) -> Vec<u8>
+    ensures { result.items ≡ [] }
+{
+    Vec::new(alloc)
+}
+
+// A command for which one answer more was heard.
+fn with_answer(job: Job, answer: Answered) -> Result<Job, AllocError>
+    ensures { IfOk result (λ j. j ≡ with_answer job answer) }
+{
+    let Job {
+        number,
+        command,
+        heard,
+        latest,
+    } = job;
+    let Heard {
+        near,
+        root,
+        mut answers,
+    } = heard;
+    answers.push(answer)?;
+    let heard = Heard {
+        near,
+        root,
+        answers,
+    };
+    Ok(Job {
+        number,
+        command,
+        heard,
+        latest,
+    })
+}
+
+// A command for which one list more of the root directory was heard, if there is one.
+fn with_list(job: Job, list: Option<RootList>) -> Job
+    ensures { result ≡ with_list job list }
+{
+    let Job {
+        number,
+        command,
+        heard,
+        latest,
+    } = job;
+    Job {
+        number,
+        command,
+        heard,
+        latest: later_list(latest, list),
+    }
+}
+
+// What a house told of a name.
+fn answer_to(lack: Lack, told: Told) -> Answered
+    ensures { result ≡ answer_to lack told }
+{
+    let Lack { dir, house, name } = lack;
+    Answered {
+        dir,
+        house,
+        name,
+        told,
+    }
 }
 
 // Whether an answer says that no house of a directory is reached.
@@ -288,49 +355,105 @@ impl Clerk {
     }
 
     // Begins a command.
+    fn begin_command(
+        &mut self,
+        alloc: Global,
+        number: u64,
+        command: Command,
+    ) -> Result<Vec<u8>, AllocError>
+        ensures { IfOk result
+            (λ text. BeginsCommand self.old number command text.items self.new) }
+    {
+        let heard = self.first_heard(alloc, command.is_high())?;
+        self.go_on(
+            alloc,
+            Job {
+                number,
+                command,
+                heard,
+                latest: None,
+            },
+        )
+    }
+
+    // Begins what a text says, or says its fault.
     fn begin(&mut self, alloc: Global, number: u64, text: &[u8]) -> Result<Vec<u8>, AllocError>
         ensures { IfOk result (λ said. Begins self.old number
             (command_said (words_of text.now)) said.items self.new) }
     {
         match parse_command(alloc, text) {
-            Ok(command) => {
-                let heard = self.first_heard(alloc, command.is_high())?;
-                self.go_on(
-                    alloc,
-                    Job {
-                        number,
-                        command,
-                        heard,
-                        latest: None,
-                    },
-                )
-            }
+            Ok(command) => self.begin_command(alloc, number, command),
             Err(AllocOr::Fault(fault)) => say_fault(alloc, number, fault),
             Err(AllocOr::OutOfMemory) => Err(AllocError),
         }
     }
 
+    // Goes on with a command for which one answer more was heard.
+    fn go_with(&mut self, alloc: Global, job: Job, answer: Answered) -> Result<Vec<u8>, AllocError>
+        ensures { IfOk result
+            (λ text. Goes self.old (with_answer job answer) text.items self.new) }
+    {
+        let job = with_answer(job, answer)?;
+        self.go_on(alloc, job)
+    }
+
     // A house told what shows of a name, or is not reached.
-    fn told(
+    fn take_told(
         &mut self,
         alloc: Global,
         number: u64,
-        lack: Lack,
-        told: Told,
+        answer: Answered,
     ) -> Result<Vec<u8>, AllocError>
-        ensures { IfOk result (λ text. IsTold self.old number lack told text.items self.new) }
+        ensures { IfOk result (λ text. IsTold self.old number answer text.items self.new) }
     {
-        let Some(mut job) = self.take_job(number) else {
-            return Ok(Vec::new(alloc));
-        };
-        let Lack { dir, house, name } = lack;
-        job.heard.answers.push(Answered {
-            dir,
-            house,
-            name,
-            told,
-        })?;
-        self.go_on(alloc, job)
+        match self.take_job(number) {
+            Some(job) => self.go_with(alloc, job, answer),
+            None => Ok(nothing(alloc)),
+        }
+    }
+
+    // A command is under way with the others, and nothing is said.
+    fn keep(&mut self, alloc: Global, job: Job) -> Result<Vec<u8>, AllocError>
+        ensures text { IfOk result (λ text. text.items ≡ []) }
+        ensures jobs { IfOk result (λ _. IsWithJob self.old job self.new) }
+    {
+        self.jobs.push(job)?;
+        Ok(nothing(alloc))
+    }
+
+    // Goes on with a command of which all houses were asked where the root directory is, if all
+    // have answered.
+    fn wait(&mut self, alloc: Global, job: Job) -> Result<Vec<u8>, AllocError>
+        ensures { IfOk result (λ text. Waits self.old job text.items self.new) }
+    {
+        if waits_for(&self.questions, job.number) {
+            self.keep(alloc, job)
+        } else {
+            self.settle(alloc, job)
+        }
+    }
+
+    // Goes on with a command of which one house was asked where the root directory is: at the next
+    // one, if that did not tell it.
+    fn ask_on(&mut self, alloc: Global, job: Job, place: usize) -> Result<Vec<u8>, AllocError>
+        ensures { IfOk result (λ text. AsksOn self.old job place text.items self.new) }
+    {
+        if job.latest.is_some() {
+            self.settle(alloc, job)
+        } else {
+            self.ask_at(alloc, job, place.saturating_add(1))
+        }
+    }
+
+    // Goes on with a command for which a house was asked where the root directory is.
+    fn root_heard(&mut self, alloc: Global, job: Job, place: usize) -> Result<Vec<u8>, AllocError>
+        ensures { IfOk result (λ text. RootHeard self.old job place text.items self.new) }
+    {
+        if job.command.is_high() {
+            self.wait(alloc, job)
+        } else {
+            self.ask_on(alloc, job, place)
+        }
     }
 
     // A house told where the root directory is, or told nothing of that.
@@ -344,48 +467,27 @@ impl Clerk {
         ensures { IfOk result
             (λ text. IsRootTold self.old number place list text.items self.new) }
     {
-        let Some(mut job) = self.take_job(number) else {
-            return Ok(Vec::new(alloc));
-        };
-        job.latest = later_list(job.latest, list);
-        if job.command.is_high() {
-            self.wait(alloc, job)
-        } else if job.latest.is_some() {
-            self.settle(alloc, job)
-        } else {
-            self.ask_at(alloc, job, place.saturating_add(1))
+        match self.take_job(number) {
+            Some(job) => self.root_heard(alloc, with_list(job, list), place),
+            None => Ok(nothing(alloc)),
         }
-    }
-
-    // Goes on with a command of which all houses were asked where the root directory is, if all
-    // have answered.
-    fn wait(&mut self, alloc: Global, job: Job) -> Result<Vec<u8>, AllocError>
-        ensures { IfOk result (λ text. Waits self.old job text.items self.new) }
-    {
-        if waits_for(&self.questions, job.number) {
-            self.jobs.push(job)?;
-            return Ok(Vec::new(alloc));
-        }
-        self.settle(alloc, job)
     }
 
     // A question has its whole answer.
     fn answered(
         &mut self,
         alloc: Global,
-        question: Question,
+        job: u64,
+        topic: Topic,
         last: &[u8],
     ) -> Result<Vec<u8>, AllocError>
         ensures { IfOk result
-            (λ text. IsAnswered self.old question last.now text.items self.new) }
+            (λ text. AnswersTopic topic self.old job last.now text.items self.new) }
     {
-        let Question {
-            number: _,
-            job,
-            topic,
-        } = question;
         match topic {
-            Topic::Show(lack, hearing) => self.told(alloc, job, lack, hearing.told(last)),
+            Topic::Show(lack, hearing) => {
+                self.take_told(alloc, job, answer_to(lack, hearing.told(last)))
+            }
             Topic::Root(place) => {
                 let list = read_root(alloc, last)?;
                 self.root_told(alloc, job, place, list)
@@ -409,20 +511,48 @@ impl Clerk {
             Topic::Root(place) => Topic::Root(place),
         };
         self.questions.push(Question { number, job, topic })?;
-        Ok(Vec::new(alloc))
+        Ok(nothing(alloc))
+    }
+
+    // A line of the answer to this question.
+    fn hear_line(
+        &mut self,
+        alloc: Global,
+        question: Question,
+        line: &[u8],
+    ) -> Result<Vec<u8>, AllocError>
+        ensures { IfOk result
+            (λ text. HearsLine self.old question line.now text.items self.new) }
+    {
+        if is_last(line) {
+            let Question {
+                number: _,
+                job,
+                topic,
+            } = question;
+            self.answered(alloc, job, topic, line)
+        } else {
+            self.hear_more(alloc, question, line)
+        }
     }
 
     // A line of the answer to a question.
     fn hear(&mut self, alloc: Global, number: u64, line: &[u8]) -> Result<Vec<u8>, AllocError>
         ensures { IfOk result (λ text. Hears self.old number line.now text.items self.new) }
     {
-        let Some(question) = self.take_question(number) else {
-            return Ok(Vec::new(alloc));
-        };
-        if is_last(line) {
-            self.answered(alloc, question, line)
-        } else {
-            self.hear_more(alloc, question, line)
+        match self.take_question(number) {
+            Some(question) => self.hear_line(alloc, question, line),
+            None => Ok(nothing(alloc)),
+        }
+    }
+
+    // The house is not reached that was asked this.
+    fn topic_down(&mut self, alloc: Global, job: u64, topic: Topic) -> Result<Vec<u8>, AllocError>
+        ensures { IfOk result (λ text. TopicDown topic self.old job text.items self.new) }
+    {
+        match topic {
+            Topic::Show(lack, _) => self.take_told(alloc, job, answer_to(lack, Told::Passed)),
+            Topic::Root(place) => self.root_told(alloc, job, place, None),
         }
     }
 
@@ -430,17 +560,16 @@ impl Clerk {
     fn down(&mut self, alloc: Global, number: u64) -> Result<Vec<u8>, AllocError>
         ensures { IfOk result (λ text. IsDown self.old number text.items self.new) }
     {
-        let Some(question) = self.take_question(number) else {
-            return Ok(Vec::new(alloc));
-        };
-        let Question {
-            number: _,
-            job,
-            topic,
-        } = question;
-        match topic {
-            Topic::Show(lack, _) => self.told(alloc, job, lack, Told::Passed),
-            Topic::Root(place) => self.root_told(alloc, job, place, None),
+        match self.take_question(number) {
+            Some(question) => {
+                let Question {
+                    number: _,
+                    job,
+                    topic,
+                } = question;
+                self.topic_down(alloc, job, topic)
+            }
+            None => Ok(nothing(alloc)),
         }
     }
 
@@ -451,7 +580,7 @@ impl Clerk {
     {
         match read_clerk_line(line) {
             Some(ClerkLine { word, number, text }) => self.take(alloc, word, number, text),
-            None => Ok(Vec::new(alloc)),
+            None => Ok(nothing(alloc)),
         }
     }
 
@@ -463,7 +592,8 @@ impl Clerk {
         number: u64,
         text: &[u8],
     ) -> Result<Vec<u8>, AllocError>
-        ensures { IfOk result (λ said. TakesWord word self.old number text.now said.items self.new) }
+        ensures { IfOk result
+            (λ said. TakesWord word self.old number text.now said.items self.new) }
     {
         match word {
             ClerkWord::Do => self.begin(alloc, number, text),
