@@ -13,6 +13,7 @@ use Rattle.tower_codec.specs.declared.rpc.Protseq.TheVariants.{Tcp, Udp}
 use Rattle.tower_codec.specs.declared.binding.StringBinding.{StringBinding}
 use Rattle.cell_script.specs.declared.fault.ParseFault.TheVariants.{BadWord}
 use Rattle.script_answers.specs.declared.answer.Answer.TheVariants as answer
+use Rattle.record_fields.specs.declared.fault.Rule.TheVariants.{BadTag}
 use Rattle.script_answers.specs.declared.answer.ScriptRefusal.TheVariants as why
 use Rattle.script_answers.specs.Texts.{answer_line, answer_lines, line_text, lines_text, parse_fault_text, dump_line, entry_line, attr_line, value_line}
 use Rattle.script_answers.specs.Texts.{lines_of_each, value_lines}
@@ -79,7 +80,7 @@ no_bindings_found : answer_lines (answer.Bindings []) ≡ codes "end 0" ∷ []
 unfolding digits
 no_bindings_found = refl
 
-no_message : answer_line (answer.Refused (why.BadTag 2)) ≡ codes "refused BadTag 2"
+no_message : answer_line (answer.Refused (why.Octets (record { rule = BadTag; place = 2 }))) ≡ codes "refused BadTag 2"
 unfolding digits
 no_message = refl
 

@@ -79,13 +79,13 @@ given_word w some is = record { some = some; marks = AllPass-from_list_all is_ma
 
 -- ---- names and values
 
+attr_mark : (b : ℕ) → IsTrue (is_attr_octet b) → is_mark b ≡ true
+attr_mark b e = and_from (nat_lt 32 b) (nat_lt b 127) (grind (arith, nat_tests, e)) (grind (arith, nat_tests, e))
+
 pub attr_word : (w : List ℕ) → attr_fault w ≡ None → IsWord w
 attr_word w none =
     let name : IsAttrName w = (attr_name_laws w).0 none in
-    record { some = name.filled; marks = All-weaker (λ b. IsTrue (is_attr_octet b)) (λ b. is_mark b ≡ true) shown w name.each }
-  where
-    shown : (b : ℕ) → IsTrue (is_attr_octet b) → is_mark b ≡ true
-    shown b e = and_from (nat_lt 32 b) (nat_lt b 127) (grind (arith, e)) (grind (arith, e))
+    record { some = name.filled; marks = All-weaker (λ b. IsTrue (is_attr_octet b)) (λ b. is_mark b ≡ true) attr_mark w name.each }
 
 simple_marks : (c : List ℕ) → IsSimpleName c → AreMarks c
 simple_marks c name = All-weaker (λ b. IsTrue (is_name_octet b)) (λ b. is_mark b ≡ true) (λ b e. grind (arith, e)) c name.each
