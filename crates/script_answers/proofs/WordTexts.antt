@@ -1,10 +1,10 @@
 -- Words that are written, and the words of lines that are made of them.
-use Rattle.std.proofs.Common.{◌≡◌, ℕ, ◌*◌, ◌<◌, ◌^◌, Bool, true, false, List, [], ◌∷◌, ◌++◌, length, map, refl, sym, ap, subst, ◌∙◌, arith, append-nil}
-use Rattle.std.specs.Prelude.{None, codes, decimal, filter, not, nat_lt, ◌==◌, ◌&&◌, IsTrue}
+use Rattle.std.proofs.Common.{◌≡◌, ℕ, ◌*◌, ◌<◌, ◌≤◌, ◌^◌, Bool, true, false, List, [], ◌∷◌, ◌++◌, length, map, refl, sym, ap, subst, ◌∙◌, arith, append-nil}
+use Rattle.std.specs.Prelude.{None, codes, decimal, filter, not, nat_le, nat_lt, ◌==◌, ◌&&◌, ◌||◌, IsTrue}
 use Rattle.std.specs.Char.{is_ascii_digit}
 use Rattle.std.specs.List.{All, AllByRecursion, AllPass, flat_map, list_all, slice_split}
 use Rattle.std.specs.Str.{all_ascii_digits}
-use Rattle.std.proofs.lemmas.Bool.{and_from, and_parts}
+use Rattle.std.proofs.lemmas.Bool.{and_parts}
 use Rattle.std.proofs.lemmas.Bool.Decides.{nat_tests}
 use Rattle.std.proofs.lemmas.Fmt.{decimal_nonempty, digits_decimal}
 use Rattle.std.proofs.lemmas.List.Concat.{flat_map-cons}
@@ -27,6 +27,12 @@ is_mark b = nat_lt 32 b && nat_lt b 127
 
 abbrev pub AreMarks : List ℕ → Type 0
 AreMarks = AllPass is_mark
+
+mark_between : (b : ℕ) → 33 ≤ b → b ≤ 126 → is_mark b ≡ true
+mark_between b above below =
+    let low : nat_lt 32 b ≡ true = grind (arith, nat_tests) in
+    let high : nat_lt b 127 ≡ true = grind (arith, nat_tests) in
+    rw (low, high) refl
 
 -- a word has some of them, and no other octet
 pub record IsWord (w : List ℕ) : Type 0 where
@@ -79,13 +85,29 @@ given_word w some is = record { some = some; marks = AllPass-from_list_all is_ma
 
 -- ---- names and values
 
+attr_mark : (b : ℕ) → IsTrue (is_attr_octet b) → is_mark b ≡ true
+attr_mark b e =
+    by_range (nat_le 65 b && nat_le b 90) (nat_le 97 b && nat_le b 122) (nat_le 48 b && nat_le b 57) (b == 95) refl refl refl refl e
+  where
+    shown : (low high : ℕ) → 33 ≤ low → high ≤ 126 → (nat_le low b && nat_le b high) ≡ true → is_mark b ≡ true
+    shown low high above below within =
+        let parts = and_parts (nat_le low b) (nat_le b high) within in
+        let first : low ≤ b = grind (arith, nat_tests, parts.0) in
+        let last : b ≤ high = grind (arith, nat_tests, parts.1) in
+        mark_between b (omega (arith, first, above)) (omega (arith, last, below))
+
+    by_range : (p q r s : Bool) → (nat_le 65 b && nat_le b 90) ≡ p → (nat_le 97 b && nat_le b 122) ≡ q → (nat_le 48 b && nat_le b 57) ≡ r → (b == 95) ≡ s
+        → IsTrue (p || q || r || s) → is_mark b ≡ true
+    by_range true q r s is _ _ _ e = shown 65 90 (omega arith) (omega arith) is
+    by_range false true r s _ is _ _ e = shown 97 122 (omega arith) (omega arith) is
+    by_range false false true s _ _ is _ e = shown 48 57 (omega arith) (omega arith) is
+    by_range false false false true _ _ _ is e = let same : b ≡ 95 = grind (arith, nat_tests, is) in mark_between b (omega (arith, same)) (omega (arith, same))
+    by_range false false false false _ _ _ _ e = absurd e
+
 pub attr_word : (w : List ℕ) → attr_fault w ≡ None → IsWord w
 attr_word w none =
     let name : IsAttrName w = (attr_name_laws w).0 none in
-    record { some = name.filled; marks = All-weaker (λ b. IsTrue (is_attr_octet b)) (λ b. is_mark b ≡ true) shown w name.each }
-  where
-    shown : (b : ℕ) → IsTrue (is_attr_octet b) → is_mark b ≡ true
-    shown b e = and_from (nat_lt 32 b) (nat_lt b 127) (grind (arith, e)) (grind (arith, e))
+    record { some = name.filled; marks = All-weaker (λ b. IsTrue (is_attr_octet b)) (λ b. is_mark b ≡ true) attr_mark w name.each }
 
 simple_marks : (c : List ℕ) → IsSimpleName c → AreMarks c
 simple_marks c name = All-weaker (λ b. IsTrue (is_name_octet b)) (λ b. is_mark b ≡ true) (λ b e. grind (arith, e)) c name.each
