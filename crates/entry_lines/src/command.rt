@@ -66,6 +66,7 @@ fn command_in(alloc: Global, line: &[u8]) -> Result<Option<Command>, AllocError>
 }
 
 // A command that lines can say, with its line; none, if it is too long for one.
+#[tactic(auto, using(crate::proofs::UnsaidLines::says_it, crate::proofs::UnsaidLines::long_unsaid))]
 fn with_line(alloc: Global, command: Command) -> Result<Option<Said>, AllocError>
     requires { CanBeSaid command }
     ensures says { IfOk result (λ o. IfSome o (λ s. SaysCommand s.line.items s.command)) }
@@ -80,6 +81,7 @@ fn with_line(alloc: Global, command: Command) -> Result<Option<Said>, AllocError
 }
 
 /// `house H NODE`; none, if that is no line which makes this house.
+#[tactic(auto, using(crate::proofs::UnsaidLines::no_making))]
 pub fn making(alloc: Global, house: HouseNo, node: Node) -> Result<Option<Said>, AllocError>
     ensures says { IfOk result (λ o. IfSome o (λ s. SaysCommand s.line.items s.command)) }
     ensures is { IfOk result (λ o. IfSome o (λ s. s.command ≡ command.House house node)) }
@@ -94,6 +96,7 @@ pub fn making(alloc: Global, house: HouseNo, node: Node) -> Result<Option<Said>,
 }
 
 /// `clock H TIME`; none, if that is no line which sets this clock.
+#[tactic(auto, using(crate::proofs::UnsaidLines::no_setting))]
 pub fn setting(alloc: Global, house: HouseNo, time: u64) -> Result<Option<Said>, AllocError>
     ensures says { IfOk result (λ o. IfSome o (λ s. SaysCommand s.line.items s.command)) }
     ensures is { IfOk result (λ o. IfSome o (λ s. s.command ≡ command.Clock house time)) }
@@ -107,6 +110,7 @@ pub fn setting(alloc: Global, house: HouseNo, time: u64) -> Result<Option<Said>,
 }
 
 /// `crash H`; none, if that is no line of this crash.
+#[tactic(auto, using(crate::proofs::UnsaidLines::no_crash))]
 pub fn crash(alloc: Global, house: HouseNo) -> Result<Option<Said>, AllocError>
     ensures says { IfOk result (λ o. IfSome o (λ s. SaysCommand s.line.items s.command)) }
     ensures is { IfOk result (λ o. IfSome o (λ s. s.command ≡ command.Crash house)) }
@@ -120,6 +124,7 @@ pub fn crash(alloc: Global, house: HouseNo) -> Result<Option<Said>, AllocError>
 }
 
 /// `start H`; none, if that is no line of this start.
+#[tactic(auto, using(crate::proofs::UnsaidLines::no_start))]
 pub fn start(alloc: Global, house: HouseNo) -> Result<Option<Said>, AllocError>
     ensures says { IfOk result (λ o. IfSome o (λ s. SaysCommand s.line.items s.command)) }
     ensures is { IfOk result (λ o. IfSome o (λ s. s.command ≡ command.Start house)) }
