@@ -45,8 +45,7 @@ pub fn decode_image(alloc: Global, octets: &[u8]) -> Result<(Image, usize), Allo
     decode_image_in(alloc, octets, FORMAT, FORMAT)
 }
 
-/// The image of format 1 at the front of the octets, which has no counts of what its replicas hold,
-/// and how many octets it has. Else the first fault.
+/// The same of an image of format 1, which has no counts of what its replicas hold.
 #[tactic(auto, unfolding(crate::specs::Images::image_1))]
 pub fn decode_image_1(alloc: Global, octets: &[u8]) -> Result<(Image, usize), AllocOr<RecordFault>>
     ensures decodes { Decodes image_1 octets.now result }

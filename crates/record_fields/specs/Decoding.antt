@@ -52,8 +52,8 @@ pub record Decodes {A : Type 0} (l : Layout A) (octets : List ℕ) (result : Res
   pub fault : IfFault (IsFault l octets) result
   pub each_fault : (fault : RecordFault) → IsFault l octets fault → Answers result (Err fault)
 
--- what octets decode to, as a function: what reading by the layout gives, with the number of its
--- octets, or the fault by its place
+-- the same as a function: what reading by the layout gives, with the number of its octets, or the
+-- fault by its place
 abbrev pub decode_by : {A : Type 0} → Layout A → List ℕ → Result (A × ℕ) RecordFault
 decode_by l octets = result_map_both (λ r. (r.0, length octets - length r.1)) (fault_of (length octets)) (read l octets)
 
