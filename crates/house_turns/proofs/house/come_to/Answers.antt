@@ -18,5 +18,5 @@ returns-in-Skulk c = rw c.in-Skulk.is c.skulk.ensures
 pub returns-in-Epoch : goal.returns-in-Epoch
 returns-in-Epoch c = rw c.in-Epoch.is (c.epoch.ensures c.args.clock)
 
-pub returns : goal.returns
-returns c = rw c.in-Take.is (rw c.list-in-Take.ensures at c.take.ensures c.args.clock)
+pub returns-in-Take : goal.returns-in-Take
+returns-in-Take c = rw c.in-Take.is (rw c.list-in-Take.ensures at c.take.ensures c.args.clock)
