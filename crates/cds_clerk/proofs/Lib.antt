@@ -1,6 +1,3 @@
 pub mod HeardLaws
-mod ClosedLaws
 mod SearchLaws
 pub mod LinkLaws
-mod PlanLaws
-mod InquiryLaws

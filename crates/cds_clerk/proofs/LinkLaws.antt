@@ -1,6 +1,7 @@
 -- Entries that were shown are seen as their houses said.
 use Rattle.std.proofs.Common.{◌≡◌, ℕ, Bool, true, List, [], ◌∷◌, refl, sym, ap, subst, ◌∙◌}
-use Rattle.std.specs.Prelude.{Option, Some, None, unwrap_or}
+use Rattle.std.specs.Prelude.{Option, Some, None, unwrap_or, Result, Ok, Err, IfOk}
+use Rattle.std.specs.declared.alloc.AllocError.{AllocError}
 use Rattle.std.specs.Option.{option_map, option_map_or}
 use Rattle.cell_names.specs.ChildPointers.{Pointer}
 use Rattle.directory.specs.declared.entry.Kind.{Kind}
@@ -10,7 +11,8 @@ use Rattle.resolver.specs.declared.walk.End.TheVariants as ends
 use Rattle.resolver.specs.Readers.{Reader, Sight, Unreachable}
 use Rattle.resolver.specs.SeenEnds.{IsSeen, IsSeenEnd, entry_seen}
 use Rattle.resolver.specs.Walks.{Ends, found_of}
-use Rattle.resolver.specs.WalkEnds.{walk_end}
+use Rattle.resolver.specs.WalkEnds.{end_of, walk_end}
+use Rattle.resolver.specs.WalkEndProofs.{one_end, some_end}
 use Rattle.script_answers.specs.declared.answer.Answer.{Answer}
 use Rattle.clerk_lines.specs.declared.hearing.Told.{Told}
 use Rattle.clerk_lines.specs.declared.hearing.Told.TheVariants as told
@@ -23,7 +25,6 @@ use Rattle.cds_clerk.specs.Agreements.{Agrees}
 use Rattle.cds_clerk.specs.Heards.{heard_sight, lead_sight, near_of, seen_among, seen_by, seen_first, told_of}
 use Rattle.cds_clerk.specs.Links.{IsLed, IsTargetOf, IsTargetRead, lead_read, target_seen}
 use Rattle.cds_clerk.specs.Readings.{IfFound, IsShown, least_reader}
-use Rattle.cds_clerk.proofs.HeardLaws.{end_is}
 
 -- an entry that is seen was shown by that house, and is seen as it leads
 record Led (answers : List Answered) (dir : ℕ) (name : List ℕ) (x : ℕ) (o : Option Sight) : Type 0 where
@@ -122,7 +123,19 @@ target_is h f e a led is said r agrees =
       is = said ∙ ap (λ (x : ShownEntry). lead_read x.lead) same ∙ lead_seen f.house.0 led.entry.lead ∙ sym (ap target_seen sees);
     }
 
+-- likewise, if there is memory for it
+pub targets_are : (h : Heard) (f : Found) (e : ShownEntry) (x : Result Answer AllocError) → IsLed h f
+    → told_of h.answers f.dir.0 f.house.0 f.name ≡ Some (told.Shows e) → IfOk x (λ a. a ≡ lead_read e.lead)
+    → IfOk x (λ a. (r : Reader) → Agrees r h → IsTargetOf r f a)
+targets_are h f e (Ok a) led is said = target_is h f e a led is said
+targets_are h f e (Err why) led is said = tt
+
+-- an end to which a walk comes is its end
+link_end : (r : Reader) (last : Bool) (name : List (List ℕ)) (e : End) → Ends r last name e → end_of r last name ≡ e
+unfolding end_of
+link_end r last name e there = one_end (some_end r last name).1 there
+
 -- the answer where a link leads, by the end of the walk
 pub link_so : (r : Reader) (last : Bool) (name : List (List ℕ)) (e : End) (a : Answer) → Ends r last name e → IsTargetRead r (found_of e) a
     → IsTargetRead r (walk_end r last name) a
-link_so r last name e a there is = subst (λ (x : End). IsTargetRead r (found_of x) a) (sym (end_is r last name e there)) is
+link_so r last name e a there is = subst (λ (x : End). IsTargetRead r (found_of x) a) (sym (link_end r last name e there)) is

@@ -4,5 +4,3 @@ pub mod Readings
 pub mod HeardProofs
 pub mod Searches
 pub mod Links
-pub mod Plans
-pub mod Inquirings

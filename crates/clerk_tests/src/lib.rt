@@ -6,5 +6,3 @@
 mod lines;
 #[cfg(test)]
 mod reads;
-#[cfg(test)]
-mod searches;

@@ -1,3 +1,0 @@
-pub mod ProgramWords
-pub mod ClerkRuns
-pub mod LineTurns
