@@ -19,7 +19,7 @@ use Rattle.cds_clerk.specs.Readings.{IsShown, least_reader}
 abbrev pub object_in : End → Option Found
 object_in e = result_ok (object_walked (found_of e))
 
--- by what was heard the walk of a name comes to an end, and if that is an object, it is one of these
+-- by what was heard the walk of a name comes to an end; if that is an object, it is one of these
 pub record IsSettled (h : Heard) (entries : List Found) (name : List (List ℕ)) : Type 0 where
   pub end : End
   pub walked : (r : Reader) → Agrees r h → Ends r true name end

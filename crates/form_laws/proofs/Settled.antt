@@ -16,14 +16,14 @@ use Rattle.script_replay.proofs.Completions.{complete_only, question_none}
 use Rattle.script_replay.proofs.HeadlineLaws.{commands-append}
 use Rattle.form_laws.specs.Settled.{Settles}
 
--- the same of lists of commands: those of the lines before, with this one, and of all lines
+-- such a command among commands: those before it, with it, and all of them
 abbrev SettlesIn : (c : Command) (t : Stamp) (early one all : List Command) → Type 0
 SettlesIn c t early one all =
     (h d : ℕ) × (r : Replica) × (place_of (replay early) c ≡ Some (h, d)) × IsHeld (replay one) h d r
     × ((x : ℕ) (q : Replica) → IsHeld (replay all) x d q → r.epoch ≤ q.epoch
       → Agrees d t (accepted_updates one) (accepted_updates all) r.history x q)
 
--- a command, whose line stands among these: by the convergence of their commands
+-- a line among these: by the convergence of their commands
 settles_by : (early late : List Numbered) (n : ℕ) (l : ScriptLine) → Settles early (record { number = n; says = l }) late
 settles_by early late n (line.Question q) t ns is = absurd (question_none (cell_after_script early) q t ns is)
 settles_by early late n (line.Cell c) t ns is =
