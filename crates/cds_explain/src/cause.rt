@@ -1,6 +1,6 @@
 // Why an entry is not explained, in words.
 ghost use Rattle.std.specs.Prelude.{◌≡◌, ◌++◌, List, ℕ, OnOk, map};
-ghost use Rattle.cds_explain.specs.ReasonLines.{entry_said, reason_line, shown};
+ghost use Rattle.cds_explain.specs.ReasonLines.{entry_said, reason_line, visible};
 
 use cds_stamps::{DirId, EpochNo, HouseNo};
 use script_answers::push_number;
@@ -45,8 +45,8 @@ pub struct Reason {
 const MOST_SHOWN: usize = 200;
 
 // An octet, or a `?` where it is not printable.
-fn shown(octet: u8) -> u8
-    ensures { result ≡ shown octet }
+fn visible(octet: u8) -> u8
+    ensures { result ≡ visible octet }
 {
     if (0x20..=0x7E).contains(&octet) {
         octet
@@ -57,10 +57,10 @@ fn shown(octet: u8) -> u8
 
 // Adds octets as they are shown.
 fn push_shown(text: &mut Vec<u8>, octets: &[u8]) -> Result<(), AllocError>
-    ensures { OnOk result (text.new.items ≡ text.old.items ++ map shown octets.now) }
+    ensures { OnOk result (text.new.items ≡ text.old.items ++ map visible octets.now) }
 {
     for octet in octets {
-        text.push(shown(*octet))?;
+        text.push(visible(*octet))?;
     }
     Ok(())
 }

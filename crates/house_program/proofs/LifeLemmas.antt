@@ -199,7 +199,7 @@ unspoken g only before bodies said house segment lines run k at wrote = record {
     not_due (inl is) = absurd (cc (is))
     not_due (inr is) = absurd (cc (is))
 
--- the same octets are said
+-- octets are said alike
 pub said_as : {D : Type 0} (g : Ghosts D) (before : List ℕ) (bodies : List (List ℕ)) (said other : List ℕ) (house house' : House)
     (segment segment' : Segment D) (lines lines' : Lines) (run : Run) (ending : Ending) → said ≡ other
     → Spoken g (first_records before bodies) said (course (moment house segment lines) (moment house' segment' lines') run) ending

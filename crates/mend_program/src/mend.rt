@@ -116,7 +116,7 @@ pub fn run<S: Source, K: Sink>(
     }
 }
 
-// The same of this directory, without the houses that the words name.
+// The commands that mend this directory, without the houses that the words name.
 fn mend_by_words<S: Source, K: Sink>(
     alloc: Global,
     words: &[String],
