@@ -75,6 +75,7 @@ module _ (h : Heard) (wanted : Interface) where
         λ n c. subst (λ (ns : Names). Contains ns n) (sym names_are) (Contains-append_right names (names_of (least_reader h) wanted f) n
             (subst (λ (x : Found). Contains (names_of (least_reader h) wanted x) n) same c)),
       )
+
       by_cases : (e : Found) → Contains entries e ⊎ Contains (f ∷ []) e → IsKnown h wanted entries names' e
       by_cases e (inl c) = inl c
       by_cases e (inr c) = new_one e (only_of f e c)
@@ -112,6 +113,7 @@ module _ (h : Heard) (wanted : Interface) where
         shown_by : (e : Found) → IsKnown h wanted entries names' e → IsShown h e
         shown_by e (inl c) = search.shown e c
         shown_by e (inr new) = new.0
+
         on_by : (e : Found) (n : List (List ℕ)) → Contains (names_of (least_reader h) wanted e) n → IsKnown h wanted entries names' e → IsFollowed h entries' names' n
         on_by e n more (inl c) = followed n (search.goes_on e n c more)
         on_by e n more (inr new) = inl (new.1 n more)

@@ -74,8 +74,8 @@ done_completes g h false c (Some image) t ns is = absurd (cc (is))
 -- why a stop is refused completes nothing
 refused_otherwise : (made lacks only : Bool) (t : Stamp) (ns : List ℕ)
     → (if not made then Some (answer.Plain (plain.Refused why.NoHouse))
-      else (if lacks then Some (answer.Plain (plain.Refused why.NoMessage)) else (if only then None else Some answer.NotActing)))
-      ≡ Some (answer.Plain (plain.Complete t ns))
+    else (if lacks then Some (answer.Plain (plain.Refused why.NoMessage)) else (if only then None else Some answer.NotActing)))
+    ≡ Some (answer.Plain (plain.Complete t ns))
     → ⊥
 refused_otherwise false lacks only t ns is = cc (is)
 refused_otherwise true true only t ns is = cc (is)

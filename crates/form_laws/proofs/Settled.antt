@@ -21,7 +21,7 @@ abbrev SettlesIn : (c : Command) (t : Stamp) (early one all : List Command) → 
 SettlesIn c t early one all =
     (h d : ℕ) × (r : Replica) × (place_of (replay early) c ≡ Some (h, d)) × IsHeld (replay one) h d r
     × ((x : ℕ) (q : Replica) → IsHeld (replay all) x d q → r.epoch ≤ q.epoch
-      → Agrees d t (accepted_updates one) (accepted_updates all) r.history x q)
+    → Agrees d t (accepted_updates one) (accepted_updates all) r.history x q)
 
 -- a line among these: by the convergence of their commands
 settles_by : (early late : List Numbered) (n : ℕ) (l : ScriptLine) → Settles early (record { number = n; says = l }) late

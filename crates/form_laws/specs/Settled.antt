@@ -17,5 +17,5 @@ Settles early l late =
     → (h d : ℕ) × (r : Replica) × (line_place (cell_after_script early) l.says ≡ Some (h, d))
     × IsHeld (cell_after_script (early ++ l ∷ [])) h d r
     × ((x : ℕ) (q : Replica) → IsHeld (cell_after_script (early ++ l ∷ late)) x d q → r.epoch ≤ q.epoch
-      → Agrees d t (accepted_updates (commands_of (early ++ l ∷ []))) (accepted_updates (commands_of (early ++ l ∷ late)))
-        r.history x q)
+    → Agrees d t (accepted_updates (commands_of (early ++ l ∷ []))) (accepted_updates (commands_of (early ++ l ∷ late)))
+    r.history x q)
