@@ -68,12 +68,7 @@ fn is_known(entries: &[Found], found: &Found) -> bool
 }
 
 // The values of an attribute of this name that an entry shows.
-fn shown_in(
-    alloc: Global,
-    heard: &Heard,
-    found: &Found,
-    attr: &[u8],
-) -> Result<Values, AllocError>
+fn shown_in(alloc: Global, heard: &Heard, found: &Found, attr: &[u8]) -> Result<Values, AllocError>
     requires shown { IsShown heard.now found.now }
     requires named { attr_fault attr.now ≡ None }
     ensures { IfOk result (λ vs. vs ≡ (least_reader heard.now).values found.now attr.now) }
