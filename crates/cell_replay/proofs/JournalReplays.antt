@@ -1,6 +1,6 @@
 -- What a run of the form `journal` that ends Ok wrote, and the commands of the model that its lines
 -- are.
-use Rattle.std.proofs.Common.{◌≡◌, ◌⊎◌, inl, inr, ⊥, ℕ, Bool, true, false, not, if◌then◌else◌, List, [], ◌∷◌, refl, sym, ◌∙◌}
+use Rattle.std.proofs.Common.{◌≡◌, ◌⊎◌, inl, inr, ℕ, Bool, true, false, not, if◌then◌else◌, List, [], ◌∷◌, refl, sym, ◌∙◌}
 use Rattle.std.specs.Prelude.{Option, Some, None}
 use Rattle.std.specs.Option.{option_map}
 use Rattle.cds_stamps.specs.declared.stamp.Stamp.{Stamp}
