@@ -66,8 +66,8 @@ run_over source source' sink sink' =
     record {
       left = Some source;
       left' = Some source';
-      held = Some sink.octets;
-      held' = Some sink'.octets;
+      written = Some sink.octets;
+      written' = Some sink'.octets;
       reads = 0;
       reads' = 0;
       writes = sink.faults;

@@ -29,8 +29,8 @@ call_run input rest text refused =
     record {
       left = Some input;
       left' = Some rest;
-      held = Some [];
-      held' = Some text;
+      written = Some [];
+      written' = Some text;
       reads = 0;
       reads' = 0;
       writes = 0;
