@@ -4,7 +4,8 @@ ghost use Rattle.clerk_turns.specs.Clerks.{IsJobTaken, IsQuestionTaken, TakesJob
 
 use crate::command::Command;
 use cds_clerk::{Heard, Lack};
-use cds_stamps::HouseNo;
+use cds_stamps::{DirId, HouseNo};
+use directory::Update;
 use cell_names::ChildPointer;
 use clerk_lines::{Hearing, RootList};
 use std::alloc::Global;
@@ -17,6 +18,18 @@ pub struct Job {
     pub command: Command,
     pub heard: Heard,
     pub latest: Option<RootList>,
+    pub sending: Sending,
+}
+
+/// How far the lines of a plan are: those that were done, and those that are left; how often it was
+/// worked out; and whether a line was sent of which nobody knows whether it was done.
+#[derive(Drop)]
+pub struct Sending {
+    pub done: u64,
+    pub left: Vec<Update>,
+    pub dir: DirId,
+    pub tries: u32,
+    pub doubt: bool,
 }
 
 /// What a house is asked.
@@ -27,6 +40,8 @@ pub enum Topic {
     Root(usize),
     /// What shows of a name, and what was heard of the answer.
     Show(Lack, Hearing),
+    /// The first line that is left of a plan.
+    Step(HouseNo),
 }
 
 /// A question that is under way: its number, that of its command, and what is asked.

@@ -5,6 +5,7 @@ ghost use Rattle.cell_script.specs.Words.{words_of};
 ghost use Rattle.clerk_turns.specs.ClerkRows.{command_said, said_by};
 ghost use Rattle.clerk_turns.specs.Commands.{is_high};
 
+use cds_clerk::{NamedUpdate, Plan};
 use cds_stamps::{AllocOr, AttrName};
 use cell_names::FullName;
 use cell_script::{ParseFault, Parsed, Words};
@@ -15,6 +16,8 @@ use std::alloc::Global;
 pub enum Command {
     Read(bool, FullName, AttrName),
     Readlink(bool, FullName),
+    Plan(Plan),
+    Update(FullName, NamedUpdate),
 }
 
 impl Command {
@@ -25,6 +28,7 @@ impl Command {
         match self {
             Command::Read(high, _, _) => *high,
             Command::Readlink(high, _) => *high,
+            Command::Plan(_) | Command::Update(_, _) => true,
         }
     }
 }
@@ -52,7 +56,96 @@ fn said_by(alloc: Global, word: &[u8], words: &mut Words<'_>) -> Parsed<Command>
     if word == b"readlink".as_slice() {
         return readlink(alloc, words);
     }
-    Err(AllocOr::Fault(ParseFault::UnknownCommand(1)))
+    plans(alloc, word, words)
+}
+
+// A command of the name service that changes an entry.
+fn plans(alloc: Global, word: &[u8], words: &mut Words<'_>) -> Parsed<Command> {
+    if word == b"export".as_slice() {
+        words.exactly(4)?;
+        return Ok(Command::Plan(Plan::Export(
+            words.full_name(alloc)?,
+            words.interface()?,
+            words.bindings(alloc)?,
+            words.objects(alloc)?,
+        )));
+    }
+    if word == b"unexport".as_slice() {
+        words.exactly(3)?;
+        return Ok(Command::Plan(Plan::Unexport(
+            words.full_name(alloc)?,
+            words.interface_or_none()?,
+            words.objects(alloc)?,
+        )));
+    }
+    if word == b"groupadd".as_slice() {
+        words.exactly(2)?;
+        return Ok(Command::Plan(Plan::Groupadd(words.full_name(alloc)?, words.full_name(alloc)?)));
+    }
+    if word == b"groupdel".as_slice() {
+        words.exactly(2)?;
+        return Ok(Command::Plan(Plan::Groupdel(words.full_name(alloc)?, words.full_name(alloc)?)));
+    }
+    if word == b"profadd".as_slice() {
+        words.exactly(5)?;
+        return Ok(Command::Plan(Plan::Profadd(
+            words.full_name(alloc)?,
+            words.element_interface()?,
+            words.full_name(alloc)?,
+            words.priority()?,
+            words.note(alloc)?,
+        )));
+    }
+    if word == b"profdel".as_slice() {
+        words.exactly(3)?;
+        return Ok(Command::Plan(Plan::Profdel(
+            words.full_name(alloc)?,
+            words.element_interface()?,
+            words.full_name(alloc)?,
+        )));
+    }
+    updates(alloc, word, words)
+}
+
+// An update by a full name.
+fn updates(alloc: Global, word: &[u8], words: &mut Words<'_>) -> Parsed<Command> {
+    if word == b"create".as_slice() {
+        words.exactly(1)?;
+        return Ok(Command::Update(words.full_name(alloc)?, NamedUpdate::Create));
+    }
+    if word == b"delete".as_slice() {
+        words.exactly(1)?;
+        return Ok(Command::Update(words.full_name(alloc)?, NamedUpdate::Delete));
+    }
+    if word == b"link".as_slice() {
+        words.exactly(2)?;
+        let name = words.full_name(alloc)?;
+        return Ok(Command::Update(name, NamedUpdate::Link(words.full_name(alloc)?)));
+    }
+    if word == b"clear".as_slice() {
+        words.exactly(2)?;
+        let name = words.full_name(alloc)?;
+        return Ok(Command::Update(name, NamedUpdate::Clear(words.attr_name(alloc)?)));
+    }
+    changes(alloc, word, words)
+}
+
+// A change of a value by a full name.
+fn changes(alloc: Global, word: &[u8], words: &mut Words<'_>) -> Parsed<Command> {
+    if word != b"add".as_slice() && word != b"remove".as_slice() && word != b"put".as_slice() {
+        return Err(AllocOr::Fault(ParseFault::UnknownCommand(1)));
+    }
+    words.exactly(3)?;
+    let name = words.full_name(alloc)?;
+    let attr = words.attr_name(alloc)?;
+    let value = words.value(alloc)?;
+    if word == b"add".as_slice() {
+        return Ok(Command::Update(name, NamedUpdate::Add(attr, value)));
+    }
+    if word == b"remove".as_slice() {
+        return Ok(Command::Update(name, NamedUpdate::Remove(attr, value)));
+    }
+    Ok(Command::Update(name, NamedUpdate::Put(attr, value)))
 }
 
 #[tactic(auto, unfolding(crate::specs::ClerkRows::said_by))]

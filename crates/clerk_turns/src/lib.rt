@@ -4,9 +4,10 @@
 mod clerk;
 mod command;
 mod outcomes;
+mod sending;
 mod says;
 mod turns;
 
-pub use clerk::{Clerk, Job, Question, Topic};
+pub use clerk::{Clerk, Job, Question, Sending, Topic};
 pub use command::{Command, parse_command};
-pub use outcomes::outcome;
+pub use outcomes::{Comes, outcome};

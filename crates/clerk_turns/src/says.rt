@@ -23,7 +23,7 @@ fn unnumbered(alloc: Global, text: &[u8]) -> Result<Vec<u8>, AllocError>
 }
 
 // What an answer says that has one line.
-fn single_line(alloc: Global, answer: &Answer) -> Result<Vec<u8>, AllocError>
+pub(crate) fn single_line(alloc: Global, answer: &Answer) -> Result<Vec<u8>, AllocError>
     requires { answer_lines answer.now ≡ answer_line answer.now ∷ [] }
     ensures { IfOk result (λ line. line.items ≡ answer_line answer.now) }
 {

@@ -9,9 +9,10 @@ ghost use Rattle.clerk_turns.specs.Turns.{AnswersTopic, Asks, AsksAll, AsksAt, A
 
 use crate::clerk::{Clerk, Job, Question, Topic, waits_for};
 use crate::command::{Command, parse_command};
-use crate::outcomes::outcome;
-use crate::says::{say_answer, say_fault};
-use cds_clerk::{Answered, Answers, Heard, Lack, Outcome, Root};
+use crate::outcomes::{Comes, outcome};
+use crate::sending::{no_sending, say_doubted};
+use crate::says::{say_answer, say_fault, single_line};
+use cds_clerk::{Answered, Answers, Heard, Lack, Root};
 use cds_stamps::{AllocOr, DirId, HouseNo};
 use cell_names::ChildPointer;
 use clerk_lines::{ClerkLine, ClerkWord, Hearing, RootList, Told, is_last, push_ask, push_show, read_clerk_line, read_root};
@@ -74,7 +75,7 @@ fn rest_root(alloc: Global, place: &Option<ChildPointer>) -> Result<Root, AllocE
 fn settled(job: Job) -> Job
     ensures { result ≡ settled job }
 {
-    let Job { number, command, heard, latest } = job;
+    let Job { number, command, heard, latest, sending } = job;
     let Heard { near, root: _, answers } = heard;
     Job {
         number,
@@ -85,6 +86,7 @@ fn settled(job: Job) -> Job
             answers,
         },
         latest: None,
+        sending,
     }
 }
 
@@ -108,7 +110,7 @@ fn nothing(alloc: Global) -> Vec<u8>
 fn with_answer(job: Job, answer: Answered) -> Result<Job, AllocError>
     ensures { IfOk result (λ j. j ≡ with_answer job answer) }
 {
-    let Job { number, command, heard, latest } = job;
+    let Job { number, command, heard, latest, sending } = job;
     let Heard { near, root, mut answers } = heard;
     answers.push(answer)?;
     let heard = Heard { near, root, answers };
@@ -117,6 +119,7 @@ fn with_answer(job: Job, answer: Answered) -> Result<Job, AllocError>
         command,
         heard,
         latest,
+        sending,
     })
 }
 
@@ -124,12 +127,13 @@ fn with_answer(job: Job, answer: Answered) -> Result<Job, AllocError>
 fn with_list(job: Job, list: Option<RootList>) -> Job
     ensures { result ≡ with_list job list }
 {
-    let Job { number, command, heard, latest } = job;
+    let Job { number, command, heard, latest, sending } = job;
     Job {
         number,
         command,
         heard,
         latest: later_list(latest, list),
+        sending,
     }
 }
 
@@ -164,6 +168,9 @@ impl Clerk {
         ensures { IfOk result (λ text. GoesRooted self.old job text.items self.new) }
     {
         self.forget(&answer);
+        if job.sending.doubt {
+            return say_doubted(alloc, &job, &single_line(alloc, &answer)?);
+        }
         say_answer(alloc, job.number, &answer)
     }
 
@@ -191,7 +198,7 @@ impl Clerk {
     }
 
     // Asks a house for a command, which waits.
-    fn ask(
+    pub(crate) fn ask(
         &mut self,
         alloc: Global,
         job: Job,
@@ -224,9 +231,10 @@ impl Clerk {
         ensures { IfOk result (λ text. GoesRooted self.old job text.items self.new) }
     {
         match outcome(alloc, &job.heard, &job.command)? {
-            Outcome::Said(answer) => self.end(alloc, job, answer),
-            Outcome::Lacks(lack) => self.ask_name(alloc, job, lack),
-            Outcome::LacksRoot => unreachable!(),
+            Comes::Said(answer) => self.end(alloc, job, answer),
+            Comes::Updates(updates) => self.send(alloc, job, updates),
+            Comes::Lacks(lack) => self.ask_name(alloc, job, lack),
+            Comes::LacksRoot => unreachable!(),
         }
     }
 
@@ -292,13 +300,14 @@ impl Clerk {
     }
 
     // Goes on with a command, by all that was heard for it.
-    fn go_on(&mut self, alloc: Global, job: Job) -> Result<Vec<u8>, AllocError>
+    pub(crate) fn go_on(&mut self, alloc: Global, job: Job) -> Result<Vec<u8>, AllocError>
         ensures { IfOk result (λ text. Goes self.old job text.items self.new) }
     {
         match outcome(alloc, &job.heard, &job.command)? {
-            Outcome::Said(answer) => self.end(alloc, job, answer),
-            Outcome::Lacks(lack) => self.ask_name(alloc, job, lack),
-            Outcome::LacksRoot => self.ask_root(alloc, job),
+            Comes::Said(answer) => self.end(alloc, job, answer),
+            Comes::Updates(updates) => self.send(alloc, job, updates),
+            Comes::Lacks(lack) => self.ask_name(alloc, job, lack),
+            Comes::LacksRoot => self.ask_root(alloc, job),
         }
     }
 
@@ -335,6 +344,7 @@ impl Clerk {
             command,
             heard,
             latest: None,
+            sending: no_sending(alloc),
         })
     }
 
@@ -459,6 +469,10 @@ impl Clerk {
                 let list = read_root(alloc, last)?;
                 self.root_told(alloc, job, place, list)
             }
+            Topic::Step(house) => match self.take_job(job) {
+                Some(job) => self.step_told(alloc, job, house, last),
+                None => Ok(nothing(alloc)),
+            },
         }
     }
 
@@ -476,6 +490,7 @@ impl Clerk {
         let topic = match topic {
             Topic::Show(lack, hearing) => Topic::Show(lack, hearing.hear(alloc, line)?),
             Topic::Root(place) => Topic::Root(place),
+            Topic::Step(house) => Topic::Step(house),
         };
         self.questions.push(Question { number, job, topic })?;
         Ok(nothing(alloc))
@@ -516,6 +531,10 @@ impl Clerk {
         match topic {
             Topic::Show(lack, _) => self.take_told(alloc, job, answer_to(lack, Told::Passed)),
             Topic::Root(place) => self.root_told(alloc, job, place, None),
+            Topic::Step(_) => match self.take_job(job) {
+                Some(job) => self.step_down(alloc, job),
+                None => Ok(nothing(alloc)),
+            },
         }
     }
 
