@@ -33,6 +33,7 @@ use Rattle.cds_clerk.specs.declared.walking.Walked.{Walked}
 use Rattle.cds_clerk.specs.declared.walking.Walked.TheVariants as walked
 use Rattle.cds_clerk.specs.Agreements.{Agrees, IfEnded, IfWants, IsNeeded}
 use Rattle.cds_clerk.specs.Heards.{IfLacks, IfSeen, IsAmong, heard_root, heard_sight, heard_values, lead_sight, near_of, seen_among, seen_by, seen_first, sight_after, told_of}
+use Rattle.cds_clerk.specs.HeardProofs.{IsTold, sight_told}
 use Rattle.cds_clerk.specs.Readings.{IfFound, IsShown, least_reader, values_read}
 
 -- ---- looks
@@ -133,48 +134,6 @@ least_agrees h = record {
 }
 
 -- ---- entries that were shown
-
--- an entry that is seen was shown by that house
-abbrev IsTold : List Answered → (dir : ℕ) → (name : List ℕ) → Option Sight → Type 0
-IsTold answers dir name o =
-    (x : ℕ) (k : Kind) → entry_seen (unwrap_or o Unreachable) ≡ Some (x, k) → (e : ShownEntry) × (told_of answers dir x name ≡ Some (told.Shows e))
-
-same_house : (x y : ℕ) (k l : Kind) → ◌≡◌ {A = Option (ℕ × Kind)} (Some (x, k)) (Some (y, l)) → x ≡ y
-same_house x y k l is = ap (λ (o : Option (ℕ × Kind)). option_map_or (λ q. q.0) o x) is
-
-lead_told : (answers : List Answered) (dir : ℕ) (name : List ℕ) (x : ℕ) (e : ShownEntry) (to : Lead) → told_of answers dir x name ≡ Some (told.Shows e)
-    → IsTold answers dir name (Some (lead_sight x to))
-lead_told answers dir name x e lead.Object is y k seen =
-    let same = same_house x y kind.Object k seen in (e, subst (λ (z : ℕ). told_of answers dir z name ≡ Some (told.Shows e)) same is)
-lead_told answers dir name x e (lead.Link target) is y k seen =
-    let same = same_house x y kind.Link k seen in (e, subst (λ (z : ℕ). told_of answers dir z name ≡ Some (told.Shows e)) same is)
-lead_told answers dir name x e (lead.Child p) is y k seen =
-    let same = same_house x y kind.Child k seen in (e, subst (λ (z : ℕ). told_of answers dir z name ≡ Some (told.Shows e)) same is)
-
-house_told : (answers : List Answered) (dir : ℕ) (name : List ℕ) (x : ℕ) (t : Option Told) (later : Option Sight) → told_of answers dir x name ≡ t
-    → IsTold answers dir name later → IsTold answers dir name (seen_by t x later)
-house_told answers dir name x None later is rest y k seen = absurd (cc)
-house_told answers dir name x (Some told.Passed) later is rest y k seen = rest y k seen
-house_told answers dir name x (Some told.Absent) later is rest y k seen = absurd (cc)
-house_told answers dir name x (Some (told.Shows e)) later is rest y k seen = lead_told answers dir name x e e.lead is y k seen
-
-among_told : (answers : List Answered) (dir : ℕ) (name : List ℕ) (houses : List ℕ) (later : Option Sight) → IsTold answers dir name later
-    → IsTold answers dir name (seen_among answers dir name houses later)
-unfolding seen_among
-among_told answers dir name [] later rest = rest
-among_told answers dir name (x ∷ xs) later rest =
-    house_told answers dir name x (told_of answers dir x name) (seen_among answers dir name xs later) refl (among_told answers dir name xs later rest)
-
-first_told : (answers : List Answered) (dir : ℕ) (name : List ℕ) (near : Option ℕ) (later : Option Sight) → IsTold answers dir name later
-    → IsTold answers dir name (seen_first answers dir name near later)
-first_told answers dir name None later rest = rest
-first_told answers dir name (Some x) later rest = house_told answers dir name x (told_of answers dir x name) later refl rest
-
-sight_told : (h : Heard) (at : Pointer) (name : List ℕ) → IsTold h.answers at.dir name (heard_sight h at name)
-sight_told h at name =
-    first_told h.answers at.dir name (near_of (option_map (λ x. x.0) h.near) (at.master ∷ at.others))
-    (seen_among h.answers at.dir name (at.master ∷ at.others) (Some Unreachable))
-    (among_told h.answers at.dir name (at.master ∷ at.others) (Some Unreachable) (λ x k seen. absurd (cc)))
 
 found_shown : (h : Heard) (last : Bool) (f : Found) → IsSeen (least_reader h) last f → IsShown h f
 found_shown h last f seen =

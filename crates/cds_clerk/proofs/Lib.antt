@@ -1,1 +1,2 @@
 pub mod HeardLaws
+mod SearchLaws

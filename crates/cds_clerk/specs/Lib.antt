@@ -1,3 +1,5 @@
 pub mod Heards
 pub mod Agreements
 pub mod Readings
+pub mod HeardProofs
+pub mod Searches

@@ -54,8 +54,8 @@ fn entry_of<'a>(heard: &'a Heard, found: &Found) -> &'a ShownEntry
     }
 }
 
-// The values of an attribute of an entry that a walk found.
-fn values_in(
+/// The values of an attribute of an entry that a walk found.
+pub(crate) fn values_in(
     alloc: Global,
     heard: &Heard,
     found: &Found,
