@@ -1,2 +1,4 @@
 pub mod HeardLaws
+mod ClosedLaws
 mod SearchLaws
+mod InquiryLaws

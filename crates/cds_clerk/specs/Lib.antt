@@ -3,3 +3,4 @@ pub mod Agreements
 pub mod Readings
 pub mod HeardProofs
 pub mod Searches
+pub mod Inquirings

@@ -2,11 +2,15 @@
 #![tactic(auto)]
 
 mod heard;
+mod importing;
+mod inquiring;
 mod reading;
 mod searching;
 mod walking;
 
 pub use heard::{Answered, Answers, Heard, Lack, Looked, Root};
+pub use importing::import;
+pub use inquiring::{Listing, inquire, lookup};
 pub use reading::{Outcome, read};
-pub use searching::{Searched, search};
+pub use searching::Searched;
 pub use walking::{Walked, walk};
