@@ -33,6 +33,13 @@
                              houses and lost to the others
     generate.py deep N       a path of 200 directories, and N reads at its end
     generate.py linked N     a chain of 63 links, and N reads through all of it
+    generate.py told N       a directory at 64 houses, and N updates at its master, whose messages all come through
+    generate.py last N       255 houses, of which the last has the directory alone, and N updates there
+    generate.py epochs N     a directory of 16 entries at three houses, and N epochs of it, whose Joins come through
+    generate.py chained N    a chain of 200 groups with a server each, and N imports from its beginning
+    generate.py fanned N     a group of 2,000 servers, and N imports from it
+    generate.py elements N   a profile of 2,000 elements, and N imports from it
+    generate.py listed N     the same, but N times all of its elements, for the form `inquire`
     generate.py small N      one command: what it costs to begin
     generate.py mends N      a cell of 64 houses in trouble, N lines, for the program `cdsmend`
     generate.py migrate N    the image, in format 1, of a house with N entries of four values each, for the form
@@ -428,6 +435,80 @@ def linked(count: int) -> Iterator[str]:
     yield from (f"read 1 {'high' if i % 2 else 'low'} /.:/entry-63 Attribute\n" for i in range(count))
 
 
+def told(count: int) -> Iterator[str]:
+    yield from houses(64)
+    yield "create 1 1 entry\n"
+    yield from replicate(64)
+    serial = 64
+    for i in range(count):
+        yield f"{'remove' if i & 1 else 'add'} 1 1 entry Attribute 01\n"
+        yield from delivered(range(serial, serial + 63), 1)
+        serial += 63
+
+
+def last(count: int) -> Iterator[str]:
+    yield "".join(f"house {house} {house:012x}\n" for house in range(1, 256))
+    yield "root 255\ncreate 255 1 entry\n"
+    yield from (f"{'remove' if i & 1 else 'add'} 255 1 entry Attribute 01\n" for i in range(count))
+
+
+def epochs(count: int) -> Iterator[str]:
+    yield from houses(3)
+    yield "".join(f"create 1 1 entry-{i:02}\nadd 1 1 entry-{i:02} Attribute {i:02x}\n" for i in range(16))
+    serial = 1
+    for _ in range(count):
+        yield "epoch 1 1 2 3\n"
+        yield from delivered(range(serial, serial + 2), 1)
+        serial += 2
+
+
+def server(name: str, number: int) -> str:
+    """The export of a server of one interface."""
+    return f"export /.:/{name} {interface(0)}:1.0 ncacn_ip_tcp:10.0.{number >> 8}.{number & 255}[1025] -\n"
+
+
+def imported(count: int, entry: str) -> Iterator[str]:
+    """Imports of that interface from an entry."""
+    yield from (
+        f"import 1 {'high' if i % 2 else 'low'} /.:/{entry} {interface(0)}:1.0 - ncacn_ip_tcp\n" for i in range(count)
+    )
+
+
+def chained(count: int) -> Iterator[str]:
+    yield from houses(1)
+    for i in range(200):
+        yield server(f"server-{i:03}", i)
+        yield f"groupadd /.:/group-{i:03} /.:/server-{i:03}\ngroupadd /.:/group-{i:03} /.:/group-{i + 1:03}\n"
+    yield from imported(count, "group-000")
+
+
+def fanned(count: int) -> Iterator[str]:
+    yield from houses(1)
+    for i in mixed(2_000):
+        yield server(f"server-{i:04}", i)
+        yield f"groupadd /.:/group /.:/server-{i:04}\n"
+    yield from imported(count, "group")
+
+
+def profile() -> Iterator[str]:
+    """A profile of elements for two interfaces at ten servers."""
+    yield from houses(1)
+    yield from (server(f"server-{i}", i) for i in range(10))
+    for i in mixed(2_000):
+        element = f"{interface(i % 2)}:1.{i // 20} /.:/server-{i % 10} {i % 8} note-{i:04}"
+        yield f"profadd /.:/profile {element}\n"
+
+
+def elements_imported(count: int) -> Iterator[str]:
+    yield from profile()
+    yield from imported(count, "profile")
+
+
+def elements_listed(count: int) -> Iterator[str]:
+    yield from profile()
+    yield from ("proflist 1 low /.:/profile all - all -\n" for _ in range(count))
+
+
 def small(count: int) -> Iterator[str]:
     yield "house 1 00000000000a\n"
 
@@ -573,6 +654,13 @@ KINDS: dict[str, Callable[[int], Iterable[bytes]]] = {
     "wide": lambda count: encoded(wide(count)),
     "deep": lambda count: encoded(deep(count)),
     "linked": lambda count: encoded(linked(count)),
+    "told": lambda count: encoded(told(count)),
+    "last": lambda count: encoded(last(count)),
+    "epochs": lambda count: encoded(epochs(count)),
+    "chained": lambda count: encoded(chained(count)),
+    "fanned": lambda count: encoded(fanned(count)),
+    "elements": lambda count: encoded(elements_imported(count)),
+    "listed": lambda count: encoded(elements_listed(count)),
     "small": lambda count: encoded(small(count)),
     "mends": lambda count: encoded(mends(count)),
     "migrate": migrate,

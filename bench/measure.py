@@ -62,6 +62,13 @@ SIZES = {
     "wide": 2_000,
     "deep": 2_000,
     "linked": 10_000,
+    "told": 2_000,
+    "last": 100_000,
+    "epochs": 20_000,
+    "chained": 2_000,
+    "fanned": 200,
+    "elements": 1_000,
+    "listed": 1_000,
     "small": 1,
     "mends": 1_000,
     "migrate": 115_000,
@@ -72,7 +79,7 @@ SIZES = {
 }
 FORMS = {
     **{it: [it] for it in ("check", "towers", "untowers", "migrate")},
-    **dict.fromkeys(["lookups", "inquiries"], ["inquire"]),
+    **dict.fromkeys(["lookups", "inquiries", "listed"], ["inquire"]),
     **dict.fromkeys(["cached", "crowded"], ["clerk", "1000"]),
     **dict.fromkeys(["journals", "idle", "resumed"], ["journal"]),
     **dict.fromkeys(["audits", "differing"], ["audit", "1"]),
