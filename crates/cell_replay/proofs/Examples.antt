@@ -25,7 +25,7 @@ use Rattle.cell_replay.specs.FormReadings.{spelling_rule}
 use Rattle.cell_replay.specs.declared.forms.Form.TheVariants as form
 use Rattle.cell_replay.specs.FormWords.{form_of}
 use Rattle.directory.specs.declared.entry.Kind.TheVariants.{Object}
-use Rattle.record_fields.specs.declared.fault.RecordFault.TheVariants.{Trailing}
+use Rattle.record_fields.specs.declared.fault.Rule.TheVariants.{Trailing}
 use Rattle.image_audit.specs.declared.fact.Fact.TheVariants.{Birth, Value}
 use Rattle.image_audit.specs.declared.verdict.Verdict.TheVariants.{NoReplica, Agree, Differ}
 

@@ -3,9 +3,7 @@ use Rattle.std.specs.Prelude.{ℕ, List, [], ◌∷◌, ◌++◌, codes}
 use Rattle.std.specs.Fmt.{decimal}
 use Rattle.hex.specs.Hex.{encode_lower}
 use Rattle.cds_stamps.specs.declared.stamp.Stamp.{Stamp}
-use Rattle.record_fields.specs.declared.fault.RecordFault.{RecordFault}
-use Rattle.record_fields.specs.declared.fault.RecordFault.TheVariants as fault
-use Rattle.script_answers.specs.Texts.{stamp_text, stamp_or, fault_text}
+use Rattle.script_answers.specs.Texts.{stamp_text, stamp_or, rule_name, fault_text}
 use Rattle.image_audit.specs.declared.fact.Fact.{Fact}
 use Rattle.image_audit.specs.declared.fact.Fact.TheVariants as fact
 use Rattle.image_audit.specs.declared.verdict.Verdict.{Verdict}
@@ -35,18 +33,6 @@ verdict_said dir (verdict.Differ image f) = codes "differ " ++ (decimal dir ++ (
 abbrev pub verdict_text : (dir : ℕ) → Verdict → List ℕ
 verdict_text dir v = verdict_said dir v ++ 10 ∷ []
 
--- the name of a fault of a record, and where it is
-abbrev pub fault_said : RecordFault → List ℕ × ℕ
-fault_said (fault.Short place) = (codes "Short", place)
-fault_said (fault.BadTag place) = (codes "BadTag", place)
-fault_said (fault.BadLength place) = (codes "BadLength", place)
-fault_said (fault.BadName place) = (codes "BadName", place)
-fault_said (fault.OutOfOrder place) = (codes "OutOfOrder", place)
-fault_said (fault.BadFlag place) = (codes "BadFlag", place)
-fault_said (fault.NotAbove place) = (codes "NotAbove", place)
-fault_said (fault.BadHeld place) = (codes "BadHeld", place)
-fault_said (fault.Trailing place) = (codes "Trailing", place)
-
 -- the line of the fault of one of two images
 abbrev pub pair_fault_text : PairFault → List ℕ
-pair_fault_text f = fault_text f.image (fault_said f.fault).0 (fault_said f.fault).1
+pair_fault_text f = fault_text f.image (rule_name f.fault.rule) f.fault.place

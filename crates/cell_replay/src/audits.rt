@@ -1,12 +1,11 @@
 // What is said of an audit.
 ghost use Rattle.std.specs.Prelude.{◌≡◌, ◌++◌, IfOk, OnOk};
-ghost use Rattle.cell_replay.specs.AuditTexts.{place_text, present_text, fact_text, verdict_said, verdict_text, fault_said, pair_fault_text};
+ghost use Rattle.cell_replay.specs.AuditTexts.{place_text, present_text, fact_text, verdict_said, verdict_text, pair_fault_text};
 
 use attr_sets::Value;
-use cds_records::RecordFault;
 use cds_stamps::{AttrName, SimpleName, Stamp};
 use image_audit::{Fact, PairFault, Verdict};
-use script_answers::{print_fault, push_hex, push_number, push_stamp, push_stamp_or};
+use script_answers::{print_fault, push_hex, push_number, push_stamp, push_stamp_or, rule_name};
 use std::alloc::{AllocError, Global};
 
 // The word for a value, the name of its entry and its attribute, each before a space.
@@ -88,44 +87,10 @@ pub(crate) fn print_verdict(
     Ok(text)
 }
 
-// The name of a fault.
-fn name_of(fault: RecordFault) -> &'static str
-    ensures { result.now ≡ (fault_said fault).0 }
-{
-    match fault {
-        RecordFault::Short(_) => "Short",
-        RecordFault::BadTag(_) => "BadTag",
-        RecordFault::BadLength(_) => "BadLength",
-        RecordFault::BadName(_) => "BadName",
-        RecordFault::OutOfOrder(_) => "OutOfOrder",
-        RecordFault::BadFlag(_) => "BadFlag",
-        RecordFault::NotAbove(_) => "NotAbove",
-        RecordFault::BadHeld(_) => "BadHeld",
-        RecordFault::Trailing(_) => "Trailing",
-    }
-}
-
-// Where it is.
-fn place_of(fault: RecordFault) -> usize
-    ensures { result ≡ (fault_said fault).1 }
-{
-    match fault {
-        RecordFault::Short(place)
-        | RecordFault::BadTag(place)
-        | RecordFault::BadLength(place)
-        | RecordFault::BadName(place)
-        | RecordFault::OutOfOrder(place)
-        | RecordFault::BadFlag(place)
-        | RecordFault::NotAbove(place)
-        | RecordFault::BadHeld(place)
-        | RecordFault::Trailing(place) => place,
-    }
-}
-
 /// The line of the fault of one of two images.
 pub(crate) fn print_pair_fault(alloc: Global, fault: PairFault) -> Result<Vec<u8>, AllocError>
     ensures { IfOk result (λ text. text.items ≡ pair_fault_text fault) }
 {
     let PairFault { image, fault } = fault;
-    print_fault(alloc, u32::from(image), name_of(fault), place_of(fault))
+    print_fault(alloc, u32::from(image), rule_name(fault.rule), fault.place)
 }

@@ -2,7 +2,6 @@
 // those that post octets). What no script brings about: images that are damaged, messages of
 // strangers, and epochs that are given twice.
 use cds_messages::{Body, Message};
-use cds_records::RecordFault;
 use cds_stamps::{
     AllocOr, DirId, EpochNo, HouseNo, Member, MemberKind, Members, Node, SimpleName, Stamp,
 };
@@ -269,13 +268,13 @@ fn an_image_is_whole_and_nothing_more(rt: HostRuntime) -> Result<(), Fail> {
     let mut octets = second_house(alloc)?.image(alloc)?;
     for count in 0..octets.len() {
         let fault = start_fault(alloc, &octets[..count]);
-        assert_eq!(rt; fault, Some(RecordFault::Short(count + 1)));
+        assert_eq!(rt; fault, Some(RecordFault { rule: Rule::Short, place: count + 1 }));
     }
     octets.push(0)?;
     let count = octets.len();
     assert_eq!(rt;
         start_fault(alloc, &octets),
-        Some(RecordFault::Trailing(count))
+        Some(RecordFault { rule: Rule::Trailing, place: count })
     );
     Ok(())
 }

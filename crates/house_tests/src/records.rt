@@ -2,11 +2,10 @@
 // one octet more after them, and with each of their octets damaged.
 use crate::houses::start_fault;
 use cds_messages::Image;
-use cds_records::{
-    RecordFault, decode, decode_image, encode, encode_image, migrate_image, whole_image,
-};
+use cds_records::{decode, decode_image, encode, encode_image, migrate_image, whole_image};
 use cds_stamps::AllocOr;
 use clearinghouse::Clearinghouse;
+use record_fields::{RecordFault, Rule};
 use std::alloc::Global;
 use std::test::Fail;
 
@@ -83,26 +82,26 @@ const FORMER_IMAGE: &[u8] = b"\x01\x09\x01\0\0\0\0\0\x0a\0\0\0\0\0\0\0\0\0\0\0\0
 // format 1 with a secondary member.
 #[rattlefmt::skip]
 static FAULTY_IMAGES: [(&[u8], RecordFault); 7] = [
-    (b"", RecordFault::Short(1)),
-    (b"\x03\x09", RecordFault::BadTag(1)),
+    (b"", RecordFault { rule: Rule::Short, place: 1 }),
+    (b"\x03\x09", RecordFault { rule: Rule::BadTag, place: 1 }),
     (b"\x02\x09\x01\0\0\0\0\0\x0a\0\0\0\0\0\0\0\x01\0\0\0\0\0\0\0\x01\
     \0\0\0\x01\x01\0\0\0\0\0\0\0\x01\x01\x01\0\0\0\0\0\0\0\x01\x01\0\0\0\0\0\0\0\0\x01\
     \x01e\x01\0\0\0\0\0\0\0\x01\0\0\0\0\0\x0a\0\0\0\0\0\0\0\0\0\
-    \0\0\0\0\0\0\0\0", RecordFault::BadHeld(85)),
+    \0\0\0\0\0\0\0\0", RecordFault { rule: Rule::BadHeld, place: 85 }),
     (b"\x02\x09\x01\0\0\0\0\0\x0a\0\0\0\0\0\0\0\x01\0\0\0\0\0\0\0\x01\
     \0\0\0\x01\x01\0\0\0\0\0\0\0\x01\x01\x01\0\0\0\0\0\0\0\x01\x01\0\0\0\0\0\0\0\0\x01\
     \x01e\x01\0\0\0\0\0\0\0\x01\0\0\0\0\0\x0a\0\0\0\0\0\0\0\0\0\
-    \0\0\0\0\0\0\0\x02", RecordFault::BadHeld(85)),
+    \0\0\0\0\0\0\0\x02", RecordFault { rule: Rule::BadHeld, place: 85 }),
     (b"\x02\x09\x01\0\0\0\0\0\x0a\0\0\0\0\0\0\0\x01\0\0\0\0\0\0\0\x01\
     \0\0\0\x01\x01\0\0\0\0\0\0\0\x01\x01\x01\0\0\0\0\0\0\0\x01\x01\0\0\0\0\0\0\0\0\x01\
     \x01e\x01\0\0\0\0\0\0\0\x01\0\0\0\0\0\x0a\0\0\0\0\0\0\0\0\0\
-    \0\0\0\0\0\0\0", RecordFault::Short(92)),
+    \0\0\0\0\0\0\0", RecordFault { rule: Rule::Short, place: 92 }),
     (b"\x02\x09\x01\0\0\0\0\0\x0a\0\0\0\0\0\0\0\x01\0\0\0\0\0\0\0\x01\
     \0\0\0\x01\x01\0\0\0\0\0\0\0\x01\x01\x01\0\0\0\0\0\0\0\x01\x01\0\0\0\0\0\0\0\0\x01\
     \x01e\x01\0\0\0\0\0\0\0\x01\0\0\0\0\0\x0a\0\0\0\0\0\0\0\0\0\
-    \0\0\0\0\0\0\0\x01\0", RecordFault::Trailing(93)),
+    \0\0\0\0\0\0\0\x01\0", RecordFault { rule: Rule::Trailing, place: 93 }),
     (b"\x01\x09\x01\0\0\0\0\0\x0a\0\0\0\0\0\0\0\x01\0\0\0\0\0\0\0\x01\
-    \0\0\0\x01\x01\0\0\0\0\0\0\0\x01\x02\x01\0\0\0\0\0\0\0\x01\x01\x02\0\0\0\0\0\0\0\x01\x03", RecordFault::BadFlag(59)),
+    \0\0\0\x01\x01\0\0\0\0\0\0\0\x01\x02\x01\0\0\0\0\0\0\0\x01\x01\x02\0\0\0\0\0\0\0\x01\x03", RecordFault { rule: Rule::BadFlag, place: 59 }),
 ];
 
 // What is written of the image at the front of the octets, with a copy of its directories, and how
@@ -153,7 +152,7 @@ fn damaged(alloc: Global, octets: &[u8], is_image: bool) -> Result<usize, Fail> 
     let mut faulty = 0usize;
     for at in 0..octets.len() {
         if fault_of(alloc, &octets[..at], is_image)?
-            != Some(RecordFault::Short(at.saturating_add(1)))
+            != Some(RecordFault { rule: Rule::Short, place: at.saturating_add(1) })
         {
             return Err("another fault".into());
         }

@@ -59,7 +59,7 @@ use Rattle.cell_runs.specs.LineAnswers.{refused}
 use Rattle.record_fields.proofs.OneDecoding.{answers_decoding}
 use Rattle.house_turns.specs.declared.said.Said.{Said}
 use Rattle.house_turns.specs.LineOutcomes.{ComesTo, HasNoEnd, IsMessageOf, IsOutcome, Outcome, Posts, StaysAt, TakesMessageOf, Tells}
-use Rattle.house_turns.specs.HouseAnswers.{ascend_from, early_refusal, epoch_refusal, founding_refusal, is_given, maybe_refused, octets_refusal, restored_refusal, take_refusal}
+use Rattle.house_turns.specs.HouseAnswers.{ascend_from, early_refusal, epoch_refusal, founding_refusal, is_given, maybe_refused, restored_refusal, take_refusal}
 use Rattle.house_turns.specs.LineSteps.{CarriesAt, first_members, listed_houses, step_at}
 use Rattle.own_stamps.specs.OwnStamps.{later_own}
 use Rattle.house_turns.specs.PrivateTurns.{ArePostsOf, Comes, ComesUnless, Does, MakesChild, Says, TakesMessage, TakesUnless, epoch_of, posts_of_letters, taken_line, taken_outcome}
@@ -159,13 +159,13 @@ module _ (x k : ℕ) (list : EpochList) where
 
   -- the epoch is not later
   pub epoch_low : (o : Option DirState) (e : EpochNo) → epoch_of o ≡ Some e → is_given x k list ≡ true → k ≤ e.0
-      → epoch_refusal x k list o ≡ Some (why.NotAbove e.0)
+      → epoch_refusal x k list o ≡ Some (why.NotAbove e)
   epoch_low None e is good low = absurd (cc)
   epoch_low (Some (state.Gone f)) e is good low = absurd (cc)
   epoch_low (Some (state.Held h)) e is good low =
       let own : h.epoch ≡ e = cc in
       let test : nat_le k h.epoch.0 ≡ true = subst (λ (e : EpochNo). nat_le k e.0 ≡ true) (sym own) (grind (arith, nat_tests, low)) in
-      rw (good, test) (ap (λ (e : EpochNo). Some (why.NotAbove e.0)) own)
+      rw (good, test) (ap (λ (e : EpochNo). Some (why.NotAbove e)) own)
 
   -- none of them
   pub epoch_fine : (o : Option DirState) (e : EpochNo) → epoch_of o ≡ Some e → is_given x k list ≡ true → e.0 < k
@@ -435,7 +435,7 @@ take_comes (Ok s) number c c' clock octets message used decodes takes = record {
 
 -- why octets are refused
 pub take_fault : (c : Clearinghouse) (octets : List ℕ) (f : RecordFault) → decode_by records.message octets ≡ Err f
-    → early_refusal c (line.Take octets) ≡ Some (refused (octets_refusal f))
+    → early_refusal c (line.Take octets) ≡ Some (refused (why.Octets f))
 take_fault c octets f is = ap (take_refusal c (length octets)) is
 
 pub take_trailing : (c : Clearinghouse) (octets : List ℕ) (message : Message) (used : ℕ) → decode_by records.message octets ≡ Ok (message, used)

@@ -10,7 +10,6 @@ use Rattle.cds_stamps.specs.declared.stamp.Stamp.{Stamp}
 use Rattle.directory.specs.Shown.{Shown, shown_in}
 use Rattle.record_fields.specs.Decoding.{decode_by}
 use Rattle.record_fields.specs.declared.fault.RecordFault.{RecordFault}
-use Rattle.record_fields.specs.declared.fault.RecordFault.TheVariants as fault
 use Rattle.cds_records.specs.RecordOctets.{image_octets}
 use Rattle.cds_records.specs.Records as records
 use Rattle.cds_messages.specs.declared.message.Message.{Message}
@@ -66,19 +65,7 @@ epoch_refusal x k list None = Some why.NoReplica
 epoch_refusal x k list (Some (state.Gone e)) = Some why.NoReplica
 epoch_refusal x k list (Some (state.Held h)) =
     if not (is_given x k list) then Some why.BadMembers
-    else (if nat_le k h.epoch.0 then Some (why.NotAbove h.epoch.0) else None)
-
--- why octets are no message; the last two are faults of images
-abbrev pub octets_refusal : RecordFault → ScriptRefusal
-octets_refusal (fault.Short place) = why.Short place
-octets_refusal (fault.BadTag place) = why.BadTag place
-octets_refusal (fault.BadLength place) = why.BadLength place
-octets_refusal (fault.BadName place) = why.BadName place
-octets_refusal (fault.OutOfOrder place) = why.OutOfOrder place
-octets_refusal (fault.BadFlag place) = why.BadFlag place
-octets_refusal (fault.NotAbove place) = why.NotAbove place
-octets_refusal (fault.BadHeld place) = why.BadLength place
-octets_refusal (fault.Trailing place) = why.BadLength place
+    else (if nat_le k h.epoch.0 then Some (why.NotAbove h.epoch) else None)
 
 -- a stamp that the house forgot, as it is said; nothing, if there is none
 abbrev pub restored_refusal : Option Stamp → Option (List ℕ)
@@ -89,7 +76,7 @@ restored_refusal (Some s) = Some (codes "refused Restored " ++ stamp_text s)
 -- the message has a stamp of the house's own node that is later than its floor
 abbrev pub take_refusal : Clearinghouse → (count : ℕ) → Result (Message × ℕ) RecordFault
     → Option (List ℕ)
-take_refusal c count (Err f) = Some (refused (octets_refusal f))
+take_refusal c count (Err f) = Some (refused (why.Octets f))
 take_refusal c count (Ok r) =
     if nat_lt r.1 count then Some (codes "refused Trailing " ++ decimal (r.1 + 1))
     else restored_refusal (later_own c.node c.floor.time r.0)

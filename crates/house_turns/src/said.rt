@@ -4,10 +4,8 @@ ghost use Rattle.script_answers.specs.Texts.{answer_line, answer_lines, answer_t
 ghost use Rattle.script_answers.specs.declared.answer.ScriptRefusal.TheVariants as why;
 ghost use Rattle.cell_runs.specs.LineAnswers as lines;
 ghost use Rattle.house_turns.specs.LineOutcomes as outcomes;
-ghost use Rattle.house_turns.specs.HouseAnswers.{octets_refusal};
 ghost use Rattle.house_turns.specs.PrivateTurns.{Says, posts_in, posts_of_letters};
 
-use cds_records::RecordFault;
 use cds_stamps::EpochNo;
 use clearinghouse::Letters;
 use script_answers::{Answer, ScriptRefusal, append_answer, begin_line};
@@ -101,28 +99,4 @@ pub(crate) fn turned(alloc: Global, posts: Posts, answer: &Answer) -> Result<Sai
         (λ s. Says number s (outcomes.Posts (posts_in posts) (answer_line answer.now))) }
 {
     Ok(Said::Turned(posts, octets_of(alloc, answer)?))
-}
-
-/// That an epoch is not above the one that is held: both have 64 bits.
-pub(crate) fn not_above(held: EpochNo) -> ScriptRefusal
-    ensures { result ≡ why.NotAbove held.0 }
-{
-    ScriptRefusal::NotAbove(held.0 as usize)
-}
-
-/// Why octets are no message.
-pub(crate) fn octets_refused(fault: RecordFault) -> ScriptRefusal
-    ensures { result ≡ octets_refusal fault }
-{
-    match fault {
-        RecordFault::Short(place) => ScriptRefusal::Short(place),
-        RecordFault::BadTag(place) => ScriptRefusal::BadTag(place),
-        RecordFault::BadLength(place) => ScriptRefusal::BadLength(place),
-        RecordFault::BadName(place) => ScriptRefusal::BadName(place),
-        RecordFault::OutOfOrder(place) => ScriptRefusal::OutOfOrder(place),
-        RecordFault::BadFlag(place) => ScriptRefusal::BadFlag(place),
-        RecordFault::NotAbove(place) => ScriptRefusal::NotAbove(place),
-        RecordFault::BadHeld(place) => ScriptRefusal::BadLength(place),
-        RecordFault::Trailing(place) => ScriptRefusal::BadLength(place),
-    }
 }

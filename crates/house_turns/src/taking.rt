@@ -8,13 +8,13 @@ ghost use Rattle.house_turns.specs.HouseAnswers.{restored_refusal};
 ghost use Rattle.house_turns.specs.LineOutcomes as outcomes;
 ghost use Rattle.house_turns.specs.PrivateTurns.{Does, Says, TakesMessage, TakesUnless, posts_in, taken_outcome};
 
-use crate::said::{Posts, Said, octets_refused, refused, told, told_words, turned};
+use crate::said::{Posts, Said, refused, told, told_words, turned};
 use crate::turns::letters;
 use cds_messages::Message;
 use cds_stamps::{AllocOr, Stamp};
 use clearinghouse::{Clearinghouse, Taken, Turn};
 use own_stamps::later_own;
-use script_answers::{Answer, Serials, push_number, push_stamp};
+use script_answers::{Answer, ScriptRefusal, Serials, push_number, push_stamp};
 use std::alloc::{AllocError, Global};
 
 // Octets after a message: the place of the first of them.
@@ -54,7 +54,7 @@ pub(crate) fn take(
             }
             take_unless_restored(alloc, home, number, &message)
         }
-        Err(AllocOr::Fault(fault)) => refused(alloc, number, octets_refused(fault)),
+        Err(AllocOr::Fault(fault)) => refused(alloc, number, ScriptRefusal::Octets(fault)),
         Err(AllocOr::OutOfMemory) => Err(AllocError),
     }
 }

@@ -5,6 +5,7 @@ use Rattle.std.specs.Fmt.{digits}
 use Rattle.std.specs.FinMap.{empty}
 use Rattle.hex.specs.Hex.{encode_with}
 use Rattle.cds_stamps.specs.declared.members.MemberKind.TheVariants.{Master, ReadOnly, Secondary}
+use Rattle.record_fields.specs.declared.fault.Rule.TheVariants.{BadTag}
 use Rattle.attr_sets.specs.declared.mark.ValueMark.{ValueMark}
 use Rattle.directory.specs.declared.entry.Kind.TheVariants.{Link}
 use Rattle.uuid.specs.Parts.{zero_bytes}
@@ -79,7 +80,7 @@ no_bindings_found : answer_lines (answer.Bindings []) ≡ codes "end 0" ∷ []
 unfolding digits
 no_bindings_found = refl
 
-no_message : answer_line (answer.Refused (why.BadTag 2)) ≡ codes "refused BadTag 2"
+no_message : answer_line (answer.Refused (why.Octets (record { rule = BadTag; place = 2 }))) ≡ codes "refused BadTag 2"
 unfolding digits
 no_message = refl
 

@@ -4,6 +4,7 @@ use cds_stamps::{DirId, EpochNo, Members, Stamp};
 use cell_names::FullName;
 use cell_script::{Octets, StringBindings};
 use directory::Table;
+use record_fields::RecordFault;
 
 /// What the cell answers to a line.
 pub enum Answer {
@@ -118,15 +119,10 @@ pub enum ScriptRefusal {
     /// The member's name and the annotation are too long together.
     ElementTooLong,
     NoSuchElement,
-    /// Octets begin with no message. This refusal and the six after it have the place of the first
-    /// fault.
-    Short(usize),
-    BadTag(usize),
-    BadLength(usize),
-    BadName(usize),
-    OutOfOrder(usize),
-    BadFlag(usize),
-    NotAbove(usize),
+    /// The number of a new epoch is not above the one that the house holds.
+    NotAbove(EpochNo),
+    /// Octets begin with no message, or are no image.
+    Octets(RecordFault),
 }
 
 impl Drop for ScriptRefusal {
@@ -164,13 +160,8 @@ impl Drop for ScriptRefusal {
             ScriptRefusal::BadPriority => (),
             ScriptRefusal::ElementTooLong => (),
             ScriptRefusal::NoSuchElement => (),
-            ScriptRefusal::Short(_field_1) => (),
-            ScriptRefusal::BadTag(_field_1) => (),
-            ScriptRefusal::BadLength(_field_1) => (),
-            ScriptRefusal::BadName(_field_1) => (),
-            ScriptRefusal::OutOfOrder(_field_1) => (),
-            ScriptRefusal::BadFlag(_field_1) => (),
             ScriptRefusal::NotAbove(_field_1) => (),
+            ScriptRefusal::Octets(_field_1) => (),
         }
     }
 }

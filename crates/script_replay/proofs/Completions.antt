@@ -43,7 +43,7 @@ use Rattle.cds_messages.specs.declared.message.Message as recorded
 use Rattle.script_replay.specs.Headline.{TellsCompleted}
 use Rattle.script_replay.specs.Replies.{Said, asked_of, does, dump_told, first_target, message_told}
 use Rattle.script_replay.specs.Replies.{octets_told, question_said, refusal_behind, says}
-use Rattle.script_replay.specs.Replies.{refusal_of_octets, slot_told, target_of, target_read, trusted_reader, updates_told, values_read, wanted_by}
+use Rattle.script_replay.specs.Replies.{slot_told, target_of, target_read, trusted_reader, updates_told, values_read, wanted_by}
 
 -- ---- what questions never answer
 
@@ -86,7 +86,7 @@ octets_none (Some octets) = λ t ns is. cc (is)
 
 decoded_none : (r : Result (recorded.Message × ℕ) RecordFault) → TellsNone (message_told r)
 decoded_none (Ok m) = λ t ns is. cc (is)
-decoded_none (Err f) = refused_none (refusal_of_octets f)
+decoded_none (Err f) = refused_none (why.Octets f)
 
 asked_none : (g : Cell) (h : ℕ) (a : Answer) → TellsNone a → TellsNone (asked_of g h a)
 asked_none g h a none = either_none (has h g.made) a (answer.Refused why.NoHouse) none (refused_none why.NoHouse)

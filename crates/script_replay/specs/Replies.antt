@@ -38,7 +38,6 @@ use Rattle.ns_commands.specs.Imported.{import_answer}
 use Rattle.cds_messages.specs.declared.message.Message as recorded
 use Rattle.cds_records.specs.RecordOctets.{image_octets}
 use Rattle.record_fields.specs.declared.fault.RecordFault.{RecordFault}
-use Rattle.record_fields.specs.declared.fault.RecordFault.TheVariants as fault
 use Rattle.cds_messages.specs.Messages.{tag_of}
 use Rattle.cds_records.specs.Records.{message}
 use Rattle.record_fields.specs.Decoding.{decode_by}
@@ -65,23 +64,11 @@ abbrev pub target_read : Reader → Result Found Refusal → Answer
 target_read reader (Ok found) = target_of found.kind (reader.values found link_target)
 target_read reader (Err r) = answer.Refused (refusal_of_walk r)
 
--- why the script says that octets begin with no message; the last two are faults of images (own)
-abbrev pub refusal_of_octets : RecordFault → ScriptRefusal
-refusal_of_octets (fault.Short place) = why.Short place
-refusal_of_octets (fault.BadTag place) = why.BadTag place
-refusal_of_octets (fault.BadLength place) = why.BadLength place
-refusal_of_octets (fault.BadName place) = why.BadName place
-refusal_of_octets (fault.OutOfOrder place) = why.OutOfOrder place
-refusal_of_octets (fault.BadFlag place) = why.BadFlag place
-refusal_of_octets (fault.NotAbove place) = why.NotAbove place
-refusal_of_octets (fault.BadHeld place) = why.BadLength place
-refusal_of_octets (fault.Trailing place) = why.BadLength place
-
 -- the message that octets begin with, by its tag and the number of its octets, or the first fault
 -- (own)
 abbrev pub message_told : Result (recorded.Message × ℕ) RecordFault → Answer
 message_told (Ok r) = answer.Decoded (tag_of r.0.body) r.1
-message_told (Err f) = answer.Refused (refusal_of_octets f)
+message_told (Err f) = answer.Refused (why.Octets f)
 
 -- an answer for a question that names a house, or that there is no such house (own)
 abbrev pub asked_of : Cell → (house : ℕ) → Answer → Answer

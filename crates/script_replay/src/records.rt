@@ -8,12 +8,11 @@ ghost use Rattle.cds_cell.specs.ModelCells.{Stands};
 ghost use Rattle.record_fields.specs.Decoding.{decode_by};
 ghost use Rattle.cds_records.specs.RecordOctets.{image_octets};
 ghost use Rattle.cds_records.specs.Records.{message};
-ghost use Rattle.script_replay.specs.Replies.{asked_of, dump_told, message_told, octets_told, refusal_of_octets};
+ghost use Rattle.script_replay.specs.Replies.{asked_of, dump_told, message_told, octets_told};
 ghost use Rattle.script_replay.specs.PrivateRecords.{held_told, state_told};
 ghost use Rattle.script_answers.specs.declared.answer.Answer.TheVariants as answer;
 
 use cds_cell::{Cell, HouseState};
-use cds_records::RecordFault;
 use cds_stamps::{AllocOr, DirId, HouseNo};
 use cell_script::Octets;
 use clearinghouse::{DirState, Held};
@@ -95,23 +94,7 @@ pub(crate) fn decoded(alloc: Global, octets: &[u8]) -> Result<Answer, AllocError
 {
     match cds_records::decode(alloc, octets) {
         Ok((message, used)) => Ok(Answer::Decoded(message.body.tag(), used)),
-        Err(AllocOr::Fault(fault)) => Ok(Answer::Refused(fault_in_script(fault))),
+        Err(AllocOr::Fault(fault)) => Ok(Answer::Refused(ScriptRefusal::Octets(fault))),
         Err(AllocOr::OutOfMemory) => Err(AllocError),
-    }
-}
-
-fn fault_in_script(fault: RecordFault) -> ScriptRefusal
-    ensures { result ≡ refusal_of_octets fault }
-{
-    match fault {
-        RecordFault::Short(place) => ScriptRefusal::Short(place),
-        RecordFault::BadTag(place) => ScriptRefusal::BadTag(place),
-        RecordFault::BadLength(place) => ScriptRefusal::BadLength(place),
-        RecordFault::BadName(place) => ScriptRefusal::BadName(place),
-        RecordFault::OutOfOrder(place) => ScriptRefusal::OutOfOrder(place),
-        RecordFault::BadFlag(place) => ScriptRefusal::BadFlag(place),
-        RecordFault::NotAbove(place) => ScriptRefusal::NotAbove(place),
-        RecordFault::BadHeld(place) => ScriptRefusal::BadLength(place),
-        RecordFault::Trailing(place) => ScriptRefusal::BadLength(place),
     }
 }

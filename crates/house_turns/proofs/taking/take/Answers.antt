@@ -4,9 +4,10 @@ use Rattle.cds_stamps.specs.declared.alloc_or.AllocOr.TheVariants.{Fault}
 use Rattle.cds_records.specs.Records.{message}
 use Rattle.record_fields.specs.Decoding.{Decodes, decode_by}
 use Rattle.record_fields.proofs.OneDecoding.{answers_decoding}
+use Rattle.script_answers.specs.declared.answer.ScriptRefusal.TheVariants as why
 use Rattle.house_lines.specs.declared.line.HouseLine.TheVariants as line
 use Rattle.cell_runs.specs.LineAnswers.{refused}
-use Rattle.house_turns.specs.HouseAnswers.{octets_refusal, restored_refusal}
+use Rattle.house_turns.specs.HouseAnswers.{restored_refusal}
 use Rattle.own_stamps.specs.OwnStamps.{later_own}
 use Rattle.house_turns.proofs.Comes.{refused_early, take_fault, take_trailing, take_unless, take_whole}
 use Rattle.house_turns.proofs.taking.take.Goals as goal
@@ -16,8 +17,8 @@ returns-in-Err-Fault c clock =
     let decodes : Decodes message c.args.octets.now (Err (Fault c.in-Err-Fault.fault)) = rw c.in-Err-Fault.field-0-is at c.in-Err-Fault.ensures.decodes in
     let said : decode_by message c.args.octets.now ≡ Err c.in-Err-Fault.fault = answers_decoding message c.args.octets.now
     (Err (Fault c.in-Err-Fault.fault)) decodes in
-    refused_early c.refused.result c.args.number c.args.home.now c.args.home.now clock (line.Take c.args.octets.now) (refused (octets_refusal c.in-Err-Fault.fault))
-    (take_fault c.args.home.now c.args.octets.now c.in-Err-Fault.fault said) refl (rw c.octets_refused.ensures at c.refused.ensures)
+    refused_early c.refused.result c.args.number c.args.home.now c.args.home.now clock (line.Take c.args.octets.now) (refused (why.Octets c.in-Err-Fault.fault))
+    (take_fault c.args.home.now c.args.octets.now c.in-Err-Fault.fault said) refl c.refused.ensures
 
 pub returns-then-used-octets : goal.returns-then-used-octets
 returns-then-used-octets c clock =

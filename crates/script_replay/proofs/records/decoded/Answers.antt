@@ -1,4 +1,4 @@
-use Rattle.std.proofs.Common.{◌≡◌, ap, ℕ, Ok, Err}
+use Rattle.std.proofs.Common.{◌≡◌, ap, refl, ℕ, Ok, Err}
 use Rattle.cds_stamps.specs.declared.alloc_or.AllocOr.TheVariants.{Fault}
 use Rattle.cds_records.specs.Records.{message}
 use Rattle.record_fields.specs.Decoding.{Decodes, decode_by}
@@ -17,4 +17,4 @@ returns-in-Err-Fault c =
     let decodes : Decodes message c.args.octets.now (Err (Fault c.in-Err-Fault.fault)) = rw c.in-Err-Fault.field-0-is at c.in-Err-Fault.ensures.decodes in
     let said : decode_by message c.args.octets.now ≡ Err c.in-Err-Fault.fault = answers_decoding message c.args.octets.now
     (Err (Fault c.in-Err-Fault.fault)) decodes in
-    rw said (ap answer.Refused c.fault_in_script.ensures)
+    rw said refl
