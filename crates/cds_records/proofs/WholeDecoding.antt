@@ -7,10 +7,8 @@ use Rattle.cds_stamps.specs.declared.alloc_or.AllocOr.{AllocOr}
 use Rattle.cds_stamps.specs.declared.alloc_or.AllocOr.TheVariants.{Fault, OutOfMemory}
 use Rattle.cds_stamps.specs.Outcomes.{Answers}
 use Rattle.cds_stamps.proofs.Masks.{same_place, other_place}
-use Rattle.record_fields.specs.declared.fault.Rule.TheVariants.{Short, BadTag}
+use Rattle.record_fields.specs.declared.fault.Rule.TheVariants.{Short, BadTag, Trailing}
 use Rattle.record_fields.specs.declared.fault.RecordFault.{RecordFault}
-use Rattle.record_fields.specs.declared.fault.RecordFault.TheVariants.{Trailing}
-use Rattle.record_fields.specs.declared.fault.RecordFault.TheVariants as fault
 use Rattle.record_fields.specs.declared.fault.Broken.{Broken}
 use Rattle.record_fields.specs.LayoutReading.{read}
 use Rattle.record_fields.specs.Layouts.{Layout}
@@ -38,17 +36,17 @@ module _ {A : Type 0} (l : Layout A) (octets : List ℕ) where
 
   -- octets that follow are a fault
   pub trailing_is : (value : A) (size : ℕ) → Decodes l octets (Ok (value, size)) → size < length octets
-      → whole_of octets (decode_by l octets) ≡ Err (Trailing (size + 1))
+      → whole_of octets (decode_by l octets) ≡ Err (record { rule = Trailing; place = size + 1 })
   trailing_is value size decodes more =
       ap (whole_of octets) (answers_decoding l octets (Ok (value, size)) decodes)
-      ∙ ap (λ b. if b then Ok value else Err (Trailing (size + 1))) (other_place size (length octets) (λ e. absurd (omega arith)))
+      ∙ ap (λ b. if b then Ok value else Err (record { rule = Trailing; place = size + 1 })) (other_place size (length octets) (λ e. absurd (omega arith)))
 
   -- with none they are the whole
   pub whole_is : (value : A) (size : ℕ) → Decodes l octets (Ok (value, size)) → length octets ≤ size → whole_of octets (decode_by l octets) ≡ Ok value
   whole_is value size decodes all =
       let within : size ≤ length octets = decodes.within in
       ap (whole_of octets) (answers_decoding l octets (Ok (value, size)) decodes)
-      ∙ ap (λ b. if b then Ok value else Err (Trailing (size + 1))) (same_place size (length octets) (omega arith))
+      ∙ ap (λ b. if b then Ok value else Err (record { rule = Trailing; place = size + 1 })) (same_place size (length octets) (omega arith))
 
   -- the first fault is what they decode to
   pub fault_is : (f : RecordFault) → IsFault l octets f → decode_by l octets ≡ Err f
@@ -62,7 +60,7 @@ module _ {A : Type 0} (l : Layout A) (octets : List ℕ) where
 pub whole_decoded : {A : Type 0} (l : Layout A) (v : A) (octets : List ℕ) → IsWhole l v octets → whole_of octets (decode_by l octets) ≡ Ok v
 whole_decoded {A} l v octets whole =
     ap (whole_of octets) (by (decode_by l octets) ((decoding_decodes l octets).only v octets [] whole (sym (append-nil octets))))
-    ∙ ap (λ b. if b then Ok v else Err (Trailing (length octets + 1))) (same_place (length octets) (length octets) refl)
+    ∙ ap (λ b. if b then Ok v else Err (record { rule = Trailing; place = length octets + 1 })) (same_place (length octets) (length octets) refl)
   where
     by : (d : Result (A × ℕ) RecordFault) → Answers (with_memory d) (Ok (v, length octets)) → d ≡ Ok (v, length octets)
     by (Ok y) h = sym h
@@ -93,27 +91,21 @@ unknown (suc zero) a b = absurd (a refl)
 unknown (suc (suc zero)) a b = absurd (b refl)
 unknown (suc (suc (suc n))) a b = grind arith
 
-pub format_unknown : (n : ℕ) (rest : List ℕ) → (n ≡ 1 → ⊥) → (n ≡ 2 → ⊥) → decode_by either_image (n ∷ rest) ≡ Err (fault.BadTag 1)
+pub format_unknown : (n : ℕ) (rest : List ℕ) → (n ≡ 1 → ⊥) → (n ≡ 2 → ⊥) → decode_by either_image (n ∷ rest) ≡ Err (record { rule = BadTag; place = 1 })
 unfolding either_image image_in octet
-format_unknown n rest a b = fault_is either_image (n ∷ rest) (fault.BadTag 1) (record {
-  rule = BadTag;
+format_unknown n rest a b = fault_is either_image (n ∷ rest) (record { rule = BadTag; place = 1 }) (record {
   left = length (n ∷ rest);
-  place = 1;
   breaks = inl (inr (n ∷ [], rest, refl, refl, unknown n a b, refl));
   at = omega arith;
-  named = refl;
 })
 
 -- no octet
-pub format_missing : decode_by either_image [] ≡ Err (fault.Short 1)
+pub format_missing : decode_by either_image [] ≡ Err (record { rule = Short; place = 1 })
 unfolding either_image image_in octet
-format_missing = fault_is either_image [] (fault.Short 1) (record {
-  rule = Short;
+format_missing = fault_is either_image [] (record { rule = Short; place = 1 }) (record {
   left = 0;
-  place = 1;
   breaks = inl (inl (omega arith, refl, refl));
   at = refl;
-  named = refl;
 })
 
 -- after a first octet 1 an image is of format 1

@@ -5,7 +5,7 @@ ghost use Rattle.cds_stamps.specs.Outcomes.{Answers};
 ghost use Rattle.cds_records.specs.Images.{image, image_1, image_in};
 ghost use Rattle.cds_records.specs.Migration as migration;
 ghost use Rattle.cds_records.specs.Records.{message};
-ghost use Rattle.record_fields.specs.Decoding.{fault_at, error_of, IsLeftWithin, IsWhole, Decodes};
+ghost use Rattle.record_fields.specs.Decoding.{error_of, IsLeftWithin, IsWhole, Decodes};
 ghost use Rattle.cds_messages.specs.declared.image.Image.{Image};
 ghost use Rattle.record_fields.specs.MemoryFaults.{IfWant};
 ghost use Rattle.cds_records.specs.RecordMemory.{WantsForMessage, WantsForImage};
@@ -64,7 +64,10 @@ pub fn whole_image(alloc: Global, octets: &[u8]) -> Result<Image, AllocOr<Record
 {
     let (image, used) = decode_image_in(alloc, octets, FORMER_FORMAT, FORMAT)?;
     if used < octets.len() {
-        return Err(AllocOr::Fault(RecordFault::Trailing(used + 1)));
+        return Err(AllocOr::Fault(RecordFault {
+            rule: Rule::Trailing,
+            place: used + 1,
+        }));
     }
     Ok(image)
 }
@@ -107,26 +110,10 @@ fn fault_from(error: ReadError, octets: &[u8]) -> AllocOr<RecordFault>
     ensures { result ≡ error_of (length octets.now) error }
 {
     match error {
-        AllocOr::Fault(broken) => AllocOr::Fault(fault_of(
-            broken.rule,
-            octets.len() - broken.left + 1,
-        )),
+        AllocOr::Fault(broken) => AllocOr::Fault(RecordFault {
+            rule: broken.rule,
+            place: octets.len() - broken.left + 1,
+        }),
         AllocOr::OutOfMemory => AllocOr::OutOfMemory,
-    }
-}
-
-/// The fault of a rule at a place.
-fn fault_of(rule: Rule, place: usize) -> RecordFault
-    ensures { result ≡ fault_at rule place }
-{
-    match rule {
-        Rule::Short => RecordFault::Short(place),
-        Rule::BadTag => RecordFault::BadTag(place),
-        Rule::BadLength => RecordFault::BadLength(place),
-        Rule::BadName => RecordFault::BadName(place),
-        Rule::OutOfOrder => RecordFault::OutOfOrder(place),
-        Rule::BadFlag => RecordFault::BadFlag(place),
-        Rule::NotAbove => RecordFault::NotAbove(place),
-        Rule::BadHeld => RecordFault::BadHeld(place),
     }
 }

@@ -3,7 +3,7 @@ ghost use Rattle.std.specs.Prelude.{◌≡◌, ◌++◌, ◌∷◌, ◌<◌, [],
 ghost use Rattle.std.specs.List.{All};
 ghost use Rattle.cds_messages.specs.declared.message.Message.{Message};
 ghost use Rattle.record_fields.specs.Decoding.{IsWhole, Decodes, decode_by, with_memory};
-ghost use Rattle.record_fields.specs.declared.fault.RecordFault.TheVariants.{Short, BadTag};
+ghost use Rattle.record_fields.specs.declared.fault.Rule.TheVariants.{Short, BadTag};
 ghost use Rattle.cds_messages.specs.declared.image.Image.{Image};
 ghost use Rattle.cds_records.specs.Images.{image, image_1, either_image};
 ghost use Rattle.cds_records.specs.Migration.{migrated_image};
@@ -72,8 +72,8 @@ pub fn the_first_octet_says_the_format()
     ensures present { (rest : List ℕ)
         → decode_by either_image (2 ∷ rest) ≡ decode_by image (2 ∷ rest) }
     ensures unknown { (n : ℕ) (rest : List ℕ) → (n ≡ 1 → ⊥) → (n ≡ 2 → ⊥)
-        → decode_by either_image (n ∷ rest) ≡ Err (BadTag 1) }
-    ensures nothing { decode_by either_image [] ≡ Err (Short 1) }
+        → decode_by either_image (n ∷ rest) ≡ Err (record { rule = BadTag; place = 1 }) }
+    ensures nothing { decode_by either_image [] ≡ Err (record { rule = Short; place = 1 }) }
 {}
 
 /// Octets of an image of format 1 are migrated to those of the same image in format 2. Those of an

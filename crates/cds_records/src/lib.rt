@@ -15,4 +15,4 @@ mod writing;
 pub use decoding::{decode, decode_image, decode_image_1, migrate_image, whole_image};
 pub use encoding::{encode, encode_gathered, encode_join, encode_spread, encode_update};
 pub use image_encoding::{ImageWriter, encode_image};
-pub use record_fields::RecordFault;
+pub use record_fields::{RecordFault, Rule};

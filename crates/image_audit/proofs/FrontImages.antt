@@ -8,7 +8,6 @@ use Rattle.cds_stamps.specs.declared.alloc_or.AllocOr.TheVariants.{Fault, OutOfM
 use Rattle.cds_stamps.specs.Outcomes.{Answers}
 use Rattle.record_fields.specs.declared.fault.Rule.TheVariants.{Short, BadTag}
 use Rattle.record_fields.specs.declared.fault.RecordFault.{RecordFault}
-use Rattle.record_fields.specs.declared.fault.RecordFault.TheVariants as fault
 use Rattle.record_fields.specs.Fields.{outside, octet}
 use Rattle.record_fields.specs.Decoding.{Decodes, decode_by, with_memory}
 use Rattle.record_fields.specs.Layouts.{Stands}
@@ -22,27 +21,21 @@ use Rattle.cds_records.proofs.WholeDecoding.{fault_is, format_former, format_pre
 use Rattle.image_audit.proofs.Looked.{both_pass}
 
 -- after no octet there is no image of format 2
-present_missing : decode_by image [] ≡ Err (fault.Short 1)
+present_missing : decode_by image [] ≡ Err (record { rule = Short; place = 1 })
 unfolding image image_in octet
-present_missing = fault_is image [] (fault.Short 1) (record {
-  rule = Short;
+present_missing = fault_is image [] (record { rule = Short; place = 1 }) (record {
   left = 0;
-  place = 1;
   breaks = inl (inl (omega arith, refl, refl));
   at = refl;
-  named = refl;
 })
 
 -- nor after a first octet that is not 2
-present_unknown : (n : ℕ) (rest : List ℕ) → outside BadTag 2 2 n ≡ Some BadTag → decode_by image (n ∷ rest) ≡ Err (fault.BadTag 1)
+present_unknown : (n : ℕ) (rest : List ℕ) → outside BadTag 2 2 n ≡ Some BadTag → decode_by image (n ∷ rest) ≡ Err (record { rule = BadTag; place = 1 })
 unfolding image image_in octet
-present_unknown n rest is = fault_is image (n ∷ rest) (fault.BadTag 1) (record {
-  rule = BadTag;
+present_unknown n rest is = fault_is image (n ∷ rest) (record { rule = BadTag; place = 1 }) (record {
   left = length (n ∷ rest);
-  place = 1;
   breaks = inl (inr (n ∷ [], rest, refl, refl, is, refl));
   at = omega arith;
-  named = refl;
 })
 
 -- the octets begin with 1
