@@ -11,6 +11,7 @@ use clearinghouse::{
 };
 use directory::{Table, Update};
 use purge_rule::Replica;
+use record_fields::{RecordFault, Rule};
 use std::alloc::{AllocError, Global};
 use std::mem::replace;
 use std::test::Fail;
