@@ -21,6 +21,9 @@ use std::collections::BTreeMap;
 use std::collections::btree_map::Iter;
 use std::marker::Model;
 
+/// So many entries are inserted one by one, which takes less time than to sort them first.
+const FEW: usize = 4;
+
 /// An entry for each simple name, in ascending order of the names.
 #[derive(Drop)]
 pub(crate) struct EntryMap {
@@ -101,8 +104,22 @@ impl EntryMap {
     ) -> Result<EntryMap, AllocError>
         ensures { IfOk result (λ t. t ≡ fold (λ m p. map.insert m p.0 p.1) map.empty pairs.items) }
     {
+        if pairs.len() <= FEW {
+            return EntryMap::of_few(alloc, pairs);
+        }
         let entries = collected(alloc, pairs)?;
         Ok(EntryMap { entries })
+    }
+
+    /// The same, of few entries.
+    fn of_few(alloc: Global, pairs: Vec<(SimpleName, EntryCell)>) -> Result<EntryMap, AllocError>
+        ensures { IfOk result (λ t. t ≡ fold (λ m p. map.insert m p.0 p.1) map.empty pairs.items) }
+    {
+        let mut entries = EntryMap::new(alloc);
+        for (name, entry) in pairs {
+            entries.insert(name, entry)?;
+        }
+        Ok(entries)
     }
 
     /// The entry that shows of a name. It takes no memory.
