@@ -34,17 +34,6 @@ def stood_on() -> dict[str, set[str]]:
     return {first.split()[0]: {first.split()[0], *(names & set(rest.split()))} for first, rest in lines}
 
 
-def linked_with(crate: str) -> set[str]:
-    """The crates of a program: all on which it stands, through others or not."""
-    found, begin = set(), [crate]
-    while begin:
-        it = begin.pop()
-        if it not in found:
-            found.add(it)
-            begin += stood_on()[it]
-    return found
-
-
 def files_of(crate: str, folder: str, ending: str) -> list[str]:
     """The files of a crate's folder, from the root on."""
     found = glob.glob(f"{ROOT}/crates/{crate}/{folder}/**/*.{ending}", recursive=True)
@@ -266,6 +255,7 @@ def reached() -> set[Function]:
     implements a trait of the standard library is called in ways that no name tells, so of a crate of the program it
     counts as reached."""
     calls, known = Calls(), set()
+    theirs = [it for it in functions() if it.crate not in TESTS]
     roots = (
         ("cell_replay", "run"),
         ("cdsreplay", "main"),
@@ -277,13 +267,11 @@ def reached() -> set[Function]:
         ("cds_c", "cds_run"),
         ("cds_c", "cds_abi"),
     )
-    linked = set().union(*(linked_with(crate) for crate, _ in roots))
-    theirs = [it for it in functions() if it.crate in linked]
     begin = [it for it in theirs if (it.crate, it.name) in roots]
     begin += [it for it in theirs if it.trait and it.trait not in traits()]
     while begin:
         it = begin.pop()
-        if it in known or it.crate not in linked or it.is_test:
+        if it in known or it.crate in TESTS or it.is_test:
             continue
         known.add(it)
         begin += calls.of(it)
