@@ -12,13 +12,16 @@ use Rattle.cell_script.specs.declared.command.ScriptLine.{ScriptLine}
 use Rattle.cell_script.specs.declared.command.ScriptLine.TheVariants as line
 use Rattle.cell_script.specs.declared.fault.ParseFault.{ParseFault}
 use Rattle.cell_script.specs.declared.fault.ParseFault.TheVariants.{UnknownCommand}
-use Rattle.cell_script.specs.WordForms.{◌>>=◌, Form, House, Directory, Serial, Time, Node, SimpleName, FullName, AttrName, Value, Octets, Confidence, Encoded}
-use Rattle.cell_script.specs.WordForms.{Interface, ElementInterface, InterfaceOrNone, Bindings, Objects, Object, Protocols, Priority, Note, Houses, Listeds, Words}
+use Rattle.cell_script.specs.Words.{house_of, listed_of, directory_of, serial_of, node_of, number_of, simple_name_of, full_name_of, attr_name_of, octets_value_of}
+use Rattle.cell_script.specs.Words.{octets_of, confidence_of}
+use Rattle.cell_script.specs.NameService.{interface_of, element_interface_of, interface_or_none_of, bindings_of, objects_of}
+use Rattle.cell_script.specs.NameService.{object_of, protocols_of, priority_of, note_of}
+use Rattle.cell_script.specs.WordForms.{◌>>=◌, Form, One, Many, Encoded, Words}
 use Rattle.cell_script.specs.WordForms.{Builds, followed_by, count_fault, read_as}
 
 -- a command of any type of line: its first word, the forms of the words after it, and what a line
 -- of them says
-pub record RowOf (Line : Type 0) : Type 0 where
+pub record RowOf (Line : Type 0) : Type 1 where
   pub word : List ℕ
   pub forms : List Form
   pub says : Builds forms Line
@@ -58,7 +61,7 @@ fault_in early (word ∷ words) =
 
 -- ---- the script
 
-abbrev pub Row : Type 0
+abbrev pub Row : Type 1
 Row = RowOf ScriptLine
 
 -- a step of the cell, and a command that finds its entry by a full name, or asks
@@ -71,71 +74,71 @@ asks word forms build = record { word = word; forms = forms; says = followed_by 
 -- the commands that make houses and directories
 abbrev pub making_rows : List Row
 making_rows =
-    step (codes "house") (House ∷ Node ∷ []) command.House
-    ∷ step (codes "clock") (House ∷ Time ∷ []) command.Clock
-    ∷ step (codes "root") (House ∷ Listeds ∷ []) command.Root
-    ∷ step (codes "mkdir") (House ∷ Directory ∷ SimpleName ∷ House ∷ Listeds ∷ []) command.Mkdir
-    ∷ step (codes "repoint") (House ∷ Directory ∷ SimpleName ∷ House ∷ Houses ∷ []) command.Repoint
+    step (codes "house") (One house_of ∷ One node_of ∷ []) command.House
+    ∷ step (codes "clock") (One house_of ∷ One number_of ∷ []) command.Clock
+    ∷ step (codes "root") (One house_of ∷ Many listed_of ∷ []) command.Root
+    ∷ step (codes "mkdir") (One house_of ∷ One directory_of ∷ One simple_name_of ∷ One house_of ∷ Many listed_of ∷ []) command.Mkdir
+    ∷ step (codes "repoint") (One house_of ∷ One directory_of ∷ One simple_name_of ∷ One house_of ∷ Many house_of ∷ []) command.Repoint
     ∷ []
 
 -- an update of an entry: the house and the directory, then what the update is of
 abbrev pub updates : List ℕ → (forms : List Form) → Builds forms Update → Row
 updates word forms build =
-    step word (House ∷ Directory ∷ forms) (λ h d. followed_by (command.Update h d) forms build)
+    step word (One house_of ∷ One directory_of ∷ forms) (λ h d. followed_by (command.Update h d) forms build)
 
 -- the updates of an entry
 abbrev pub entry_rows : List Row
 entry_rows =
-    updates (codes "create") (SimpleName ∷ []) update.Create
-    ∷ updates (codes "link") (SimpleName ∷ FullName ∷ []) update.MakeLink
-    ∷ updates (codes "delete") (SimpleName ∷ []) update.Delete
+    updates (codes "create") (One simple_name_of ∷ []) update.Create
+    ∷ updates (codes "link") (One simple_name_of ∷ One full_name_of ∷ []) update.MakeLink
+    ∷ updates (codes "delete") (One simple_name_of ∷ []) update.Delete
     ∷ []
 
 -- the changes of an entry's values
 abbrev pub value_rows : List Row
 value_rows =
-    updates (codes "add") (SimpleName ∷ AttrName ∷ Value ∷ []) update.Add
-    ∷ updates (codes "remove") (SimpleName ∷ AttrName ∷ Value ∷ []) update.Remove
-    ∷ updates (codes "put") (SimpleName ∷ AttrName ∷ Value ∷ []) update.Put
-    ∷ updates (codes "clear") (SimpleName ∷ AttrName ∷ []) update.Clear
+    updates (codes "add") (One simple_name_of ∷ One attr_name_of ∷ One octets_value_of ∷ []) update.Add
+    ∷ updates (codes "remove") (One simple_name_of ∷ One attr_name_of ∷ One octets_value_of ∷ []) update.Remove
+    ∷ updates (codes "put") (One simple_name_of ∷ One attr_name_of ∷ One octets_value_of ∷ []) update.Put
+    ∷ updates (codes "clear") (One simple_name_of ∷ One attr_name_of ∷ []) update.Clear
     ∷ []
 
 -- the commands about all replicas of a directory
 abbrev pub replica_rows : List Row
 replica_rows =
-    step (codes "epoch") (Directory ∷ House ∷ Listeds ∷ []) command.Epoch
-    ∷ step (codes "skulk") (House ∷ Directory ∷ []) command.Skulk
+    step (codes "epoch") (One directory_of ∷ One house_of ∷ Many listed_of ∷ []) command.Epoch
+    ∷ step (codes "skulk") (One house_of ∷ One directory_of ∷ []) command.Skulk
     ∷ []
 
 -- what befalls messages and houses
 abbrev pub event_rows : List Row
 event_rows =
-    step (codes "deliver") (Serial ∷ []) command.Deliver
-    ∷ step (codes "lose") (Serial ∷ []) command.Lose
-    ∷ step (codes "crash") (House ∷ []) command.Crash
-    ∷ step (codes "start") (House ∷ []) command.Start
+    step (codes "deliver") (One serial_of ∷ []) command.Deliver
+    ∷ step (codes "lose") (One serial_of ∷ []) command.Lose
+    ∷ step (codes "crash") (One house_of ∷ []) command.Crash
+    ∷ step (codes "start") (One house_of ∷ []) command.Start
     ∷ []
 
 -- the questions
 abbrev pub question_rows : List Row
 question_rows =
-    asks (codes "read") (House ∷ Confidence ∷ FullName ∷ AttrName ∷ []) question.Read
-    ∷ asks (codes "readlink") (House ∷ Confidence ∷ FullName ∷ []) question.Readlink
-    ∷ asks (codes "dump") (House ∷ Directory ∷ []) question.Dump
+    asks (codes "read") (One house_of ∷ One confidence_of ∷ One full_name_of ∷ One attr_name_of ∷ []) question.Read
+    ∷ asks (codes "readlink") (One house_of ∷ One confidence_of ∷ One full_name_of ∷ []) question.Readlink
+    ∷ asks (codes "dump") (One house_of ∷ One directory_of ∷ []) question.Dump
     ∷ asks (codes "octets") (Encoded ∷ []) (λ q. q)
-    ∷ asks (codes "decode") (Octets ∷ []) question.Decode
+    ∷ asks (codes "decode") (One octets_of ∷ []) question.Decode
     ∷ []
 
 -- the commands of the name service (own, after C706, name service operations)
 abbrev pub service_rows : List Row
 service_rows =
-    asks (codes "export") (FullName ∷ Interface ∷ Bindings ∷ Objects ∷ []) question.Export
-    ∷ asks (codes "unexport") (FullName ∷ InterfaceOrNone ∷ Objects ∷ []) question.Unexport
-    ∷ asks (codes "groupadd") (FullName ∷ FullName ∷ []) question.Groupadd
-    ∷ asks (codes "groupdel") (FullName ∷ FullName ∷ []) question.Groupdel
-    ∷ asks (codes "profadd") (FullName ∷ ElementInterface ∷ FullName ∷ Priority ∷ Note ∷ []) question.Profadd
-    ∷ asks (codes "profdel") (FullName ∷ ElementInterface ∷ FullName ∷ []) question.Profdel
-    ∷ asks (codes "import") (House ∷ Confidence ∷ FullName ∷ Interface ∷ Object ∷ Protocols ∷ [])
+    asks (codes "export") (One full_name_of ∷ One interface_of ∷ One bindings_of ∷ One objects_of ∷ []) question.Export
+    ∷ asks (codes "unexport") (One full_name_of ∷ One interface_or_none_of ∷ One objects_of ∷ []) question.Unexport
+    ∷ asks (codes "groupadd") (One full_name_of ∷ One full_name_of ∷ []) question.Groupadd
+    ∷ asks (codes "groupdel") (One full_name_of ∷ One full_name_of ∷ []) question.Groupdel
+    ∷ asks (codes "profadd") (One full_name_of ∷ One element_interface_of ∷ One full_name_of ∷ One priority_of ∷ One note_of ∷ []) question.Profadd
+    ∷ asks (codes "profdel") (One full_name_of ∷ One element_interface_of ∷ One full_name_of ∷ []) question.Profdel
+    ∷ asks (codes "import") (One house_of ∷ One confidence_of ∷ One full_name_of ∷ One interface_of ∷ One object_of ∷ One protocols_of ∷ [])
     (λ h c n i o p. question.Import h c n i o p.0 p.1)
     ∷ []
 

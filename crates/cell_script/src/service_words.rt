@@ -1,8 +1,9 @@
 // The words of the commands of the name service.
 #![tactic(auto, unfolding(crate::specs::WordForms::take_words))]
 
-ghost use Rattle.cell_script.specs.WordForms as form;
-ghost use Rattle.cell_script.specs.WordForms.{Takes, take_words};
+ghost use Rattle.cell_script.specs.NameService.{interface_of, element_interface_of, interface_or_none_of, bindings_of, objects_of, object_of, protocols_of};
+ghost use Rattle.cell_script.specs.NameService.{priority_of, note_of};
+ghost use Rattle.cell_script.specs.WordForms.{One, Takes, take_words};
 
 use crate::lists::{Note, StringBindings, Uuids};
 use crate::service_word;
@@ -14,7 +15,7 @@ use uuid::Uuid;
 impl<'a> Words<'a> {
     /// An interface: UUID, `:`, major version, `.` and minor version.
     pub fn interface(&mut self) -> Parsed<Interface>
-        ensures { Takes result self.new (take_words form.Interface self.old) }
+        ensures { Takes result self.new (take_words (One interface_of) self.old) }
     {
         let word = self.needed()?;
         self.said(service_word::interface(word))
@@ -22,7 +23,7 @@ impl<'a> Words<'a> {
 
     /// The interface of an element, or `default` for none.
     pub fn element_interface(&mut self) -> Parsed<Option<Interface>>
-        ensures { Takes result self.new (take_words form.ElementInterface self.old) }
+        ensures { Takes result self.new (take_words (One element_interface_of) self.old) }
     {
         let word = self.needed()?;
         self.said(service_word::element_interface(word))
@@ -30,7 +31,7 @@ impl<'a> Words<'a> {
 
     /// An interface, or `-` for none.
     pub fn interface_or_none(&mut self) -> Parsed<Option<Interface>>
-        ensures { Takes result self.new (take_words form.InterfaceOrNone self.old) }
+        ensures { Takes result self.new (take_words (One interface_or_none_of) self.old) }
     {
         let word = self.needed()?;
         self.said(service_word::interface_or_none(word))
@@ -38,7 +39,7 @@ impl<'a> Words<'a> {
 
     /// String bindings without object parts, with commas between, or `-` for none.
     pub fn bindings(&mut self, alloc: Global) -> Parsed<StringBindings>
-        ensures { Takes result self.new (take_words form.Bindings self.old) }
+        ensures { Takes result self.new (take_words (One bindings_of) self.old) }
     {
         let word = self.needed()?;
         let bindings = service_word::bindings(alloc, word)?;
@@ -47,7 +48,7 @@ impl<'a> Words<'a> {
 
     /// UUIDs other than nil, with commas between, or `-` for none.
     pub fn objects(&mut self, alloc: Global) -> Parsed<Uuids>
-        ensures { Takes result self.new (take_words form.Objects self.old) }
+        ensures { Takes result self.new (take_words (One objects_of) self.old) }
     {
         let word = self.needed()?;
         let objects = service_word::objects(alloc, word)?;
@@ -56,7 +57,7 @@ impl<'a> Words<'a> {
 
     /// A UUID, or `-` for nil.
     pub fn object(&mut self) -> Parsed<Uuid>
-        ensures { Takes result self.new (take_words form.Object self.old) }
+        ensures { Takes result self.new (take_words (One object_of) self.old) }
     {
         let word = self.needed()?;
         self.said(service_word::object(word))
@@ -64,7 +65,7 @@ impl<'a> Words<'a> {
 
     /// The protocol sequences, with a comma between: whether TCP is one, and whether UDP is.
     pub fn protocols(&mut self) -> Parsed<(bool, bool)>
-        ensures { Takes result self.new (take_words form.Protocols self.old) }
+        ensures { Takes result self.new (take_words (One protocols_of) self.old) }
     {
         let word = self.needed()?;
         self.said(service_word::protocols(word))
@@ -72,7 +73,7 @@ impl<'a> Words<'a> {
 
     /// A priority, 0 to 255.
     pub fn priority(&mut self) -> Parsed<u8>
-        ensures { Takes result self.new (take_words form.Priority self.old) }
+        ensures { Takes result self.new (take_words (One priority_of) self.old) }
     {
         let word = self.needed()?;
         self.said(service_word::priority(word))
@@ -80,7 +81,7 @@ impl<'a> Words<'a> {
 
     /// An annotation of one word, or `-` for the empty one.
     pub fn note(&mut self, alloc: Global) -> Parsed<Note>
-        ensures { Takes result self.new (take_words form.Note self.old) }
+        ensures { Takes result self.new (take_words (One note_of) self.old) }
     {
         let word = self.needed()?;
         let note = service_word::note(alloc, word)?;

@@ -8,11 +8,11 @@ ghost use Rattle.std.specs.List.{prefix_len};
 ghost use Rattle.cds_stamps.specs.Outcomes.{Answers};
 ghost use Rattle.cds_stamps.specs.declared.alloc_or.AllocOr.TheVariants.{Fault, OutOfMemory};
 ghost use Rattle.cell_script.specs.declared.fault.ParseFault.TheVariants.{WrongCount};
-ghost use Rattle.cell_script.specs.Words.{words_of};
+ghost use Rattle.cell_script.specs.Words.{words_of, house_of, listed_of, directory_of, serial_of, number_of, node_of, simple_name_of, full_name_of};
+ghost use Rattle.cell_script.specs.Words.{attr_name_of, octets_value_of, octets_of, confidence_of};
 ghost use Rattle.cell_script.specs.PrivateCounts.{words_behind};
 ghost use Rattle.cell_script.specs.declared.words.TheConstants.{STRIDE};
-ghost use Rattle.cell_script.specs.WordForms as form;
-ghost use Rattle.cell_script.specs.WordForms.{Takes, take_words, check_count, said_at};
+ghost use Rattle.cell_script.specs.WordForms.{One, Many, Encoded, Takes, take_words, check_count, said_at};
 
 use crate::command::Question;
 use crate::fault::ParseFault;
@@ -40,7 +40,8 @@ pub struct Words<'a> {
 
 impl<'a> Model for Words<'a> {
     ghost use Rattle.std.specs.Prelude.{◌+◌, ◌<◌, ◌^◌, length};
-    ghost use Rattle.cell_script.specs.Words.{words_of};
+    ghost use Rattle.cell_script.specs.Words.{words_of, house_of, listed_of, directory_of, serial_of, number_of, node_of, simple_name_of, full_name_of};
+ghost use Rattle.cell_script.specs.Words.{attr_name_of, octets_value_of, octets_of, confidence_of};
     ghost use Rattle.cell_script.specs.WordForms.{Words as Words'};
 
     ghost Value = { Words' };
@@ -217,7 +218,7 @@ impl<'a> Words<'a> {
 
     /// The number of a house, 1 to 255.
     pub fn house(&mut self) -> Parsed<HouseNo>
-        ensures { Takes result self.new (take_words form.House self.old) }
+        ensures { Takes result self.new (take_words (One house_of) self.old) }
     {
         let word = self.needed()?;
         self.said(word::house(word))
@@ -225,7 +226,7 @@ impl<'a> Words<'a> {
 
     /// The number of a directory, 1 to 4,294,967,295.
     pub fn directory(&mut self) -> Parsed<DirId>
-        ensures { Takes result self.new (take_words form.Directory self.old) }
+        ensures { Takes result self.new (take_words (One directory_of) self.old) }
     {
         let word = self.needed()?;
         self.said(word::directory(word))
@@ -233,7 +234,7 @@ impl<'a> Words<'a> {
 
     /// The serial number of a message, from 1 on.
     pub fn serial(&mut self) -> Parsed<u64>
-        ensures { Takes result self.new (take_words form.Serial self.old) }
+        ensures { Takes result self.new (take_words (One serial_of) self.old) }
     {
         let word = self.needed()?;
         self.said(word::serial(word))
@@ -241,7 +242,7 @@ impl<'a> Words<'a> {
 
     /// A time.
     pub fn time(&mut self) -> Parsed<u64>
-        ensures { Takes result self.new (take_words form.Time self.old) }
+        ensures { Takes result self.new (take_words (One number_of) self.old) }
     {
         let word = self.needed()?;
         self.said(word::number(word))
@@ -249,7 +250,7 @@ impl<'a> Words<'a> {
 
     /// A node, in twelve hexadecimal digits.
     pub fn node(&mut self) -> Parsed<Node>
-        ensures { Takes result self.new (take_words form.Node self.old) }
+        ensures { Takes result self.new (take_words (One node_of) self.old) }
     {
         let word = self.needed()?;
         self.said(word::node(word))
@@ -257,7 +258,7 @@ impl<'a> Words<'a> {
 
     /// How much the answer of a replica is trusted: true for `high`.
     pub fn confidence(&mut self) -> Parsed<bool>
-        ensures { Takes result self.new (take_words form.Confidence self.old) }
+        ensures { Takes result self.new (take_words (One confidence_of) self.old) }
     {
         let word = self.needed()?;
         self.said(word::confidence(word))
@@ -265,7 +266,7 @@ impl<'a> Words<'a> {
 
     /// A simple name.
     pub fn simple_name(&mut self, alloc: Global) -> Parsed<SimpleName>
-        ensures { Takes result self.new (take_words form.SimpleName self.old) }
+        ensures { Takes result self.new (take_words (One simple_name_of) self.old) }
     {
         let word = self.needed()?;
         self.kept(SimpleName::parse(alloc, word))
@@ -273,7 +274,7 @@ impl<'a> Words<'a> {
 
     /// A full name.
     pub fn full_name(&mut self, alloc: Global) -> Parsed<FullName>
-        ensures { Takes result self.new (take_words form.FullName self.old) }
+        ensures { Takes result self.new (take_words (One full_name_of) self.old) }
     {
         let word = self.needed()?;
         self.kept(FullName::parse(alloc, word))
@@ -281,7 +282,7 @@ impl<'a> Words<'a> {
 
     /// The name of an attribute.
     pub fn attr_name(&mut self, alloc: Global) -> Parsed<AttrName>
-        ensures { Takes result self.new (take_words form.AttrName self.old) }
+        ensures { Takes result self.new (take_words (One attr_name_of) self.old) }
     {
         let word = self.needed()?;
         self.kept(AttrName::parse(alloc, word))
@@ -289,7 +290,7 @@ impl<'a> Words<'a> {
 
     /// A value, in hexadecimal digits.
     pub fn value(&mut self, alloc: Global) -> Parsed<Value>
-        ensures { Takes result self.new (take_words form.Value self.old) }
+        ensures { Takes result self.new (take_words (One octets_value_of) self.old) }
     {
         let word = self.needed()?;
         let value = word::value(alloc, word)?;
@@ -298,7 +299,7 @@ impl<'a> Words<'a> {
 
     /// Octets, in hexadecimal digits.
     pub fn octets(&mut self, alloc: Global) -> Parsed<Octets>
-        ensures { Takes result self.new (take_words form.Octets self.old) }
+        ensures { Takes result self.new (take_words (One octets_of) self.old) }
     {
         let word = self.needed()?;
         let octets = word::octets(alloc, word)?;
@@ -308,7 +309,7 @@ impl<'a> Words<'a> {
     /// Whose octets are asked for: `msg` and the number of a message, or `house` and that of a
     /// house.
     pub fn encoded(&mut self) -> Parsed<Question>
-        ensures { Takes result self.new (take_words form.Encoded self.old) }
+        ensures { Takes result self.new (take_words Encoded self.old) }
     {
         let word = self.needed()?;
         if word == b"msg".as_slice() {
@@ -324,7 +325,7 @@ impl<'a> Words<'a> {
 
     /// Numbers of houses, as many as there are words.
     pub fn houses(&mut self, alloc: Global) -> Parsed<HouseNos>
-        ensures { Takes result self.new (take_words form.Houses self.old) }
+        ensures { Takes result self.new (take_words (Many house_of) self.old) }
     {
         let mut houses = HouseNos::new(alloc);
         while let Some(word) = self.next() {
@@ -336,7 +337,7 @@ impl<'a> Words<'a> {
     /// Houses of a replica set, as many as there are words: each a number, after an `s` where the
     /// house is secondary.
     pub fn listeds(&mut self, alloc: Global) -> Parsed<Listeds>
-        ensures { Takes result self.new (take_words form.Listeds self.old) }
+        ensures { Takes result self.new (take_words (Many listed_of) self.old) }
     {
         let mut list = Vec::new(alloc);
         while let Some(word) = self.next() {
