@@ -2,7 +2,8 @@
 use Rattle.std.specs.Prelude.{ℕ, List, [], ◌∷◌, Err, Result, codes}
 use Rattle.cell_script.specs.declared.fault.ParseFault.{ParseFault}
 use Rattle.cell_script.specs.declared.fault.ParseFault.TheVariants.{UnknownCommand}
-use Rattle.cell_script.specs.WordForms.{Form, House, Directory, FullName, AttrName, Value, Houses, Builds, Words}
+use Rattle.cell_script.specs.Words.{attr_name_of, directory_of, full_name_of, house_of, octets_value_of}
+use Rattle.cell_script.specs.WordForms.{Form, One, Many, Builds, Words}
 use Rattle.cell_script.specs.CommandRows.{RowOf, said_among, no_command}
 use Rattle.clerk_lines.specs.declared.answer.AnswerLine.{AnswerLine}
 use Rattle.clerk_lines.specs.declared.answer.AnswerLine.TheVariants as line
@@ -15,10 +16,10 @@ row word forms build = record { word = word; forms = forms; says = build }
 abbrev pub rows : List (RowOf AnswerLine)
 rows =
     row (codes "object") [] line.Object
-    ∷ row (codes "link") (FullName ∷ []) line.Link
-    ∷ row (codes "child") (Directory ∷ House ∷ Houses ∷ []) line.Child
-    ∷ row (codes "attr") (AttrName ∷ []) line.Attr
-    ∷ row (codes "value") (Value ∷ []) line.Value
+    ∷ row (codes "link") (One full_name_of ∷ []) line.Link
+    ∷ row (codes "child") (One directory_of ∷ One house_of ∷ Many house_of ∷ []) line.Child
+    ∷ row (codes "attr") (One attr_name_of ∷ []) line.Attr
+    ∷ row (codes "value") (One octets_value_of ∷ []) line.Value
     ∷ []
 
 -- what the words after a first word say

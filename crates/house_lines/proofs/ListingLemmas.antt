@@ -9,7 +9,7 @@ use Rattle.cds_stamps.specs.declared.numbers.HouseNo.{HouseNo}
 use Rattle.cds_stamps.specs.Outcomes.{Answers}
 use Rattle.cell_script.specs.declared.fault.ParseFault.{ParseFault}
 use Rattle.cell_script.specs.Words.{house_of}
-use Rattle.cell_script.specs.WordForms.{◌>>=◌, Houses, Takes, Words, each_word, said_at, take_words}
+use Rattle.cell_script.specs.WordForms.{◌>>=◌, Many, Takes, Words, each_word, said_at, take_words}
 use Rattle.cell_script.proofs.Reading.{behind}
 use Rattle.house_lines.specs.MemberWords.{is_dash, member_of}
 use Rattle.house_lines.specs.Listings.{after_dash, before_dash, leaving_said, members_said}
@@ -50,7 +50,7 @@ without_words (Ok p) = Ok p.0
 without_words (Err e) = Err e
 
 -- words that are taken as a list are that list
-pub all_are_each : (r : Result (List HouseNo) (AllocOr ParseFault)) (s left : Words) → Takes r left (take_words Houses s)
+pub all_are_each : (r : Result (List HouseNo) (AllocOr ParseFault)) (s left : Words) → Takes r left (take_words (Many house_of) s)
     → Answers r (each_word house_of s.read s.rest)
 unfolding take_words
 all_are_each r s left takes = by_said (each_word house_of s.read s.rest) r takes

@@ -8,7 +8,8 @@ use Rattle.directory.specs.declared.update.Update.{Update}
 use Rattle.directory.specs.declared.update.Update.TheVariants as update
 use Rattle.cell_script.specs.declared.fault.ParseFault.{ParseFault}
 use Rattle.cell_script.specs.declared.fault.ParseFault.TheVariants.{UnknownCommand}
-use Rattle.cell_script.specs.WordForms.{◌>>=◌, Form, House, Directory, Serial, Time, Node, SimpleName, FullName, AttrName, Value, Octets, Houses, Listeds, Confidence}
+use Rattle.cell_script.specs.Words.{attr_name_of, confidence_of, directory_of, full_name_of, house_of, listed_of, node_of, number_of, octets_of, octets_value_of, serial_of, simple_name_of}
+use Rattle.cell_script.specs.WordForms.{◌>>=◌, Form, One, Many}
 use Rattle.cell_script.specs.WordForms.{Builds, Words, check_count, take_words}
 use Rattle.cell_script.specs.CommandRows.{RowOf, said_among, early_among, no_command, line_in, fault_in}
 use Rattle.house_lines.specs.declared.line.HouseLine.{HouseLine}
@@ -24,12 +25,12 @@ row word forms build = record { word = word; forms = forms; says = build }
 -- the commands that make the house and directories
 abbrev pub making_rows : List (RowOf HouseLine)
 making_rows =
-    row (codes "house") (House ∷ Node ∷ []) line.House
-    ∷ row (codes "clock") (Time ∷ []) line.Clock
-    ∷ row (codes "root") (Listeds ∷ []) (λ ls. line.Order (order.Root ls))
-    ∷ row (codes "mkdir") (Directory ∷ SimpleName ∷ Directory ∷ Listeds ∷ [])
+    row (codes "house") (One house_of ∷ One node_of ∷ []) line.House
+    ∷ row (codes "clock") (One number_of ∷ []) line.Clock
+    ∷ row (codes "root") (Many listed_of ∷ []) (λ ls. line.Order (order.Root ls))
+    ∷ row (codes "mkdir") (One directory_of ∷ One simple_name_of ∷ One directory_of ∷ Many listed_of ∷ [])
     (λ d s m ls. line.Order (order.Mkdir d s m ls))
-    ∷ row (codes "repoint") (Directory ∷ SimpleName ∷ House ∷ Houses ∷ [])
+    ∷ row (codes "repoint") (One directory_of ∷ One simple_name_of ∷ One house_of ∷ Many house_of ∷ [])
     (λ d s h hs. line.Order (order.Repoint d s h hs))
     ∷ []
 
@@ -40,35 +41,35 @@ entry_line d u = line.Order (order.Update d u)
 -- the updates of an entry
 abbrev pub entry_rows : List (RowOf HouseLine)
 entry_rows =
-    row (codes "create") (Directory ∷ SimpleName ∷ []) (λ d s. entry_line d (update.Create s))
-    ∷ row (codes "link") (Directory ∷ SimpleName ∷ FullName ∷ []) (λ d s n. entry_line d (update.MakeLink s n))
-    ∷ row (codes "delete") (Directory ∷ SimpleName ∷ []) (λ d s. entry_line d (update.Delete s))
+    row (codes "create") (One directory_of ∷ One simple_name_of ∷ []) (λ d s. entry_line d (update.Create s))
+    ∷ row (codes "link") (One directory_of ∷ One simple_name_of ∷ One full_name_of ∷ []) (λ d s n. entry_line d (update.MakeLink s n))
+    ∷ row (codes "delete") (One directory_of ∷ One simple_name_of ∷ []) (λ d s. entry_line d (update.Delete s))
     ∷ []
 
 -- the changes of an entry's values
 abbrev pub value_rows : List (RowOf HouseLine)
 value_rows =
-    row (codes "add") (Directory ∷ SimpleName ∷ AttrName ∷ Value ∷ []) (λ d s a v. entry_line d (update.Add s a v))
-    ∷ row (codes "remove") (Directory ∷ SimpleName ∷ AttrName ∷ Value ∷ []) (λ d s a v. entry_line d (update.Remove s a v))
-    ∷ row (codes "put") (Directory ∷ SimpleName ∷ AttrName ∷ Value ∷ []) (λ d s a v. entry_line d (update.Put s a v))
-    ∷ row (codes "clear") (Directory ∷ SimpleName ∷ AttrName ∷ []) (λ d s a. entry_line d (update.Clear s a))
+    row (codes "add") (One directory_of ∷ One simple_name_of ∷ One attr_name_of ∷ One octets_value_of ∷ []) (λ d s a v. entry_line d (update.Add s a v))
+    ∷ row (codes "remove") (One directory_of ∷ One simple_name_of ∷ One attr_name_of ∷ One octets_value_of ∷ []) (λ d s a v. entry_line d (update.Remove s a v))
+    ∷ row (codes "put") (One directory_of ∷ One simple_name_of ∷ One attr_name_of ∷ One octets_value_of ∷ []) (λ d s a v. entry_line d (update.Put s a v))
+    ∷ row (codes "clear") (One directory_of ∷ One simple_name_of ∷ One attr_name_of ∷ []) (λ d s a. entry_line d (update.Clear s a))
     ∷ []
 
 -- a skulk, and the octets of messages
 abbrev pub message_rows : List (RowOf HouseLine)
 message_rows =
-    row (codes "skulk") (Directory ∷ []) (λ d. line.Order (order.Skulk d))
-    ∷ row (codes "more") (Octets ∷ []) line.More
-    ∷ row (codes "take") (Octets ∷ []) (λ os. line.Order (order.Take os))
+    row (codes "skulk") (One directory_of ∷ []) (λ d. line.Order (order.Skulk d))
+    ∷ row (codes "more") (One octets_of ∷ []) line.More
+    ∷ row (codes "take") (One octets_of ∷ []) (λ os. line.Order (order.Take os))
     ∷ []
 
 -- the questions
 abbrev pub question_rows : List (RowOf HouseLine)
 question_rows =
-    row (codes "dump") (Directory ∷ []) (λ d. line.Ask (question.Dump d))
-    ∷ row (codes "look") (Directory ∷ SimpleName ∷ AttrName ∷ []) (λ d s a. line.Ask (question.Look d s a))
-    ∷ row (codes "show") (Confidence ∷ Directory ∷ SimpleName ∷ []) (λ c d s. line.Ask (question.Show c d s))
-    ∷ row (codes "status") (Directory ∷ []) (λ d. line.Ask (question.Status d))
+    row (codes "dump") (One directory_of ∷ []) (λ d. line.Ask (question.Dump d))
+    ∷ row (codes "look") (One directory_of ∷ One simple_name_of ∷ One attr_name_of ∷ []) (λ d s a. line.Ask (question.Look d s a))
+    ∷ row (codes "show") (One confidence_of ∷ One directory_of ∷ One simple_name_of ∷ []) (λ c d s. line.Ask (question.Show c d s))
+    ∷ row (codes "status") (One directory_of ∷ []) (λ d. line.Ask (question.Status d))
     ∷ row (codes "directories") [] (line.Ask question.Directories)
     ∷ row (codes "image") [] (line.Ask question.Image)
     ∷ []
@@ -86,8 +87,8 @@ epoch_count = check_count true 3
 -- what the words after `epoch` say, if they are not too few
 unfoldable pub epoch_words : Words → Result HouseLine ParseFault
 epoch_words s = do
-  dir ← take_words Directory s
-  number ← take_words Serial dir.1
+  dir ← take_words (One directory_of) s
+  number ← take_words (One serial_of) dir.1
   list ← list_said number.1
   Ok (line.Order (order.Epoch dir.0 (record { 0 = number.0 }) list))
 

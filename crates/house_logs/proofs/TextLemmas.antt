@@ -16,7 +16,7 @@ use Rattle.cds_stamps.specs.declared.numbers.HouseNo.{HouseNo}
 use Rattle.house_logs.specs.Reads.{OfFault}
 use Rattle.cell_script.specs.declared.fault.ParseFault.{ParseFault}
 use Rattle.cell_script.specs.declared.fault.ParseFault.TheVariants.{WrongCount}
-use Rattle.cell_script.specs.WordForms.{◌>>=◌, House, Octets, Takes, Words, check_count, next_word, said_at, take_words}
+use Rattle.cell_script.specs.WordForms.{◌>>=◌, One, Takes, Words, check_count, next_word, said_at, take_words}
 use Rattle.cell_script.specs.Words.{house_of, octets_of, words_of}
 use Rattle.house_logs.specs.declared.log.PostedOctets.{PostedOctets}
 use Rattle.house_logs.specs.PrivateReads.{AreRunning, AreSaid, IsAfterRunning, IsTurnText}
@@ -283,7 +283,7 @@ three_counted s w u v us is count =
     absurd (cc (so))
 
 pub words_are : (ws : List (List ℕ)) (s mid left : Words) (to : HouseNo) (octets : List ℕ) → s.rest ≡ ws → check_count false 2 s ≡ Ok tt
-    → take_words House s ≡ Ok (to, mid) → take_words Octets mid ≡ Ok (octets, left) → AreWordsOf ws (record { to = to; octets = octets })
+    → take_words (One house_of) s ≡ Ok (to, mid) → take_words (One octets_of) mid ≡ Ok (octets, left) → AreWordsOf ws (record { to = to; octets = octets })
 unfolding check_count take_words
 words_are [] s mid left to octets rest count house digits =
     absurd (cc (sym (ap (λ (l : List (List ℕ)). next_word house_of s.read l) rest) ∙ house))
@@ -304,14 +304,14 @@ two_counted : (s : Words) (p : PostedOctets) → AreWordsOf s.rest p → check_c
 unfolding check_count
 two_counted s p is = ap (λ (l : List (List ℕ)). if length l == 2 then Ok tt else Err (WrongCount (s.read + length l))) is.two
 
-house_taken : (s : Words) (p : PostedOctets) → (is : AreWordsOf s.rest p) → take_words House s ≡ Ok (p.to, record { read = s.read + 1; rest = is.digits ∷ [] })
+house_taken : (s : Words) (p : PostedOctets) → (is : AreWordsOf s.rest p) → take_words (One house_of) s ≡ Ok (p.to, record { read = s.read + 1; rest = is.digits ∷ [] })
 unfolding take_words
 house_taken s p is =
     ap (λ (l : List (List ℕ)). next_word house_of s.read l) is.two
     ∙ ap (λ (o : Option HouseNo). said_at (s.read + 1) o >>= λ x. Ok (x, record { read = s.read + 1; rest = is.digits ∷ [] })) is.house
 
 octets_taken : (s : Words) (p : PostedOctets) (digits : List ℕ) → s.rest ≡ digits ∷ [] → octets_of digits ≡ Some p.octets
-    → take_words Octets s ≡ Ok (p.octets, record { read = s.read + 1; rest = [] })
+    → take_words (One octets_of) s ≡ Ok (p.octets, record { read = s.read + 1; rest = [] })
 unfolding take_words
 octets_taken s p digits rest is =
     ap (λ (l : List (List ℕ)). next_word octets_of s.read l) rest
@@ -320,10 +320,10 @@ octets_taken s p digits rest is =
 pub count_is : (s : Words) (f : ParseFault) → check_count false 2 s ≡ Err f → (p : PostedOctets) → ¬ AreWordsOf s.rest p
 count_is s f is p words = absurd (cc (sym is ∙ two_counted s p words))
 
-pub house_is : (s : Words) (f : ParseFault) → take_words House s ≡ Err f → (p : PostedOctets) → ¬ AreWordsOf s.rest p
+pub house_is : (s : Words) (f : ParseFault) → take_words (One house_of) s ≡ Err f → (p : PostedOctets) → ¬ AreWordsOf s.rest p
 house_is s f is p words = absurd (cc (sym is ∙ house_taken s p words))
 
-pub octets_is : (s mid : Words) (to : HouseNo) (f : ParseFault) → take_words House s ≡ Ok (to, mid) → take_words Octets mid ≡ Err f
+pub octets_is : (s mid : Words) (to : HouseNo) (f : ParseFault) → take_words (One house_of) s ≡ Ok (to, mid) → take_words (One octets_of) mid ≡ Err f
     → (p : PostedOctets) → ¬ AreWordsOf s.rest p
 octets_is s mid to f house is p words =
     let one : HouseNo × Words = (to, mid) in

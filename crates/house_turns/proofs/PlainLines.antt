@@ -10,8 +10,8 @@ use Rattle.std.proofs.lemmas.Slice.Eq.{bytes_eq-Decides}
 use Rattle.cell_script.specs.declared.fault.ParseFault.{ParseFault}
 use Rattle.cell_script.specs.declared.fault.ParseFault.TheVariants.{WrongCount}
 use Rattle.cell_script.specs.Words.{attr_name_of, confidence_of, directory_of, full_name_of, house_of, listed_of, node_of, number_of, octets_of, octets_value_of, serial_of, simple_name_of}
-use Rattle.cell_script.specs.WordForms.{Form, House, Directory, Serial, Time, Node, SimpleName, FullName, AttrName, Value, Octets, Houses, Listeds, Confidence}
-use Rattle.cell_script.specs.WordForms.{◌>>=◌, Builds, Said, Words, all_words, build_words, check_count, each_word, is_open, least_of, next_word, read_as, said_at, take_words}
+use Rattle.cell_script.specs.WordForms.{Form, One, Many, Encoded}
+use Rattle.cell_script.specs.WordForms.{◌>>=◌, Builds, Words, all_words, build_words, check_count, each_word, is_open, least_of, next_word, read_as, said_at, take_words}
 use Rattle.cell_script.specs.CommandRows.{RowOf, no_command, said_among, some_line}
 use Rattle.house_lines.specs.Listings.{after_dash, before_dash, leaving_said, list_said, members_said}
 use Rattle.house_lines.specs.LineRows.{entry_rows, epoch_count, epoch_said, epoch_words, is_epoch, making_rows, message_rows, question_rows, rows, said_by, said_in, value_rows}
@@ -79,57 +79,13 @@ all_said {A} says plain read ws t is =
 
 -- ---- forms
 
--- a form of one word that lines of a house have
-abbrev IsWord : Form → Type 0
-IsWord House = Unit {0}
-IsWord Directory = Unit {0}
-IsWord Serial = Unit {0}
-IsWord Time = Unit {0}
-IsWord Node = Unit {0}
-IsWord SimpleName = Unit {0}
-IsWord FullName = Unit {0}
-IsWord AttrName = Unit {0}
-IsWord Value = Unit {0}
-IsWord Octets = Unit {0}
-IsWord Confidence = Unit {0}
-IsWord other = ⊥
-
--- forms of one word each; the last one may stand for any number of words
-data AreWords : List Form → Type 0 where
-  NoWord : AreWords []
-  AllHouses : AreWords (Houses ∷ [])
-  AllListed : AreWords (Listeds ∷ [])
-  OneWord : (f : Form) (fs : List Form) → IsWord f → AreWords fs → AreWords (f ∷ fs)
-
-word_taken : (f : Form) → IsWord f → (s : Words) (t : Said f × Words) → take_words f s ≡ Ok t → Next s.rest t.1
-unfolding take_words
-word_taken House one s t is = next_said house_of plain_house s.read s.rest t is
-word_taken Directory one s t is = next_said directory_of plain_directory s.read s.rest t is
-word_taken Serial one s t is = next_said serial_of plain_serial s.read s.rest t is
-word_taken Time one s t is = next_said number_of plain_number s.read s.rest t is
-word_taken Node one s t is = next_said node_of plain_node s.read s.rest t is
-word_taken SimpleName one s t is = next_said simple_name_of plain_name s.read s.rest t is
-word_taken FullName one s t is = next_said full_name_of plain_full_name s.read s.rest t is
-word_taken AttrName one s t is = next_said attr_name_of plain_attr s.read s.rest t is
-word_taken Value one s t is = next_said octets_value_of plain_value s.read s.rest t is
-word_taken Octets one s t is = next_said octets_of plain_octets s.read s.rest t is
-word_taken Confidence one s t is = next_said confidence_of plain_confidence s.read s.rest t is
-word_taken other one s t is = absurd one
-
--- a form of one word counts as one
-word_counts : (f : Form) → IsWord f → (fs : List Form) → (is_open (f ∷ fs) ≡ is_open fs) × (least_of (f ∷ fs) ≡ least_of fs + 1)
-word_counts House one fs = (refl, refl)
-word_counts Directory one fs = (refl, refl)
-word_counts Serial one fs = (refl, refl)
-word_counts Time one fs = (refl, refl)
-word_counts Node one fs = (refl, refl)
-word_counts SimpleName one fs = (refl, refl)
-word_counts FullName one fs = (refl, refl)
-word_counts AttrName one fs = (refl, refl)
-word_counts Value one fs = (refl, refl)
-word_counts Octets one fs = (refl, refl)
-word_counts Confidence one fs = (refl, refl)
-word_counts other one fs = absurd one
+-- no line ends in what words of these forms say; only the last form may stand for any number of words
+abbrev AreWords : List Form → Type 0
+AreWords [] = Unit {0}
+AreWords (One says ∷ fs) = ArePlain says × AreWords fs
+AreWords (Many says ∷ []) = ArePlain says
+AreWords (Many says ∷ f ∷ fs) = ⊥
+AreWords (Encoded ∷ fs) = ⊥
 
 -- as many words are left as these forms stand for
 abbrev IsCounted : List Form → Words → Type 0
@@ -151,22 +107,19 @@ counted false least s x is closed = by (length s.rest == least) refl is
 module _ {L : Type 0} where
   built : (fs : List Form) → AreWords fs → (build : Builds fs L) (s : Words) (l : L) → IsCounted fs s → build_words fs build s ≡ Ok l → NoneEnds s.rest
   unfolding take_words
-  built _ NoWord build s l count is = no_word_left s.rest (count refl)
-  built _ AllHouses build s l count is =
-      let step = then_ok (take_words Houses s) (λ t. build_words [] (build t.0) t.1) l is in
-      all_said house_of plain_house s.read s.rest step.0 step.1
-  built _ AllListed build s l count is =
-      let step = then_ok (take_words Listeds s) (λ t. build_words [] (build t.0) t.1) l is in
-      all_said listed_of plain_listed s.read s.rest step.0 step.1
-  built _ (OneWord f fs one words) build s l count is =
-      let step = then_ok (take_words f s) (λ t. build_words fs (build t.0) t.1) l is in
-      let next = word_taken f one s step.0 step.1 in
-      let counts = word_counts f one fs in
+  built [] words build s l count is = no_word_left s.rest (count refl)
+  built (One says ∷ fs) words build s l count is =
+      let step = then_ok (take_words (One says) s) (λ t. build_words fs (build t.0) t.1) l is in
+      let next = next_said says words.0 s.read s.rest step.0 step.1 in
       subst NoneEnds (sym next.whole) (
         next.plain,
-        built fs words (build step.0.0) step.0.1 l
-            (λ closed. omega (arith, count (counts.0 ∙ closed), counts.1, ap length next.whole)) step.2,
+        built fs words.1 (build step.0.0) step.0.1 l (λ closed. omega (arith, count closed, ap length next.whole)) step.2,
       )
+  built (Many says ∷ []) plain build s l count is =
+      let step = then_ok (take_words (Many says) s) (λ t. build_words [] (build t.0) t.1) l is in
+      all_said says plain s.read s.rest step.0 step.1
+  built (Many says ∷ f ∷ fs) words build s l count is = absurd words
+  built (Encoded ∷ fs) words build s l count is = absurd words
 
   -- all words of a line, by the forms of its row
   row_read : (fs : List Form) → AreWords fs → (build : Builds fs L) (s : Words) (l : L) → read_as fs build s ≡ Ok l → NoneEnds s.rest
@@ -207,30 +160,30 @@ among {L} (r ∷ rs) are w s l is = by (bytes_eq w r.word) refl (λ later. among
     by true on later is = (same_begins w r.word on are.1, row_read r.forms are.0 r.says s l is)
     by false off later is = later is
 
-directory_name : (fs : List Form) → AreWords fs → AreWords (Directory ∷ SimpleName ∷ fs)
-directory_name fs words = OneWord Directory (SimpleName ∷ fs) tt (OneWord SimpleName fs tt words)
+directory_name : (fs : List Form) → AreWords fs → AreWords (One directory_of ∷ One simple_name_of ∷ fs)
+directory_name fs words = (plain_directory, plain_name, words)
 
-directory_value : AreWords (Directory ∷ SimpleName ∷ AttrName ∷ Value ∷ [])
-directory_value = directory_name (AttrName ∷ Value ∷ []) (OneWord AttrName (Value ∷ []) tt (OneWord Value [] tt NoWord))
+directory_value : AreWords (One directory_of ∷ One simple_name_of ∷ One attr_name_of ∷ One octets_value_of ∷ [])
+directory_value = (plain_directory, plain_name, plain_attr, plain_value, tt)
 
-directory_attr : AreWords (Directory ∷ SimpleName ∷ AttrName ∷ [])
-directory_attr = directory_name (AttrName ∷ []) (OneWord AttrName [] tt NoWord)
+directory_attr : AreWords (One directory_of ∷ One simple_name_of ∷ One attr_name_of ∷ [])
+directory_attr = (plain_directory, plain_name, plain_attr, tt)
 
 making : AreRows making_rows
 making = (
-  OneWord House (Node ∷ []) tt (OneWord Node [] tt NoWord),
+  (plain_house, plain_node, tt),
   begins (codes "house") refl (λ rest. refl),
   (
-    OneWord Time [] tt NoWord,
+    (plain_number, tt),
     begins (codes "clock") refl (λ rest. refl),
     (
-      AllListed,
+      plain_listed,
       begins (codes "root") refl (λ rest. refl),
       (
-        directory_name (Directory ∷ Listeds ∷ []) (OneWord Directory (Listeds ∷ []) tt AllListed),
+        (plain_directory, plain_name, plain_directory, plain_listed),
         begins (codes "mkdir") refl (λ rest. refl),
         (
-          directory_name (House ∷ Houses ∷ []) (OneWord House (Houses ∷ []) tt AllHouses),
+          (plain_directory, plain_name, plain_house, plain_house),
           begins (codes "repoint") refl (λ rest. refl),
           tt,
         ),
@@ -241,12 +194,12 @@ making = (
 
 entries : AreRows entry_rows
 entries = (
-  directory_name [] NoWord,
+  directory_name [] tt,
   begins (codes "create") refl (λ rest. refl),
   (
-    directory_name (FullName ∷ []) (OneWord FullName [] tt NoWord),
+    (plain_directory, plain_name, plain_full_name, tt),
     begins (codes "link") refl (λ rest. refl),
-    (directory_name [] NoWord, begins (codes "delete") refl (λ rest. refl), tt),
+    (directory_name [] tt, begins (codes "delete") refl (λ rest. refl), tt),
   ),
 )
 
@@ -267,32 +220,32 @@ values = (
 
 messages : AreRows message_rows
 messages = (
-  OneWord Directory [] tt NoWord,
+  (plain_directory, tt),
   begins (codes "skulk") refl (λ rest. refl),
   (
-    OneWord Octets [] tt NoWord,
+    (plain_octets, tt),
     begins (codes "more") refl (λ rest. refl),
-    (OneWord Octets [] tt NoWord, begins (codes "take") refl (λ rest. refl), tt),
+    ((plain_octets, tt), begins (codes "take") refl (λ rest. refl), tt),
   ),
 )
 
 questions : AreRows question_rows
 questions = (
-  OneWord Directory [] tt NoWord,
+  (plain_directory, tt),
   begins (codes "dump") refl (λ rest. refl),
   (
     directory_attr,
     begins (codes "look") refl (λ rest. refl),
     (
-      OneWord Confidence (Directory ∷ SimpleName ∷ []) tt (directory_name [] NoWord),
+      (plain_confidence, plain_directory, plain_name, tt),
       begins (codes "show") refl (λ rest. refl),
       (
-        OneWord Directory [] tt NoWord,
+        (plain_directory, tt),
         begins (codes "status") refl (λ rest. refl),
         (
-          NoWord,
+          tt,
           begins (codes "directories") refl (λ rest. refl),
-          (NoWord, begins (codes "image") refl (λ rest. refl), tt),
+          (tt, begins (codes "image") refl (λ rest. refl), tt),
         ),
       ),
     ),
@@ -334,14 +287,14 @@ list_read s x is =
     )
 
 epoch_read : (s : Words) (l : HouseLine) → epoch_said s ≡ Ok l → NoneEnds s.rest
-unfolding epoch_words
+unfolding epoch_words take_words
 epoch_read s l is =
     let counts = then_ok (epoch_count s) (λ x. epoch_words s) l is in
-    let dir = then_ok (take_words Directory s) _ l counts.2 in
-    let number = then_ok (take_words Serial dir.0.1) _ l dir.2 in
+    let dir = then_ok (take_words (One directory_of) s) _ l counts.2 in
+    let number = then_ok (take_words (One serial_of) dir.0.1) _ l dir.2 in
     let list = then_ok (list_said number.0.1) _ l number.2 in
-    let first = word_taken Directory tt s dir.0 dir.1 in
-    let second = word_taken Serial tt dir.0.1 number.0 number.1 in
+    let first = next_said directory_of plain_directory s.read s.rest dir.0 dir.1 in
+    let second = next_said serial_of plain_serial dir.0.1.read dir.0.1.rest number.0 number.1 in
     subst NoneEnds (sym first.whole) (
       first.plain,
       subst NoneEnds (sym second.whole) (second.plain, list_read number.0.1 list.0 list.1),

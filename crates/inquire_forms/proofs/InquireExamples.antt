@@ -21,7 +21,7 @@ use Rattle.ns_inquire.specs.declared.inquiry.Inquiry.TheVariants as asked
 use Rattle.ns_inquire.specs.declared.version.Version.TheVariants as version
 use Rattle.inquire_forms.specs.declared.inquire_line.InquireLine.{InquireLine}
 use Rattle.inquire_forms.specs.declared.inquire_line.InquireLine.TheVariants as inquire
-use Rattle.inquire_forms.specs.InquireLines.{inquired_by, early_inquired, inquired_in, early_inquire_fault, proflist_said, lookup_said}
+use Rattle.inquire_forms.specs.InquireLines.{inquired_by, early_inquired, inquired_in, early_inquire_fault, proflist_said}
 use Rattle.inquire_forms.specs.Inquired.{Batches, Elements, Entries, Members}
 use Rattle.inquire_forms.specs.InquireTexts.{inquire_lines}
 
@@ -67,16 +67,16 @@ member_at_fault = refl
 
 lookup_is : says (codes "lookup 1 high /.:/p a0000000-0000-0000-0000-000000000001:1.2 - ncadg_ip_udp 65535")
     ≡ Ok (Some (inquire.Lookup (record { 0 = 1 }) true (codes "p" ∷ []) interface_a zero_bytes false true 65535))
-unfolding inquired_by lookup_said check_count take_words interface_of cut_at_mark number_of object_of protocols_of by_index
+unfolding inquired_by check_count take_words interface_of cut_at_mark number_of object_of protocols_of by_index
 lookup_is = refl
 
 most_at_fault : says (codes "lookup 1 high /.:/p a0000000-0000-0000-0000-000000000001:1.2 - ncadg_ip_udp 65536") ≡ Err (BadWord 8)
-unfolding inquired_by lookup_said check_count take_words interface_of cut_at_mark number_of object_of protocols_of by_index
+unfolding inquired_by check_count take_words interface_of cut_at_mark number_of object_of protocols_of by_index
 most_at_fault = refl
 
 -- words are counted first
 too_few : says (codes "lookup 0 high") ≡ Err (WrongCount 3)
-unfolding inquired_by lookup_said check_count
+unfolding inquired_by check_count
 too_few = refl
 
 -- each other line is one of a script

@@ -13,7 +13,7 @@ use Rattle.cell_script.specs.WordForms.{◌>>=◌, Words, check_count, is_open, 
 use Rattle.cell_script.specs.CommandRows.{RowOf, said_among, early_among, no_command, said_by, early_by, rows}
 use Rattle.inquire_forms.specs.declared.inquire_line.InquireLine.{InquireLine}
 use Rattle.inquire_forms.specs.declared.inquire_line.InquireLine.TheVariants as line
-use Rattle.inquire_forms.specs.InquireLines.{seven, proflist_said, lookup_said, plain_said, inquiry_rows, inquired_by, early_inquired}
+use Rattle.inquire_forms.specs.InquireLines.{seven, proflist_said, plain_said, inquiry_rows, inquired_by, early_inquired}
 use Rattle.inquire_forms.specs.PrivateInquireLines.{Says}
 
 -- a fault of the first step is that of the whole
@@ -40,25 +40,21 @@ script_early : (fault : ParseFault) (word : List ℕ) (s : Words) → early_by w
 unfolding said_by early_by
 script_early fault word s is = among rows no_command (Some (UnknownCommand 1)) fault word s (λ e. cc) is
 
--- of lines with seven words, and of those of a script
+-- of the elements of a profile, and of lines of a script
 other_early : (fault : ParseFault) (word : List ℕ) (s : Words)
-    → (if bytes_eq word (codes "proflist") then result_err (seven s)
-    else (if bytes_eq word (codes "lookup") then result_err (seven s) else early_by word s)) ≡ Some fault
-    → (if bytes_eq word (codes "proflist") then proflist_said s
-    else (if bytes_eq word (codes "lookup") then lookup_said s else plain_said word s)) ≡ Err fault
-unfolding proflist_said lookup_said
-other_early fault word s is = by_word (bytes_eq word (codes "proflist")) (bytes_eq word (codes "lookup")) is
+    → (if bytes_eq word (codes "proflist") then result_err (seven s) else early_by word s) ≡ Some fault
+    → (if bytes_eq word (codes "proflist") then proflist_said s else plain_said word s) ≡ Err fault
+unfolding proflist_said
+other_early fault word s is = by_word (bytes_eq word (codes "proflist")) is
   where
     plain : (r : Result ScriptLine ParseFault) → r ≡ Err fault → result_map_both line.Plain (λ e. e) r ≡ Err fault
     plain (Ok l) is = cc
     plain (Err e) is = cc
 
-    by_word : (profile look : Bool)
-        → (if profile then result_err (seven s) else (if look then result_err (seven s) else early_by word s)) ≡ Some fault
-        → (if profile then proflist_said s else (if look then lookup_said s else plain_said word s)) ≡ Err fault
-    by_word true look is = first_fails (seven s) _ fault is
-    by_word false true is = first_fails (seven s) _ fault is
-    by_word false false is = plain (said_by word s) (script_early fault word s is)
+    by_word : (profile : Bool) → (if profile then result_err (seven s) else early_by word s) ≡ Some fault
+        → (if profile then proflist_said s else plain_said word s) ≡ Err fault
+    by_word true is = first_fails (seven s) _ fault is
+    by_word false is = plain (said_by word s) (script_early fault word s is)
 
 -- of any line
 inquiry_early : (fault : ParseFault) (word : List ℕ) (s : Words) → early_inquired word s ≡ Some fault → inquired_by word s ≡ Err fault

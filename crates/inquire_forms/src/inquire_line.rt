@@ -1,5 +1,5 @@
 // The lines of the form `inquire`: those of a script, and four inquiries.
-#![tactic(auto, unfolding(crate::specs::InquireLines::proflist_said, crate::specs::InquireLines::lookup_said))]
+#![tactic(auto, unfolding(crate::specs::InquireLines::proflist_said))]
 
 ghost use Rattle.std.specs.Prelude.{◌≡◌, ◌∷◌, Ok, Err, None, IfOk, IfSome};
 ghost use Rattle.std.specs.Result.{result_err};
@@ -8,7 +8,7 @@ ghost use Rattle.cds_stamps.specs.declared.alloc_or.AllocOr.TheVariants.{Fault};
 ghost use Rattle.cell_script.specs.Words.{words_of};
 ghost use Rattle.cell_script.specs.CommandRows.{early_by};
 ghost use Rattle.cell_script.specs.WordForms.{count_fault, read_as};
-ghost use Rattle.inquire_forms.specs.InquireLines.{WantsSome, about_entry, proflist_said, lookup_said, inquiry_said, plain_said, seven, inquired_by, early_inquired, inquired_in, early_inquire_fault};
+ghost use Rattle.inquire_forms.specs.InquireLines.{WantsSome, about_entry, about_bindings, lookup_line, proflist_said, inquiry_said, plain_said, seven, inquired_by, early_inquired, inquired_in, early_inquire_fault};
 ghost use Rattle.inquire_forms.specs.PrivateInquireLines.{Says};
 ghost use Rattle.inquire_forms.specs.declared.inquire_line.InquireLine.TheVariants as said;
 
@@ -104,7 +104,8 @@ fn proflist(alloc: Global, words: &mut Words<'_>) -> Parsed<InquireLine>
 }
 
 fn lookup(alloc: Global, words: &mut Words<'_>) -> Parsed<InquireLine>
-    ensures said { Says result (lookup_said words.old) (result_err (seven words.old)) }
+    ensures said { Says result (read_as about_bindings lookup_line words.old)
+        (count_fault about_bindings words.old) }
     ensures some { IfOk result WantsSome }
 {
     words.exactly(7)?;
@@ -140,11 +141,11 @@ fn line_after(alloc: Global, word: &[u8], words: &mut Words<'_>) -> Parsed<Inqui
     if word == b"entrylist".as_slice() {
         return entrylist(alloc, words);
     }
-    if word == b"proflist".as_slice() {
-        return proflist(alloc, words);
-    }
     if word == b"lookup".as_slice() {
         return lookup(alloc, words);
+    }
+    if word == b"proflist".as_slice() {
+        return proflist(alloc, words);
     }
     plain(alloc, word, words)
 }

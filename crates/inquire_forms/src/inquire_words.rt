@@ -2,7 +2,7 @@
 #![tactic(auto, unfolding(cell_script::specs::WordForms::take_words))]
 
 ghost use Rattle.std.specs.Prelude.{◌≡◌, ◌≤◌, IfOk, IfSome};
-ghost use Rattle.cell_script.specs.WordForms.{Takes, next_word};
+ghost use Rattle.cell_script.specs.WordForms.{One, Takes, take_words};
 ghost use Rattle.inquire_forms.specs.InquireWords.{kind_of, version_of, most_of, only_of, none_of, all_of};
 
 use cell_script::{Parsed, Words, number_up_to};
@@ -83,7 +83,7 @@ fn only(word: &[u8], wanted: &[u8]) -> Option<()>
 
 /// The kind of a list of elements.
 pub(crate) fn kind(words: &mut Words<'_>) -> Parsed<ListKind>
-    ensures { Takes result words.new (next_word kind_of words.old.read words.old.rest) }
+    ensures { Takes result words.new (take_words (One kind_of) words.old) }
 {
     let word = words.needed()?;
     words.said(kind_in(word))
@@ -91,7 +91,7 @@ pub(crate) fn kind(words: &mut Words<'_>) -> Parsed<ListKind>
 
 /// The versions that are meant.
 pub(crate) fn version(words: &mut Words<'_>) -> Parsed<Version>
-    ensures { Takes result words.new (next_word version_of words.old.read words.old.rest) }
+    ensures { Takes result words.new (take_words (One version_of) words.old) }
 {
     let word = words.needed()?;
     words.said(version_in(word))
@@ -100,7 +100,7 @@ pub(crate) fn version(words: &mut Words<'_>) -> Parsed<Version>
 /// How many bindings a batch has at most, 1 to 65,535.
 #[tactic(auto, using(crate::proofs::InquireLines::said_some))]
 pub(crate) fn most(words: &mut Words<'_>) -> Parsed<u16>
-    ensures said { Takes result words.new (next_word most_of words.old.read words.old.rest) }
+    ensures said { Takes result words.new (take_words (One most_of) words.old) }
     ensures some { IfOk result (λ most. 1 ≤ most) }
 {
     let word = words.needed()?;
@@ -109,7 +109,7 @@ pub(crate) fn most(words: &mut Words<'_>) -> Parsed<u16>
 
 /// The word `-`.
 pub(crate) fn none(words: &mut Words<'_>) -> Parsed<()>
-    ensures { Takes result words.new (next_word none_of words.old.read words.old.rest) }
+    ensures { Takes result words.new (take_words (One none_of) words.old) }
 {
     let word = words.needed()?;
     words.said(only(word, NONE))
@@ -117,7 +117,7 @@ pub(crate) fn none(words: &mut Words<'_>) -> Parsed<()>
 
 /// The word `all`.
 pub(crate) fn all(words: &mut Words<'_>) -> Parsed<()>
-    ensures { Takes result words.new (next_word all_of words.old.read words.old.rest) }
+    ensures { Takes result words.new (take_words (One all_of) words.old) }
 {
     let word = words.needed()?;
     words.said(only(word, ALL))

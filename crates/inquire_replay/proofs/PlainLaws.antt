@@ -18,7 +18,7 @@ use Rattle.script_replay.specs.Dialogues.{transcript_by}
 use Rattle.script_replay.specs.Replies.{Numbered, cell_after, reply_to, reply_text, transcript}
 use Rattle.inquire_forms.specs.declared.inquire_line.InquireLine.{InquireLine}
 use Rattle.inquire_forms.specs.declared.inquire_line.InquireLine.TheVariants as line
-use Rattle.inquire_forms.specs.InquireLines.{about_entry, inquired_by, inquired_in, lookup_said, plain_said, proflist_said}
+use Rattle.inquire_forms.specs.InquireLines.{about_bindings, about_entry, inquired_by, inquired_in, lookup_line, plain_said, proflist_said}
 use Rattle.inquire_forms.specs.InquireTexts.{inquire_text}
 use Rattle.inquire_forms.specs.Inquired.{Plain}
 use Rattle.inquire_replay.specs.Inquiring.{inquire_dialogue, plain_lines}
@@ -45,18 +45,18 @@ plain_by : (w : List ℕ) (s : Words) (l : ScriptLine) → said_by w s ≡ Ok l 
 unfolding inquired_by
 plain_by w s l says =
     let none = unknown s in
-    by_words (bytes_eq w (codes "grouplist")) (bytes_eq w (codes "entrylist")) (bytes_eq w (codes "proflist")) (bytes_eq w (codes "lookup"))
-    (other w (codes "grouplist") s l none.0 says) (other w (codes "entrylist") s l none.1 says) (other w (codes "proflist") s l none.2 says)
-    (other w (codes "lookup") s l none.3 says)
+    by_words (bytes_eq w (codes "grouplist")) (bytes_eq w (codes "entrylist")) (bytes_eq w (codes "lookup")) (bytes_eq w (codes "proflist"))
+    (other w (codes "grouplist") s l none.0 says) (other w (codes "entrylist") s l none.1 says) (other w (codes "lookup") s l none.3 says)
+    (other w (codes "proflist") s l none.2 says)
   where
-    by_words : (g e p k : Bool) → g ≡ false → e ≡ false → p ≡ false → k ≡ false
+    by_words : (g e k p : Bool) → g ≡ false → e ≡ false → k ≡ false → p ≡ false
         → (if g then read_as about_entry line.Grouplist s else (if e then read_as about_entry line.Entrylist s
-        else (if p then proflist_said s else (if k then lookup_said s else plain_said w s)))) ≡ Ok (line.Plain l)
-    by_words true e p k not_g not_e not_p not_k = absurd cc
-    by_words false true p k not_g not_e not_p not_k = absurd cc
-    by_words false false true k not_g not_e not_p not_k = absurd cc
-    by_words false false false true not_g not_e not_p not_k = absurd cc
-    by_words false false false false not_g not_e not_p not_k = ap (result_map_both line.Plain (λ (e : ParseFault). e)) says
+        else (if k then read_as about_bindings lookup_line s else (if p then proflist_said s else plain_said w s)))) ≡ Ok (line.Plain l)
+    by_words true e k p not_g not_e not_k not_p = absurd cc
+    by_words false true k p not_g not_e not_k not_p = absurd cc
+    by_words false false true p not_g not_e not_k not_p = absurd cc
+    by_words false false false true not_g not_e not_k not_p = absurd cc
+    by_words false false false false not_g not_e not_k not_p = ap (result_map_both line.Plain (λ (e : ParseFault). e)) says
 
 -- a line of a script says the same
 pub plain_in : (words : List (List ℕ)) (l : ScriptLine) → said_in words ≡ Ok (Some l) → inquired_in words ≡ Ok (Some (line.Plain l))

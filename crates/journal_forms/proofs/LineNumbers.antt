@@ -10,7 +10,7 @@ use Rattle.cell_script.specs.declared.command.Command.{Command}
 use Rattle.cell_script.specs.declared.command.ScriptLine.{ScriptLine}
 use Rattle.cell_script.specs.declared.fault.ParseFault.{ParseFault}
 use Rattle.cell_script.specs.Words.{house_of, most_house, number_of, number_to}
-use Rattle.cell_script.specs.WordForms.{◌>>=◌, House, Words, check_count, is_open, least_of, next_word, said_at, take_words}
+use Rattle.cell_script.specs.WordForms.{◌>>=◌, Words, check_count, is_open, least_of, next_word, said_at, take_words}
 use Rattle.cell_script.specs.CommandRows as plain
 use Rattle.journal_forms.specs.declared.journal_line.JournalLine.{JournalLine}
 use Rattle.journal_forms.specs.declared.journal_line.JournalLine.TheVariants as line

@@ -10,19 +10,17 @@ use Rattle.cell_script.specs.declared.command.ScriptLine.{ScriptLine}
 use Rattle.cell_script.specs.declared.fault.ParseFault.{ParseFault}
 use Rattle.cell_script.specs.declared.fault.ParseFault.TheVariants.{UnknownCommand, WrongCount, BadWord}
 use Rattle.cell_script.specs.WordForms.{◌>>=◌, Builds, Form, Words, build_words, check_count, is_open, least_of, next_word, read_as, take_words, all_words, each_word, said_at}
-use Rattle.cell_script.specs.WordForms.{Houses, Listeds, Encoded}
+use Rattle.cell_script.specs.WordForms.{One, Many, Encoded}
 use Rattle.cell_script.specs.CommandRows.{Row, said_among, early_among, no_command, said_by, early_by, rows}
 use Rattle.journal_forms.specs.JournalLines.{is_among, is_stoppable, stoppable_words, behind_five}
 
 -- forms of a word each, the last of which may be for any number of them
 abbrev ends_open : List Form → Bool
 ends_open [] = true
-ends_open (Houses ∷ []) = true
-ends_open (Houses ∷ f ∷ fs) = false
-ends_open (Listeds ∷ []) = true
-ends_open (Listeds ∷ f ∷ fs) = false
+ends_open (One says ∷ fs) = ends_open fs
+ends_open (Many says ∷ []) = true
+ends_open (Many says ∷ f ∷ fs) = false
 ends_open (Encoded ∷ fs) = false
-ends_open (f ∷ fs) = ends_open fs
 
 -- as many words as these forms stand for
 abbrev Counts : Bool → ℕ → ℕ → Type 0
@@ -82,13 +80,11 @@ all_then {A} says read rest next n later is = by_words (each_word says read rest
 never_short : {A : Type 0} (fs : List Form) → ends_open fs ≡ true → Short A fs
 unfolding take_words
 never_short [] ends build s n counts is = absurd (cc)
-never_short (Houses ∷ []) ends build s n counts is = all_then _ s.read s.rest (λ t. build_words [] (build t.0) t.1) n (λ t e. absurd (cc)) is
-never_short (Houses ∷ f ∷ fs) ends build s n counts is = absurd (cc)
-never_short (Listeds ∷ []) ends build s n counts is = all_then _ s.read s.rest (λ t. build_words [] (build t.0) t.1) n (λ t e. absurd (cc)) is
-never_short (Listeds ∷ f ∷ fs) ends build s n counts is = absurd (cc)
+never_short (Many says ∷ []) ends build s n counts is = all_then says s.read s.rest (λ t. build_words [] (build t.0) t.1) n (λ t e. absurd (cc)) is
+never_short (Many says ∷ f ∷ fs) ends build s n counts is = absurd (cc)
 never_short (Encoded ∷ fs) ends build s n counts is = absurd (cc)
-never_short (f ∷ fs) ends build s n counts is =
-    word_then _ s.read s.rest (λ t. build_words fs (build t.0) t.1) n (some (is_open fs) (least_of fs) (length s.rest) counts)
+never_short (One says ∷ fs) ends build s n counts is =
+    word_then says s.read s.rest (λ t. build_words fs (build t.0) t.1) n (some (is_open fs) (least_of fs) (length s.rest) counts)
     (λ x w ws rest e. never_short fs ends (build x) (record { read = s.read + 1; rest = ws }) n
     (fewer (is_open fs) (least_of fs) s.rest w ws rest counts) e) is
 

@@ -11,7 +11,7 @@ use Rattle.cell_script.specs.declared.command.ScriptLine.TheVariants as script
 use Rattle.cell_script.specs.declared.fault.ParseFault.{ParseFault}
 use Rattle.cell_script.specs.declared.fault.ParseFault.TheVariants.{WrongCount, BadWord}
 use Rattle.cell_script.specs.Words.{house_of, number_to}
-use Rattle.cell_script.specs.WordForms.{◌>>=◌, Words, House, count_fault, read_as, said_at}
+use Rattle.cell_script.specs.WordForms.{◌>>=◌, Words, One, count_fault, read_as, said_at}
 use Rattle.cell_script.specs.CommandRows.{line_in, fault_in}
 use Rattle.cell_script.specs.CommandRows as plain
 use Rattle.journal_forms.specs.declared.journal_line.JournalLine.{JournalLine}
@@ -21,11 +21,11 @@ use Rattle.journal_forms.specs.declared.journal_line.JournalLine.TheVariants as 
 
 -- what the words after `image` say: a house
 abbrev pub image_said : Words → Result JournalLine ParseFault
-image_said = read_as (House ∷ []) line.Image
+image_said = read_as (One house_of ∷ []) line.Image
 
 -- the fault of their number
 abbrev pub image_early : Words → Option ParseFault
-image_early = count_fault (House ∷ [])
+image_early = count_fault (One house_of ∷ [])
 
 -- ---- stop
 

@@ -29,8 +29,7 @@ use Rattle.cell_script.specs.declared.command.ScriptLine.TheVariants as line
 use Rattle.cell_script.specs.declared.fault.ParseFault.{ParseFault}
 use Rattle.cell_script.specs.CommandRows.{Row, no_command, rows, said_among, said_by, said_in, some_line}
 use Rattle.cell_script.specs.NameService.{all_said, binding_said, bindings_of, is_none_word, list_of, object_said, objects_of, texts_of}
-use Rattle.cell_script.specs.WordForms.{◌>>=◌, Builds, Form, House, Directory, Serial, Time, Node, SimpleName, FullName, AttrName, Value, Octets, Confidence}
-use Rattle.cell_script.specs.WordForms.{Encoded, Interface, ElementInterface, InterfaceOrNone, Bindings, Objects, Object, Protocols, Priority, Note, Houses, Listeds}
+use Rattle.cell_script.specs.WordForms.{◌>>=◌, Builds, Form, One, Many, Encoded}
 use Rattle.cell_script.specs.WordForms.{Said, Words, all_words, build_words, check_count, each_word, is_open, least_of, next_word, read_as, said_at, take_words, two_words}
 use Rattle.cell_script.specs.NameService.{interface_of, element_interface_of, interface_or_none_of, object_of, protocols_of, priority_of, note_of}
 use Rattle.cell_script.specs.Words.{attr_name_of, confidence_of, directory_of, full_name_of, house_of, image_asked, listed_of, message_asked, node_of, number_of, octets_asked, octets_of}
@@ -162,12 +161,12 @@ objects_few w os short is =
 abbrev AllShort : List (List ℕ) → Type 0
 AllShort = AllByRecursion (λ w. length w ≤ 4096)
 
--- what words of a form say: lists are short
+-- what a form of one word says, a word says that has no more octets than a line; and the two words
+-- of octets are no export
 abbrev Valid : (f : Form) → Said f → Type 0
-Valid Bindings x = length x ≤ 292
-Valid Objects x = length x ≤ 110
+Valid (One says) x = (w : List ℕ) × (length w ≤ 4096) × (says w ≡ Some x)
+Valid (Many says) x = Unit {0}
 Valid Encoded x = IsShort (line.Question x)
-Valid _ x = Unit {0}
 
 next_short : {A : Type 0} (P : A → Type 0) (says : List ℕ → Option A) → ((w : List ℕ) (x : A) → length w ≤ 4096 → says w ≡ Some x → P x)
     → (read : ℕ) (ws : List (List ℕ)) → AllShort ws → Holds (next_word says read ws) (λ t. P t.0 × AllShort t.1.rest)
@@ -179,9 +178,9 @@ next_short {A} P says fits read (w ∷ ws) short = by_word (says w) refl
     by_word None is = tt
     by_word (Some x) is = (fits w x short.0 is, short.1)
 
-next_any : {A : Type 0} (says : List ℕ → Option A) (read : ℕ) (ws : List (List ℕ)) → AllShort ws
-    → Holds (next_word says read ws) (λ t. Unit {0} × AllShort t.1.rest)
-next_any says read ws short = next_short (λ x. Unit {0}) says (λ w x l is. tt) read ws short
+next_said : {A : Type 0} (says : List ℕ → Option A) (read : ℕ) (ws : List (List ℕ)) → AllShort ws
+    → Holds (next_word says read ws) (λ t. ((w : List ℕ) × (length w ≤ 4096) × (says w ≡ Some t.0)) × AllShort t.1.rest)
+next_said {A} says read ws short = next_short (λ (x : A). (w : List ℕ) × (length w ≤ 4096) × (says w ≡ Some x)) says (λ w x l is. (w, l, is)) read ws short
 
 all_any : {A : Type 0} (says : List ℕ → Option A) (read : ℕ) (ws : List (List ℕ)) → Holds (all_words says read ws) (λ t. Unit {0} × AllShort t.1.rest)
 all_any {A} says read ws = by_each (each_word says read ws)
@@ -229,29 +228,9 @@ two_short read ws short =
 
 taken_short : (f : Form) (s : Words) → AllShort s.rest → Holds (take_words f s) (λ t. Valid f t.0 × AllShort t.1.rest)
 unfolding take_words
-taken_short House s short = next_any house_of s.read s.rest short
-taken_short Directory s short = next_any directory_of s.read s.rest short
-taken_short Serial s short = next_any serial_of s.read s.rest short
-taken_short Time s short = next_any number_of s.read s.rest short
-taken_short Node s short = next_any node_of s.read s.rest short
-taken_short SimpleName s short = next_any simple_name_of s.read s.rest short
-taken_short FullName s short = next_any full_name_of s.read s.rest short
-taken_short AttrName s short = next_any attr_name_of s.read s.rest short
-taken_short Value s short = next_any octets_value_of s.read s.rest short
-taken_short Octets s short = next_any octets_of s.read s.rest short
-taken_short Confidence s short = next_any confidence_of s.read s.rest short
-taken_short Interface s short = next_any interface_of s.read s.rest short
-taken_short ElementInterface s short = next_any element_interface_of s.read s.rest short
-taken_short InterfaceOrNone s short = next_any interface_or_none_of s.read s.rest short
-taken_short Bindings s short = next_short (λ x. length x ≤ 292) bindings_of (λ w x l is. bindings_few w x l is) s.read s.rest short
-taken_short Objects s short = next_short (λ x. length x ≤ 110) objects_of (λ w x l is. objects_few w x l is) s.read s.rest short
-taken_short Object s short = next_any object_of s.read s.rest short
-taken_short Protocols s short = next_any protocols_of s.read s.rest short
-taken_short Priority s short = next_any priority_of s.read s.rest short
-taken_short Note s short = next_any note_of s.read s.rest short
+taken_short (One says) s short = next_said says s.read s.rest short
+taken_short (Many says) s short = all_any says s.read s.rest
 taken_short Encoded s short = two_short s.read s.rest short
-taken_short Houses s short = all_any house_of s.read s.rest
-taken_short Listeds s short = all_any listed_of s.read s.rest
 
 -- ---- what lines say
 
@@ -330,7 +309,9 @@ rows_short = (
                                             (
                                               λ o _. tt,
                                               (
-                                                λ n _ i _ b few o fewer. omega (arith, few, fewer),
+                                                λ n _ i _ b binds o names.
+                                                let few = bindings_few binds.0 b binds.1 binds.2 in
+                                                let fewer = objects_few names.0 o names.1 names.2 in omega (arith, few, fewer),
                                                 (
                                                   λ n _ i _ o _. tt,
                                                   (

@@ -27,8 +27,7 @@ use Rattle.cell_script.specs.declared.command.ScriptLine.{ScriptLine}
 use Rattle.cell_script.specs.declared.command.ScriptLine.TheVariants as line
 use Rattle.cell_script.specs.declared.fault.ParseFault.{ParseFault}
 use Rattle.cell_script.specs.CommandRows.{Row, no_command, rows, said_among, said_by, said_in, some_line}
-use Rattle.cell_script.specs.WordForms.{◌>>=◌, Builds, Form, House, Directory, Serial, Time, Node, SimpleName, FullName, AttrName, Value, Octets, Confidence}
-use Rattle.cell_script.specs.WordForms.{Encoded, Interface, ElementInterface, InterfaceOrNone, Bindings, Objects, Object, Protocols, Priority, Note, Houses, Listeds}
+use Rattle.cell_script.specs.WordForms.{◌>>=◌, Builds, Form, One, Many, Encoded}
 use Rattle.cell_script.specs.WordForms.{Said, Words, build_words, check_count, is_open, least_of, next_word, read_as, said_at, take_words}
 use Rattle.cell_script.specs.Words.{house_of, most_house, number_of, words_of}
 use Rattle.ns_commands.specs.Asks.{Asks, add_element, add_member, delete_element, delete_member, export, unexport}
@@ -46,10 +45,11 @@ Holds (Err e) P = Unit {0}
 
 -- ---- what lines say
 
--- what a word of a form says: the number of a house is one
+-- what a form of one word says, some word says
 abbrev Valid : (f : Form) → Said f → Type 0
-Valid House x = IsHouse x.0
-Valid _ x = Unit {0}
+Valid (One says) x = (w : List ℕ) × (says w ≡ Some x)
+Valid (Many says) x = Unit {0}
+Valid Encoded x = Unit {0}
 
 house_valid : (w : List ℕ) (h : HouseNo) → house_of w ≡ Some h → IsHouse h.0
 house_valid w h is = by_number (number_of w) is
@@ -70,14 +70,15 @@ house_valid w h is = by_number (number_of w) is
     by_number None is = absurd (cc (is))
     by_number (Some n) is = by_test n (nat_le 1 n && nat_le n most_house) refl is
 
-next_house : (read : ℕ) (ws : List (List ℕ)) → Holds (next_word house_of read ws) (λ t. IsHouse t.0.0)
-next_house read [] = tt
-next_house read (w ∷ ws) = by_word (house_of w) refl
+next_valid : {A : Type 0} (says : List ℕ → Option A) (read : ℕ) (ws : List (List ℕ))
+    → Holds (next_word says read ws) (λ t. (w : List ℕ) × (says w ≡ Some t.0))
+next_valid says read [] = tt
+next_valid {A} says read (w ∷ ws) = by_word (says w) refl
   where
-    by_word : (o : Option HouseNo) → house_of w ≡ o
-        → Holds (said_at (read + 1) o >>= λ x. let t : HouseNo × Words = (x, record { read = read + 1; rest = ws }) in Ok t) (λ t. IsHouse t.0.0)
+    by_word : (o : Option A) → says w ≡ o
+        → Holds (said_at (read + 1) o >>= λ x. let t : A × Words = (x, record { read = read + 1; rest = ws }) in Ok t) (λ t. (w : List ℕ) × (says w ≡ Some t.0))
     by_word None is = tt
-    by_word (Some h) is = house_valid w h is
+    by_word (Some x) is = (w, is)
 
 anything : {A E : Type 0} (r : Result A E) → Holds r (λ x. Unit {0})
 anything (Ok x) = tt
@@ -85,29 +86,9 @@ anything (Err e) = tt
 
 taken_valid : (f : Form) (s : Words) → Holds (take_words f s) (λ t. Valid f t.0)
 unfolding take_words
-taken_valid House s = next_house s.read s.rest
-taken_valid Directory s = anything (take_words Directory s)
-taken_valid Serial s = anything (take_words Serial s)
-taken_valid Time s = anything (take_words Time s)
-taken_valid Node s = anything (take_words Node s)
-taken_valid SimpleName s = anything (take_words SimpleName s)
-taken_valid FullName s = anything (take_words FullName s)
-taken_valid AttrName s = anything (take_words AttrName s)
-taken_valid Value s = anything (take_words Value s)
-taken_valid Octets s = anything (take_words Octets s)
-taken_valid Confidence s = anything (take_words Confidence s)
-taken_valid Interface s = anything (take_words Interface s)
-taken_valid ElementInterface s = anything (take_words ElementInterface s)
-taken_valid InterfaceOrNone s = anything (take_words InterfaceOrNone s)
-taken_valid Bindings s = anything (take_words Bindings s)
-taken_valid Objects s = anything (take_words Objects s)
-taken_valid Object s = anything (take_words Object s)
-taken_valid Protocols s = anything (take_words Protocols s)
-taken_valid Priority s = anything (take_words Priority s)
-taken_valid Note s = anything (take_words Note s)
+taken_valid (One says) s = next_valid says s.read s.rest
+taken_valid (Many says) s = anything (take_words (Many says) s)
 taken_valid Encoded s = anything (take_words Encoded s)
-taken_valid Houses s = anything (take_words Houses s)
-taken_valid Listeds s = anything (take_words Listeds s)
 
 -- what is built of what such words say is so
 abbrev AllBuilt : {A : Type 0} → (A → Type 0) → (fs : List Form) → Builds fs A → Type 0
@@ -141,7 +122,7 @@ RowRanged row = AllBuilt Ranged row.forms row.says
 
 rows_ranged : AllByRecursion RowRanged rows
 rows_ranged = (
-  λ h house n _. house,
+  λ h said n _. house_valid said.0 h said.1,
   (
     λ h _ t _. tt,
     (
