@@ -159,13 +159,13 @@ module _ (x k : ℕ) (list : EpochList) where
 
   -- the epoch is not later
   pub epoch_low : (o : Option DirState) (e : EpochNo) → epoch_of o ≡ Some e → is_given x k list ≡ true → k ≤ e.0
-      → epoch_refusal x k list o ≡ Some (why.NotAbove e.0)
+      → epoch_refusal x k list o ≡ Some (why.NotAbove e)
   epoch_low None e is good low = absurd (cc)
   epoch_low (Some (state.Gone f)) e is good low = absurd (cc)
   epoch_low (Some (state.Held h)) e is good low =
       let own : h.epoch ≡ e = cc in
       let test : nat_le k h.epoch.0 ≡ true = subst (λ (e : EpochNo). nat_le k e.0 ≡ true) (sym own) (grind (arith, nat_tests, low)) in
-      rw (good, test) (ap (λ (e : EpochNo). Some (why.NotAbove e.0)) own)
+      rw (good, test) (ap (λ (e : EpochNo). Some (why.NotAbove e)) own)
 
   -- none of them
   pub epoch_fine : (o : Option DirState) (e : EpochNo) → epoch_of o ≡ Some e → is_given x k list ≡ true → e.0 < k

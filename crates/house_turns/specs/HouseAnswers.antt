@@ -65,7 +65,7 @@ epoch_refusal x k list None = Some why.NoReplica
 epoch_refusal x k list (Some (state.Gone e)) = Some why.NoReplica
 epoch_refusal x k list (Some (state.Held h)) =
     if not (is_given x k list) then Some why.BadMembers
-    else (if nat_le k h.epoch.0 then Some (why.NotAbove h.epoch.0) else None)
+    else (if nat_le k h.epoch.0 then Some (why.NotAbove h.epoch) else None)
 
 -- a stamp that the house forgot, as it is said; nothing, if there is none
 abbrev pub restored_refusal : Option Stamp → Option (List ℕ)

@@ -99,7 +99,7 @@ epoch_of (Some (state.Held h)) = Some h.epoch
 abbrev pub epoch_refusal_of : EpochRefusal → ScriptRefusal
 epoch_refusal_of epoch.NoReplica = why.NoReplica
 epoch_refusal_of (epoch.NotJoined held since) = why.NotJoined held since
-epoch_refusal_of (epoch.StaleEpoch held given) = why.NotAbove held.0
+epoch_refusal_of (epoch.StaleEpoch held given) = why.NotAbove held
 
 -- what is said is an outcome: these lines, with the number of theirs; or these posts, and this
 -- answer

@@ -100,10 +100,3 @@ pub(crate) fn turned(alloc: Global, posts: Posts, answer: &Answer) -> Result<Sai
 {
     Ok(Said::Turned(posts, octets_of(alloc, answer)?))
 }
-
-/// That an epoch is not above the one that is held: both have 64 bits.
-pub(crate) fn not_above(held: EpochNo) -> ScriptRefusal
-    ensures { result ≡ why.NotAbove held.0 }
-{
-    ScriptRefusal::NotAbove(held.0 as usize)
-}

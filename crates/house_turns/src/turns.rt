@@ -6,7 +6,7 @@ ghost use Rattle.clearinghouse.specs.HouseLetters.{posts_at};
 ghost use Rattle.house_turns.specs.PrivateTurns.{ArePostsOf, Does, epoch_of, epoch_refusal_of, posts_of_letters};
 
 use crate::lists::given_members;
-use crate::said::{Posts, Said, not_above, refused, turned};
+use crate::said::{Posts, Said, refused, turned};
 use cds_cell::{house_list, refusal_in_script};
 use cds_stamps::{DirId, EpochNo, HouseNo, SimpleName};
 use clearinghouse::{Begun, Clearinghouse, DirState, EpochRefusal, Letters, Outgoing, Turn};
@@ -117,7 +117,7 @@ fn epoch_refused(refusal: EpochRefusal) -> ScriptRefusal
     match refusal {
         EpochRefusal::NoReplica => ScriptRefusal::NoReplica,
         EpochRefusal::NotJoined { held, since } => ScriptRefusal::NotJoined(held, since),
-        EpochRefusal::StaleEpoch { held, given: _ } => not_above(held),
+        EpochRefusal::StaleEpoch { held, given: _ } => ScriptRefusal::NotAbove(held),
     }
 }
 
@@ -140,7 +140,7 @@ pub(crate) fn epoch(
         return refused(alloc, number, ScriptRefusal::BadMembers);
     };
     if epoch.0 <= held.0 {
-        return refused(alloc, number, not_above(held));
+        return refused(alloc, number, ScriptRefusal::NotAbove(held));
     }
     if let Err(refusal) = home.enter_epoch(alloc, dir, epoch, &members)? {
         return refused(alloc, number, epoch_refused(refusal));

@@ -5,6 +5,7 @@ use Rattle.std.specs.Fmt.{digits}
 use Rattle.std.specs.FinMap.{empty}
 use Rattle.hex.specs.Hex.{encode_with}
 use Rattle.cds_stamps.specs.declared.members.MemberKind.TheVariants.{Master, ReadOnly, Secondary}
+use Rattle.record_fields.specs.declared.fault.Rule.TheVariants.{BadTag}
 use Rattle.attr_sets.specs.declared.mark.ValueMark.{ValueMark}
 use Rattle.directory.specs.declared.entry.Kind.TheVariants.{Link}
 use Rattle.uuid.specs.Parts.{zero_bytes}

@@ -1,11 +1,11 @@
 -- Text that grows after what stood before.
-use Rattle.std.proofs.Common.{◌≡◌, ◌≤◌, ◌<◌, ◌+◌, List, [], ◌∷◌, ℕ, ◌++◌, take, drop, get_or, length, sym, ap, ◌∙◌, append_assoc, append-nil, add-one}
+use Rattle.std.proofs.Common.{◌≡◌, ◌≤◌, ◌<◌, ◌+◌, List, [], ◌∷◌, ℕ, ◌++◌, take, drop, get_or, length, map, refl, sym, ap, ◌∙◌, append_assoc, append-nil, add-one}
 use Rattle.std.specs.Prelude.{Result, Ok, Err, OnErr}
 use Rattle.std.specs.List.{flat_map}
 use Rattle.std.proofs.lemmas.List.{take-append-drop, take_all}
 use Rattle.std.proofs.lemmas.List.Concat.{flat_map-append}
 use Rattle.std.proofs.Math.Seq.{take-append_seam, take-suc}
-use Rattle.script_answers.specs.Texts.{line_text, lines_text}
+use Rattle.script_answers.specs.Texts.{line_text, lines_text, spaced, unwords}
 
 -- what a text began with before it grew still begins it, where the grown text does
 pub still_begins : (a x b c : List ℕ) → b ≡ a ++ x → take (length b) c ≡ b → take (length a) c ≡ a
@@ -22,6 +22,21 @@ on_err (Err e) p = p
 -- the text of one line alone
 pub one_line : (number : ℕ) (said : List ℕ) → lines_text number (said ∷ []) ≡ line_text number said
 one_line number said = append-nil (line_text number said)
+
+-- words are the first one and the others
+pub first_and_rest : (ws : List (List ℕ)) → get_or ws 0 [] ++ spaced (drop 1 ws) ≡ unwords ws
+first_and_rest [] = refl
+first_and_rest (w ∷ ws) = refl
+
+-- words after a space each are a space, the first one, and the others
+pub first_spaced : (w : List ℕ) (ws : List (List ℕ)) → take 1 ws ≡ w ∷ [] → (32 ∷ w) ++ spaced (drop 1 ws) ≡ spaced ws
+first_spaced w [] is = absurd cc
+first_spaced w (v ∷ ws) is = let same : v ≡ w = cc in ap (λ (u : List ℕ). (32 ∷ u) ++ spaced ws) (sym same)
+
+-- words of many things, each after a space
+pub spaced_map : {A : Type 0} (says : A → List ℕ) (xs : List A) → flat_map (λ x. 32 ∷ says x) xs ≡ spaced (map says xs)
+spaced_map says [] = refl
+spaced_map says (x ∷ xs) = ap (λ (l : List ℕ). (32 ∷ says x) ++ l) (spaced_map says xs)
 
 -- a row of pieces, and one piece more
 row_one : {A : Type 0} (piece : A → List ℕ) (xs : List A) (i : ℕ) (d : A) → i < length xs

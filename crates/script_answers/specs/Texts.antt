@@ -1,5 +1,5 @@
 -- The text of answers, a line each or several, and of faults.
-use Rattle.std.specs.Prelude.{ℕ, Bool, true, false, ◌==◌, if◌then◌else◌, List, [], ◌∷◌, ◌++◌, length, drop, map, codes, Option, Some, None}
+use Rattle.std.specs.Prelude.{ℕ, Bool, true, false, ◌==◌, if◌then◌else◌, List, [], ◌∷◌, ◌++◌, length, drop, get_or, map, codes, Option, Some, None}
 use Rattle.std.specs.List.{flat_map}
 use Rattle.std.specs.Fmt.{decimal}
 use Rattle.std.specs.Int.{to_be_bytes, w64}
@@ -14,20 +14,29 @@ use Rattle.cds_stamps.specs.Octets.{octets_cmp}
 use Rattle.cell_names.specs.FullNames.{full_name_octets}
 use Rattle.tower_codec.specs.declared.binding.StringBinding.{StringBinding}
 use Rattle.tower_codec.specs.Binding.{binding_text}
+use Rattle.record_fields.specs.declared.fault.Rule.{Rule}
+use Rattle.record_fields.specs.declared.fault.Rule.TheVariants as rule
 use Rattle.attr_sets.specs.declared.mark.ValueMark.{ValueMark}
 use Rattle.attr_sets.specs.declared.cell.AttrCell.{AttrCell}
 use Rattle.directory.specs.declared.entry.Kind.{Kind}
 use Rattle.directory.specs.declared.entry.Kind.TheVariants as kind
 use Rattle.directory.specs.declared.entry.EntryCell.{EntryCell}
 use Rattle.directory.specs.Entries.{Entries}
-use Rattle.record_fields.specs.declared.fault.Rule.{Rule}
-use Rattle.record_fields.specs.declared.fault.Rule.TheVariants as rule
 use Rattle.script_answers.specs.declared.answer.Answer.{Answer}
 use Rattle.script_answers.specs.declared.answer.Answer.TheVariants as answer
 use Rattle.script_answers.specs.declared.answer.ScriptRefusal.{ScriptRefusal}
 use Rattle.script_answers.specs.declared.answer.ScriptRefusal.TheVariants as why
 use Rattle.cell_script.specs.declared.fault.ParseFault.{ParseFault}
 use Rattle.cell_script.specs.declared.fault.ParseFault.TheVariants as parse
+
+-- words, each after a space
+abbrev pub spaced : List (List ℕ) → List ℕ
+spaced = flat_map (λ w. 32 ∷ w)
+
+-- words with a space between two of them
+abbrev pub unwords : List (List ℕ) → List ℕ
+unwords [] = []
+unwords (w ∷ ws) = w ++ spaced ws
 
 -- a line of the output: the number of its script line, a space and what is said
 abbrev pub line_text : ℕ → List ℕ → List ℕ
@@ -54,33 +63,12 @@ abbrev pub stamp_or : List ℕ → Option Stamp → List ℕ
 stamp_or none None = none
 stamp_or none (Some s) = stamp_text s
 
--- two epochs, each after a space
-abbrev pub epochs_text : EpochNo → EpochNo → List ℕ
-epochs_text a b = 32 ∷ (decimal a.0 ++ (32 ∷ decimal b.0))
+-- the serial numbers of the messages that a step posted, if it posted any
+abbrev pub posted_words : List ℕ → List (List ℕ)
+posted_words [] = []
+posted_words (n ∷ ns) = codes "posted" ∷ decimal n ∷ map decimal ns
 
--- the serial numbers of the messages that a step posted, where it posted any
-abbrev pub posted_text : List ℕ → List ℕ
-posted_text [] = []
-posted_text (n ∷ ns) = codes " posted" ++ spaced_numbers (n ∷ ns)
-
--- the stamp of an update, and the messages that it posted
-abbrev pub stamped_text : Stamp → List ℕ → List ℕ
-stamped_text s ns = stamp_text s ++ posted_text ns
-
--- the values of an attribute: how many, and each in hexadecimal digits
-abbrev pub values_text : List (List ℕ) → List ℕ
-values_text vs = decimal (length vs) ++ flat_map (λ v. 32 ∷ encode_lower v) vs
-
--- octets: how many, and they in hexadecimal digits
-abbrev pub counted_octets : List ℕ → List ℕ
-counted_octets octets = decimal (length octets) ++ (32 ∷ encode_lower octets)
-
--- how many updates were accepted before one that found no stamp, of commands that make several
-abbrev pub accepted_text : Option ℕ → List ℕ
-accepted_text None = []
-accepted_text (Some k) = 32 ∷ decimal k
-
--- the names of the rules that octets break
+-- the name of a rule that octets break
 abbrev pub rule_name : Rule → List ℕ
 rule_name rule.Short = codes "Short"
 rule_name rule.BadTag = codes "BadTag"
@@ -92,71 +80,54 @@ rule_name rule.NotAbove = codes "NotAbove"
 rule_name rule.BadHeld = codes "BadHeld"
 rule_name rule.Trailing = codes "Trailing"
 
--- the rule that the answer to a line tells: of a message, which breaks none of the last two
+-- the rule that an answer tells: a wrong count, and octets that follow, are a wrong length
 abbrev pub told_rule : Rule → Rule
 told_rule rule.BadHeld = rule.BadLength
 told_rule rule.Trailing = rule.BadLength
 told_rule other = other
 
--- the names of refusals
-abbrev pub refusal_name : ScriptRefusal → List ℕ
-refusal_name why.HouseExists = codes "HouseExists"
-refusal_name why.NoHouse = codes "NoHouse"
-refusal_name why.NoDirectory = codes "NoDirectory"
-refusal_name why.DirectoryExists = codes "DirectoryExists"
-refusal_name why.BadMembers = codes "BadMembers"
-refusal_name why.NotMember = codes "NotMember"
-refusal_name why.Down = codes "Down"
-refusal_name why.Up = codes "Up"
-refusal_name why.NoMessage = codes "NoMessage"
-refusal_name why.NoReplica = codes "NoReplica"
-refusal_name why.NotMaster = codes "NotMaster"
-refusal_name why.NoSuchEntry = codes "NoSuchEntry"
-refusal_name why.EntryExists = codes "EntryExists"
-refusal_name why.WrongKind = codes "WrongKind"
-refusal_name (why.StampsSpent k ns) = codes "StampsSpent"
-refusal_name (why.NotJoined held since) = codes "NotJoined"
-refusal_name (why.NoSuchName done) = codes "NoSuchName"
-refusal_name (why.NotDirectory number) = codes "NotDirectory"
-refusal_name (why.Unreachable dir) = codes "Unreachable"
-refusal_name why.LinkCycle = codes "LinkCycle"
-refusal_name why.TooManyLinks = codes "TooManyLinks"
-refusal_name why.NameTooLong = codes "NameTooLong"
-refusal_name why.RootName = codes "RootName"
-refusal_name why.Vanished = codes "Vanished"
-refusal_name why.NotLink = codes "NotLink"
-refusal_name why.NotObject = codes "NotObject"
-refusal_name why.NothingToExport = codes "NothingToExport"
-refusal_name why.NothingToUnexport = codes "NothingToUnexport"
-refusal_name why.NoSuchMember = codes "NoSuchMember"
-refusal_name why.BadPriority = codes "BadPriority"
-refusal_name why.ElementTooLong = codes "ElementTooLong"
-refusal_name why.NoSuchElement = codes "NoSuchElement"
-refusal_name (why.Octets fault) = rule_name (told_rule fault.rule)
-refusal_name (why.NotAbove held) = codes "NotAbove"
-
--- the numbers after them
-abbrev pub refusal_numbers : ScriptRefusal → List ℕ
-refusal_numbers (why.StampsSpent k ns) = accepted_text k ++ posted_text ns
-refusal_numbers (why.NotJoined held since) = epochs_text held since
-refusal_numbers (why.NoSuchName done) = 32 ∷ decimal done
-refusal_numbers (why.NotDirectory number) = 32 ∷ decimal number
-refusal_numbers (why.Unreachable dir) = 32 ∷ decimal dir.0
-refusal_numbers (why.Octets fault) = 32 ∷ decimal fault.place
-refusal_numbers (why.NotAbove held) = 32 ∷ decimal held
-refusal_numbers other = []
+-- the name of a refusal, and its numbers
+abbrev pub refusal_words : ScriptRefusal → List (List ℕ)
+refusal_words why.HouseExists = codes "HouseExists" ∷ []
+refusal_words why.NoHouse = codes "NoHouse" ∷ []
+refusal_words why.NoDirectory = codes "NoDirectory" ∷ []
+refusal_words why.DirectoryExists = codes "DirectoryExists" ∷ []
+refusal_words why.BadMembers = codes "BadMembers" ∷ []
+refusal_words why.NotMember = codes "NotMember" ∷ []
+refusal_words why.Down = codes "Down" ∷ []
+refusal_words why.Up = codes "Up" ∷ []
+refusal_words why.NoMessage = codes "NoMessage" ∷ []
+refusal_words why.NoReplica = codes "NoReplica" ∷ []
+refusal_words why.NotMaster = codes "NotMaster" ∷ []
+refusal_words why.NoSuchEntry = codes "NoSuchEntry" ∷ []
+refusal_words why.EntryExists = codes "EntryExists" ∷ []
+refusal_words why.WrongKind = codes "WrongKind" ∷ []
+refusal_words (why.StampsSpent None ns) = codes "StampsSpent" ∷ posted_words ns
+refusal_words (why.StampsSpent (Some accepted) ns) = codes "StampsSpent" ∷ decimal accepted ∷ posted_words ns
+refusal_words (why.NotJoined held since) = codes "NotJoined" ∷ decimal held.0 ∷ decimal since.0 ∷ []
+refusal_words (why.NotAbove held) = codes "NotAbove" ∷ decimal held.0 ∷ []
+refusal_words (why.NoSuchName done) = codes "NoSuchName" ∷ decimal done ∷ []
+refusal_words (why.NotDirectory number) = codes "NotDirectory" ∷ decimal number ∷ []
+refusal_words (why.Unreachable dir) = codes "Unreachable" ∷ decimal dir.0 ∷ []
+refusal_words why.LinkCycle = codes "LinkCycle" ∷ []
+refusal_words why.TooManyLinks = codes "TooManyLinks" ∷ []
+refusal_words why.NameTooLong = codes "NameTooLong" ∷ []
+refusal_words why.RootName = codes "RootName" ∷ []
+refusal_words why.Vanished = codes "Vanished" ∷ []
+refusal_words why.NotLink = codes "NotLink" ∷ []
+refusal_words why.NotObject = codes "NotObject" ∷ []
+refusal_words why.NothingToExport = codes "NothingToExport" ∷ []
+refusal_words why.NothingToUnexport = codes "NothingToUnexport" ∷ []
+refusal_words why.NoSuchMember = codes "NoSuchMember" ∷ []
+refusal_words why.BadPriority = codes "BadPriority" ∷ []
+refusal_words why.ElementTooLong = codes "ElementTooLong" ∷ []
+refusal_words why.NoSuchElement = codes "NoSuchElement" ∷ []
+refusal_words (why.Octets fault) = rule_name (told_rule fault.rule) ∷ decimal fault.place ∷ []
 
 -- the name of a message by its tag; other numbers have none
 abbrev pub message_name : ℕ → List ℕ
 message_name tag =
-    if tag == 1 then codes "Update"
-    else (if tag == 2 then codes "Gather"
-    else (if tag == 3 then codes "Gathered"
-    else (if tag == 4 then codes "Spread"
-    else (if tag == 5 then codes "SpreadAck"
-    else (if tag == 6 then codes "Advance"
-    else (if tag == 7 then codes "Join"
-    else (if tag == 8 then codes "Leave" else [])))))))
+    get_or ([] ∷ codes "Update" ∷ codes "Gather" ∷ codes "Gathered" ∷ codes "Spread" ∷ codes "SpreadAck" ∷ codes "Advance" ∷ codes "Join" ∷ codes "Leave" ∷ []) tag []
 
 -- ---- dumps
 
@@ -174,13 +145,10 @@ member_text m = decimal m.house.0 ++ (58 ∷ (decimal m.since.0 ++ (58 ∷ membe
 abbrev pub members_text : List Member → List ℕ
 members_text = flat_map (λ m. 32 ∷ member_text m)
 
--- AllUpTo, or none, and the members
-abbrev pub state_text : Option Stamp → List Member → List ℕ
-state_text all_up_to members = codes " allupto " ++ (stamp_or (codes "none") all_up_to ++ (codes " members" ++ members_text members))
-
 -- the first line of a dump: the epoch, AllUpTo and the members
 abbrev pub dump_line : EpochNo → Option Stamp → List Member → List ℕ
-dump_line epoch all_up_to members = codes "dump epoch " ++ (decimal epoch.0 ++ state_text all_up_to members)
+dump_line epoch all_up_to members =
+    unwords (codes "dump epoch" ∷ decimal epoch.0 ∷ codes "allupto" ∷ stamp_or (codes "none") all_up_to ∷ codes "members" ∷ []) ++ members_text members
 
 -- the kind of an entry
 abbrev pub kind_word : Kind → List ℕ
@@ -193,21 +161,17 @@ abbrev pub presence : Bool → List ℕ
 presence true = codes "present"
 presence false = codes "absent"
 
--- the kind of an entry, its birth, and its death, if one is known
-abbrev pub life_text : EntryCell → List ℕ
-life_text e = kind_word e.kind ++ (32 ∷ (stamp_text e.birth ++ (32 ∷ stamp_or (codes "live") e.death)))
-
--- an entry: its name, and these
+-- an entry: its name, its kind, its birth, and its death, if one is known
 abbrev pub entry_line : List ℕ → EntryCell → List ℕ
-entry_line name e = codes "entry " ++ (name ++ (32 ∷ life_text e))
+entry_line name e = unwords (codes "entry" ∷ name ∷ kind_word e.kind ∷ stamp_text e.birth ∷ stamp_or (codes "live") e.death ∷ [])
 
 -- an attribute: its name, and its clear, if there was one
 abbrev pub attr_line : List ℕ → Option Stamp → List ℕ
-attr_line name cleared = codes "attr " ++ (name ++ (32 ∷ stamp_or (codes "none") cleared))
+attr_line name cleared = unwords (codes "attr" ∷ name ∷ stamp_or (codes "none") cleared ∷ [])
 
 -- a value, and its mark
 abbrev pub value_line : List ℕ → ValueMark → List ℕ
-value_line value m = codes "value " ++ (encode_lower value ++ (32 ∷ (presence m.present ++ (32 ∷ stamp_text m.stamp))))
+value_line value m = unwords (codes "value" ∷ encode_lower value ∷ presence m.present ∷ stamp_text m.stamp ∷ [])
 
 -- the lines of each key and of what is at it, in ascending order
 unfoldable pub lines_of_each : {X : Type 0} → (List ℕ → X → List (List ℕ)) → List (List ℕ × X) → List (List ℕ)
@@ -237,11 +201,11 @@ dump_lines epoch all_up_to members table = dump_line epoch all_up_to members ∷
 
 -- a binding (own, after C706, string bindings)
 abbrev pub binding_line : StringBinding → List ℕ
-binding_line b = codes "binding " ++ binding_text b
+binding_line b = unwords (codes "binding" ∷ binding_text b ∷ [])
 
 -- the last line of an import: how many bindings there are
 abbrev pub import_end : ℕ → List ℕ
-import_end n = codes "end " ++ decimal n
+import_end n = unwords (codes "end" ∷ decimal n ∷ [])
 
 -- an import: a line of each binding, and the end
 abbrev pub import_lines : List StringBinding → List (List ℕ)
@@ -249,27 +213,30 @@ import_lines bs = map binding_line bs ++ import_end (length bs) ∷ []
 
 -- ---- answers
 
--- what an answer says that has one line; one of several lines says nothing here
+-- the words of an answer of one line; one of several lines has none here
+abbrev pub answer_words : Answer → List (List ℕ)
+answer_words answer.Done = codes "ok" ∷ []
+answer_words (answer.Posted ns) = codes "ok" ∷ posted_words ns
+answer_words (answer.Made d s ns) = codes "ok" ∷ decimal d.0 ∷ stamp_text s ∷ posted_words ns
+answer_words (answer.Stamped s ns) = codes "ok" ∷ stamp_text s ∷ posted_words ns
+answer_words (answer.Epoch e ns) = codes "ok" ∷ decimal e.0 ∷ posted_words ns
+answer_words (answer.Taken ns) = codes "ok" ∷ codes "taken" ∷ posted_words ns
+answer_words (answer.Late of_message of_house) = codes "ok" ∷ codes "late" ∷ decimal of_message.0 ∷ decimal of_house.0 ∷ []
+answer_words (answer.Early of_message of_house) = codes "ok" ∷ codes "early" ∷ decimal of_message.0 ∷ decimal of_house.0 ∷ []
+answer_words (answer.Stale s running) = codes "ok" ∷ codes "stale" ∷ stamp_text s ∷ stamp_or (codes "none") running ∷ []
+answer_words answer.NoReplica = codes "ok" ∷ codes "noreplica" ∷ []
+answer_words (answer.Complete s ns) = codes "ok" ∷ codes "complete" ∷ stamp_text s ∷ posted_words ns
+answer_words (answer.Values vs) = codes "ok" ∷ decimal (length vs) ∷ map encode_lower vs
+answer_words (answer.Target components) = codes "ok" ∷ full_name_octets components ∷ []
+answer_words (answer.Updates n ns) = codes "ok" ∷ decimal n ∷ posted_words ns
+answer_words (answer.Octets octets) = codes "ok" ∷ decimal (length octets) ∷ encode_lower octets ∷ []
+answer_words (answer.Decoded tag used) = codes "ok" ∷ message_name tag ∷ decimal used ∷ []
+answer_words (answer.Refused why) = codes "refused" ∷ refusal_words why
+answer_words other = []
+
+-- what an answer says that has one line
 abbrev pub answer_line : Answer → List ℕ
-answer_line answer.Done = codes "ok"
-answer_line (answer.Posted ns) = codes "ok" ++ posted_text ns
-answer_line (answer.Made d s ns) = codes "ok " ++ (decimal d.0 ++ (32 ∷ stamped_text s ns))
-answer_line (answer.Stamped s ns) = codes "ok " ++ stamped_text s ns
-answer_line (answer.Epoch e ns) = codes "ok " ++ (decimal e.0 ++ posted_text ns)
-answer_line (answer.Taken ns) = codes "ok taken" ++ posted_text ns
-answer_line (answer.Late of_message of_house) = codes "ok late" ++ epochs_text of_message of_house
-answer_line (answer.Early of_message of_house) = codes "ok early" ++ epochs_text of_message of_house
-answer_line (answer.Stale s running) = codes "ok stale " ++ (stamp_text s ++ (32 ∷ stamp_or (codes "none") running))
-answer_line answer.NoReplica = codes "ok noreplica"
-answer_line (answer.Complete s ns) = codes "ok complete " ++ stamped_text s ns
-answer_line (answer.Values vs) = codes "ok " ++ values_text vs
-answer_line (answer.Target components) = codes "ok " ++ full_name_octets components
-answer_line (answer.Updates n ns) = codes "ok " ++ (decimal n ++ posted_text ns)
-answer_line (answer.Bindings bs) = []
-answer_line (answer.Dump epoch all_up_to members table) = []
-answer_line (answer.Octets octets) = codes "ok " ++ counted_octets octets
-answer_line (answer.Decoded tag used) = codes "ok " ++ (message_name tag ++ (32 ∷ decimal used))
-answer_line (answer.Refused why) = codes "refused " ++ (refusal_name why ++ refusal_numbers why)
+answer_line a = unwords (answer_words a)
 
 -- the lines of an answer: an import and a dump may have several, each other answer has one
 abbrev pub answer_lines : Answer → List (List ℕ)

@@ -119,10 +119,10 @@ pub enum ScriptRefusal {
     /// The member's name and the annotation are too long together.
     ElementTooLong,
     NoSuchElement,
-    /// Octets begin with no message: their first fault.
+    /// The number of a new epoch is not above the one that the house holds.
+    NotAbove(EpochNo),
+    /// Octets begin with no message, or are no image.
     Octets(RecordFault),
-    /// An epoch is not above the one that the house holds, which is this.
-    NotAbove(usize),
 }
 
 impl Drop for ScriptRefusal {
@@ -160,8 +160,8 @@ impl Drop for ScriptRefusal {
             ScriptRefusal::BadPriority => (),
             ScriptRefusal::ElementTooLong => (),
             ScriptRefusal::NoSuchElement => (),
-            ScriptRefusal::Octets(_field_1) => (),
             ScriptRefusal::NotAbove(_field_1) => (),
+            ScriptRefusal::Octets(_field_1) => (),
         }
     }
 }

@@ -1,10 +1,12 @@
 // The lines of a dump: what a house holds of a directory.
 ghost use Rattle.std.specs.Prelude.{◌≡◌, ◌++◌, ◌∷◌, [], IfOk, OnOk, codes, decimal};
-ghost use Rattle.script_answers.specs.Texts.{line_text, lines_text, member_letter, member_text, members_text, state_text, kind_word, life_text};
+ghost use Rattle.script_answers.specs.Texts.{line_text, lines_text, member_letter, member_text, members_text, kind_word};
 ghost use Rattle.script_answers.specs.Texts.{presence, dump_line, entry_line, attr_line, value_line, each_lines, value_lines, attr_lines};
 ghost use Rattle.script_answers.specs.Texts.{entry_lines, dump_lines};
 
-use crate::pieces::{begin_line, push_hex, push_number, push_spaced, push_stamp, push_stamp_or};
+use crate::pieces::{
+    begin_line, push_hex, push_number, push_spaced, push_spaced_stamp, push_stamp_or, push_word,
+};
 use attr_sets::{AttrCell, Value, ValueMap, ValueMark};
 use cds_stamps::{AttrName, EpochNo, Member, MemberKind, Members, SimpleName, Stamp};
 use directory::{AttrMap, EntryCell, Kind, Table};
@@ -42,20 +44,6 @@ fn push_members(line: &mut Vec<u8>, members: &[Member]) -> Result<(), AllocError
     Ok(())
 }
 
-// AllUpTo, and the members.
-fn push_state(
-    line: &mut Vec<u8>,
-    all_up_to: Option<Stamp>,
-    members: &[Member],
-) -> Result<(), AllocError>
-    ensures { OnOk result (line.new.items ≡ line.old.items ++ state_text all_up_to members.now) }
-{
-    line.extend_from_slice(b" allupto ")?;
-    push_stamp_or(line, b"none", all_up_to)?;
-    line.extend_from_slice(b" members")?;
-    push_members(line, members)
-}
-
 // The first line of a dump: the epoch, AllUpTo and the members.
 fn push_dump(
     line: &mut Vec<u8>,
@@ -66,9 +54,13 @@ fn push_dump(
     ensures { OnOk result
         (line.new.items ≡ line.old.items ++ dump_line epoch all_up_to members.now) }
 {
-    line.extend_from_slice(b"dump epoch ")?;
-    push_number(line, epoch.0)?;
-    push_state(line, all_up_to, members)
+    line.extend_from_slice(b"dump epoch")?;
+    push_spaced(line, epoch.0)?;
+    push_word(line, b"allupto")?;
+    line.push(b' ')?;
+    push_stamp_or(line, b"none", all_up_to)?;
+    push_word(line, b"members")?;
+    push_members(line, members)
 }
 
 // The word of an entry's kind.
@@ -89,33 +81,24 @@ fn presence_of(present: bool) -> &'static [u8]
     if present { b"present" } else { b"absent" }
 }
 
-// The kind of an entry, its birth, and its death, if one is known.
-fn push_life(line: &mut Vec<u8>, entry: &EntryCell) -> Result<(), AllocError>
-    ensures { OnOk result (line.new.items ≡ line.old.items ++ life_text entry.now) }
-{
-    line.extend_from_slice(word_of(entry.kind))?;
-    line.push(b' ')?;
-    push_stamp(line, &entry.birth)?;
-    line.push(b' ')?;
-    push_stamp_or(line, b"live", entry.death)
-}
-
-// An entry: its name, kind, birth and death.
+// An entry: its name, its kind, its birth, and its death, if one is known.
 fn push_entry(line: &mut Vec<u8>, name: &SimpleName, entry: &EntryCell) -> Result<(), AllocError>
     ensures { OnOk result (line.new.items ≡ line.old.items ++ entry_line name.now entry.now) }
 {
-    line.extend_from_slice(b"entry ")?;
-    line.extend_from_slice(name.octets())?;
+    line.extend_from_slice(b"entry")?;
+    push_word(line, name.octets())?;
+    push_word(line, word_of(entry.kind))?;
+    push_spaced_stamp(line, &entry.birth)?;
     line.push(b' ')?;
-    push_life(line, entry)
+    push_stamp_or(line, b"live", entry.death)
 }
 
 // An attribute: its name, and its clear, if there was one.
 fn push_attr(line: &mut Vec<u8>, name: &AttrName, cleared: Option<Stamp>) -> Result<(), AllocError>
     ensures { OnOk result (line.new.items ≡ line.old.items ++ attr_line name.now cleared) }
 {
-    line.extend_from_slice(b"attr ")?;
-    line.extend_from_slice(name.octets())?;
+    line.extend_from_slice(b"attr")?;
+    push_word(line, name.octets())?;
     line.push(b' ')?;
     push_stamp_or(line, b"none", cleared)
 }
@@ -126,10 +109,8 @@ fn push_value(line: &mut Vec<u8>, value: &Value, mark: &ValueMark) -> Result<(),
 {
     line.extend_from_slice(b"value ")?;
     push_hex(line, value.octets())?;
-    line.push(b' ')?;
-    line.extend_from_slice(presence_of(mark.present))?;
-    line.push(b' ')?;
-    push_stamp(line, &mark.stamp)
+    push_word(line, presence_of(mark.present))?;
+    push_spaced_stamp(line, &mark.stamp)
 }
 
 // ---- whole lines

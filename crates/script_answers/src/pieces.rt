@@ -2,7 +2,7 @@
 // after what is there. After it ran out of memory the text may have grown.
 ghost use Rattle.std.specs.Prelude.{◌≡◌, ◌++◌, [], ◌∷◌, length, take, OnOk, OnErr, decimal};
 ghost use Rattle.hex.specs.Hex.{encode_lower};
-ghost use Rattle.script_answers.specs.Texts.{stamp_text, stamp_or, epochs_text, posted_text, stamped_text};
+ghost use Rattle.script_answers.specs.Texts.{spaced, stamp_text, stamp_or, posted_words};
 
 use cds_stamps::{EpochNo, Stamp};
 use itoa::Buffer;
@@ -24,6 +24,15 @@ pub(crate) fn push_spaced(line: &mut Vec<u8>, number: u64) -> Result<(), AllocEr
 {
     line.push(b' ')?;
     push_number(line, number)
+}
+
+/// A word after a space.
+pub(crate) fn push_word(line: &mut Vec<u8>, word: &[u8]) -> Result<(), AllocError>
+    ensures ok { OnOk result (line.new.items ≡ line.old.items ++ 32 ∷ word.now) }
+    ensures err { OnErr result (take (length line.old.items) line.new.items ≡ line.old.items) }
+{
+    line.push(b' ')?;
+    line.extend_from_slice(word)
 }
 
 /// What a line begins with: the number of the script line, and a space.
@@ -60,6 +69,15 @@ pub fn push_stamp(line: &mut Vec<u8>, stamp: &Stamp) -> Result<(), AllocError>
     push_hex(line, &stamp.node.number().to_be_bytes()[2..])
 }
 
+/// The same after a space.
+pub(crate) fn push_spaced_stamp(line: &mut Vec<u8>, stamp: &Stamp) -> Result<(), AllocError>
+    ensures ok { OnOk result (line.new.items ≡ line.old.items ++ 32 ∷ stamp_text stamp.now) }
+    ensures err { OnErr result (take (length line.old.items) line.new.items ≡ line.old.items) }
+{
+    line.push(b' ')?;
+    push_stamp(line, stamp)
+}
+
 /// A stamp, or this word where there is none.
 pub fn push_stamp_or(
     line: &mut Vec<u8>,
@@ -77,7 +95,8 @@ pub fn push_stamp_or(
 
 /// Two epochs, each after a space.
 pub(crate) fn push_epochs(line: &mut Vec<u8>, a: EpochNo, b: EpochNo) -> Result<(), AllocError>
-    ensures ok { OnOk result (line.new.items ≡ line.old.items ++ epochs_text a b) }
+    ensures ok { OnOk result
+        (line.new.items ≡ line.old.items ++ spaced (decimal a.0 ∷ decimal b.0 ∷ [])) }
     ensures err { OnErr result (take (length line.old.items) line.new.items ≡ line.old.items) }
 {
     push_spaced(line, a.0)?;
@@ -86,7 +105,8 @@ pub(crate) fn push_epochs(line: &mut Vec<u8>, a: EpochNo, b: EpochNo) -> Result<
 
 /// The serial numbers of the messages that were posted, if any.
 pub(crate) fn push_posted(line: &mut Vec<u8>, serials: &[u64]) -> Result<(), AllocError>
-    ensures ok { OnOk result (line.new.items ≡ line.old.items ++ posted_text serials.now) }
+    ensures ok { OnOk result
+        (line.new.items ≡ line.old.items ++ spaced (posted_words serials.now)) }
     ensures err { OnErr result (take (length line.old.items) line.new.items ≡ line.old.items) }
 {
     if serials.is_empty() {
@@ -99,16 +119,17 @@ pub(crate) fn push_posted(line: &mut Vec<u8>, serials: &[u64]) -> Result<(), All
     Ok(())
 }
 
-/// The stamp of an update, and the messages that were posted.
+/// The stamp of an update after a space, and the messages that were posted.
 pub(crate) fn push_stamped(
     line: &mut Vec<u8>,
     stamp: &Stamp,
     serials: &[u64],
 ) -> Result<(), AllocError>
     ensures ok { OnOk result
-        (line.new.items ≡ line.old.items ++ stamped_text stamp.now serials.now) }
+        (line.new.items
+        ≡ line.old.items ++ spaced (stamp_text stamp.now ∷ posted_words serials.now)) }
     ensures err { OnErr result (take (length line.old.items) line.new.items ≡ line.old.items) }
 {
-    push_stamp(line, stamp)?;
+    push_spaced_stamp(line, stamp)?;
     push_posted(line, serials)
 }

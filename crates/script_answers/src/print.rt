@@ -1,21 +1,20 @@
 // Answers and faults to text.
-ghost use Rattle.std.specs.Prelude.{◌≡◌, ◌++◌, ◌∷◌, length, take, IfOk, OnOk, OnErr, codes, decimal};
-ghost use Rattle.cell_names.specs.FullNames.{full_name_octets};
-ghost use Rattle.script_answers.specs.Texts.{line_text, posted_text, stamp_text, stamp_or, epochs_text, stamped_text, values_text, counted_octets};
-ghost use Rattle.script_answers.specs.Texts.{message_name, refusal_name, refusal_numbers, answer_line, answer_text, fault_text};
+ghost use Rattle.std.specs.Prelude.{◌≡◌, ◌++◌, ◌∷◌, [], length, take, drop, get_or, map, IfOk, OnOk, OnErr, codes, decimal};
+ghost use Rattle.hex.specs.Hex.{encode_lower};
+ghost use Rattle.script_answers.specs.Texts.{spaced, line_text, posted_words, stamp_text, stamp_or, message_name};
+ghost use Rattle.script_answers.specs.Texts.{answer_words, answer_line, answer_text, fault_text};
 ghost use Rattle.script_answers.specs.Texts.{parse_fault_text};
 
 use crate::answer::{Answer, ScriptRefusal};
 use crate::dump::dump_text;
 use crate::import::import_text;
 use crate::pieces::{
-    begin_line, push_epochs, push_hex, push_number, push_posted, push_spaced, push_stamp,
-    push_stamp_or, push_stamped,
+    begin_line, push_epochs, push_hex, push_number, push_posted, push_spaced, push_spaced_stamp,
+    push_stamp_or, push_stamped, push_word,
 };
 use crate::refusals::push_refusal;
 use attr_sets::Value;
 use cds_stamps::{DirId, EpochNo, Stamp};
-use cell_names::FullName;
 use cell_script::ParseFault;
 use std::alloc::{AllocError, Global};
 
@@ -24,35 +23,16 @@ const USUAL_LINE: usize = 80;
 
 // How many values, and each in hexadecimal digits.
 fn push_values(line: &mut Vec<u8>, values: &[Value]) -> Result<(), AllocError>
-    ensures ok { OnOk result (line.new.items ≡ line.old.items ++ values_text values.now) }
+    ensures ok { OnOk result (line.new.items ≡ line.old.items
+        ++ spaced (decimal (length values.now) ∷ map encode_lower values.now)) }
     ensures err { OnErr result (take (length line.old.items) line.new.items ≡ line.old.items) }
 {
-    push_number(line, values.len() as u64)?;
+    push_spaced(line, values.len() as u64)?;
     for value in values {
         line.push(b' ')?;
         push_hex(line, value.octets())?;
     }
     Ok(())
-}
-
-// The answer of values that show.
-fn push_shown(line: &mut Vec<u8>, values: &[Value]) -> Result<(), AllocError>
-    ensures ok { OnOk result
-        (line.new.items ≡ line.old.items ++ (codes "ok " ++ values_text values.now)) }
-    ensures err { OnErr result (take (length line.old.items) line.new.items ≡ line.old.items) }
-{
-    line.extend_from_slice(b"ok ")?;
-    push_values(line, values)
-}
-
-// The answer of the name that a link leads to.
-fn push_target(alloc: Global, line: &mut Vec<u8>, name: &FullName) -> Result<(), AllocError>
-    ensures ok { OnOk result
-        (line.new.items ≡ line.old.items ++ (codes "ok " ++ full_name_octets name.now)) }
-    ensures err { OnErr result (take (length line.old.items) line.new.items ≡ line.old.items) }
-{
-    line.extend_from_slice(b"ok ")?;
-    line.extend_from_slice(&name.print(alloc)?)
 }
 
 // The name of a message by its tag.
@@ -72,151 +52,152 @@ fn message_of(tag: u8) -> &'static [u8]
     }
 }
 
-// The answer of a message: its name by its tag, and how many octets it has.
+// A message: its name by its tag, and how many octets it has.
 fn push_message(line: &mut Vec<u8>, tag: u8, used: usize) -> Result<(), AllocError>
     ensures ok { OnOk result
-        (line.new.items
-        ≡ line.old.items ++ (codes "ok " ++ (message_name tag ++ 32 ∷ decimal used))) }
+        (line.new.items ≡ line.old.items ++ spaced (message_name tag ∷ decimal used ∷ [])) }
     ensures err { OnErr result (take (length line.old.items) line.new.items ≡ line.old.items) }
 {
-    line.extend_from_slice(b"ok ")?;
-    line.extend_from_slice(message_of(tag))?;
+    push_word(line, message_of(tag))?;
     push_spaced(line, used as u64)
 }
 
-// The answer of a new directory: its number, the stamp of its entry, and the messages that were
-// posted.
+// A new directory: its number, the stamp of its entry, and the messages that were posted.
 fn push_made(
     line: &mut Vec<u8>,
     dir: DirId,
     stamp: &Stamp,
     serials: &[u64],
 ) -> Result<(), AllocError>
-    ensures ok { OnOk result (line.new.items
-        ≡ line.old.items
-        ++ (codes "ok " ++ (decimal dir.0 ++ 32 ∷ stamped_text stamp.now serials.now))) }
+    ensures ok { OnOk result (line.new.items ≡ line.old.items
+        ++ spaced (decimal dir.0 ∷ stamp_text stamp.now ∷ posted_words serials.now)) }
     ensures err { OnErr result (take (length line.old.items) line.new.items ≡ line.old.items) }
 {
-    line.extend_from_slice(b"ok ")?;
-    push_number(line, u64::from(dir.0))?;
-    line.push(b' ')?;
+    push_spaced(line, u64::from(dir.0))?;
     push_stamped(line, stamp, serials)
 }
 
-// The messages that were posted, after a word.
+// A word, and the messages that were posted.
 fn push_posted_behind(line: &mut Vec<u8>, word: &[u8], serials: &[u64]) -> Result<(), AllocError>
     ensures ok { OnOk result
-        (line.new.items ≡ line.old.items ++ (word.now ++ posted_text serials.now)) }
+        (line.new.items ≡ line.old.items ++ spaced (word.now ∷ posted_words serials.now)) }
     ensures err { OnErr result (take (length line.old.items) line.new.items ≡ line.old.items) }
 {
-    line.extend_from_slice(word)?;
+    push_word(line, word)?;
     push_posted(line, serials)
 }
 
-// The answer of a number, and of the messages that were posted.
+// A number, and the messages that were posted.
 fn push_counted(line: &mut Vec<u8>, number: u64, serials: &[u64]) -> Result<(), AllocError>
     ensures ok { OnOk result
-        (line.new.items
-        ≡ line.old.items ++ (codes "ok " ++ (decimal number ++ posted_text serials.now))) }
+        (line.new.items ≡ line.old.items ++ spaced (decimal number ∷ posted_words serials.now)) }
     ensures err { OnErr result (take (length line.old.items) line.new.items ≡ line.old.items) }
 {
-    line.extend_from_slice(b"ok ")?;
-    push_number(line, number)?;
+    push_spaced(line, number)?;
     push_posted(line, serials)
 }
 
-// A stamp and the messages that were posted, after words.
+// A word, a stamp, and the messages that were posted.
 fn push_stamped_behind(
     line: &mut Vec<u8>,
-    words: &[u8],
+    word: &[u8],
     stamp: &Stamp,
     serials: &[u64],
 ) -> Result<(), AllocError>
-    ensures ok { OnOk result
-        (line.new.items ≡ line.old.items ++ (words.now ++ stamped_text stamp.now serials.now)) }
+    ensures ok { OnOk result (line.new.items ≡ line.old.items
+        ++ spaced (word.now ∷ stamp_text stamp.now ∷ posted_words serials.now)) }
     ensures err { OnErr result (take (length line.old.items) line.new.items ≡ line.old.items) }
 {
-    line.extend_from_slice(words)?;
+    push_word(line, word)?;
     push_stamped(line, stamp, serials)
 }
 
-// Two epochs, after words.
+// A word, and two epochs.
 fn push_epochs_behind(
     line: &mut Vec<u8>,
-    words: &[u8],
+    word: &[u8],
     a: EpochNo,
     b: EpochNo,
 ) -> Result<(), AllocError>
-    ensures ok { OnOk result (line.new.items ≡ line.old.items ++ (words.now ++ epochs_text a b)) }
+    ensures ok { OnOk result
+        (line.new.items ≡ line.old.items ++ spaced (word.now ∷ decimal a.0 ∷ decimal b.0 ∷ [])) }
     ensures err { OnErr result (take (length line.old.items) line.new.items ≡ line.old.items) }
 {
-    line.extend_from_slice(words)?;
+    push_word(line, word)?;
     push_epochs(line, a, b)
 }
 
-// The answer of another skulk: its stamp, and that of the skulk that runs.
+// Another skulk: its stamp, and that of the skulk that runs.
 fn push_stale(line: &mut Vec<u8>, stamp: &Stamp, running: Option<Stamp>) -> Result<(), AllocError>
-    ensures ok { OnOk result (line.new.items
-        ≡ line.old.items
-        ++ (codes "ok stale " ++ (stamp_text stamp.now ++ 32 ∷ stamp_or (codes "none") running))) }
+    ensures ok { OnOk result (line.new.items ≡ line.old.items
+        ++ spaced (codes "stale" ∷ stamp_text stamp.now ∷ stamp_or (codes "none") running ∷ [])) }
     ensures err { OnErr result (take (length line.old.items) line.new.items ≡ line.old.items) }
 {
-    line.extend_from_slice(b"ok stale ")?;
-    push_stamp(line, stamp)?;
+    push_word(line, b"stale")?;
+    push_spaced_stamp(line, stamp)?;
     line.push(b' ')?;
     push_stamp_or(line, b"none", running)
 }
 
-// The answer of octets: how many, and they in hexadecimal digits.
+// Octets: how many, and they in hexadecimal digits.
 fn push_octets(line: &mut Vec<u8>, octets: &[u8]) -> Result<(), AllocError>
-    ensures ok { OnOk result
-        (line.new.items ≡ line.old.items ++ (codes "ok " ++ counted_octets octets.now)) }
+    ensures ok { OnOk result (line.new.items ≡ line.old.items
+        ++ spaced (decimal (length octets.now) ∷ encode_lower octets.now ∷ [])) }
     ensures err { OnErr result (take (length line.old.items) line.new.items ≡ line.old.items) }
 {
-    line.extend_from_slice(b"ok ")?;
-    push_number(line, octets.len() as u64)?;
+    push_spaced(line, octets.len() as u64)?;
     line.push(b' ')?;
     push_hex(line, octets)
 }
 
-// The answer of a refusal: its name, and its numbers.
-fn push_refused(line: &mut Vec<u8>, refusal: &ScriptRefusal) -> Result<(), AllocError>
-    ensures ok { OnOk result (line.new.items
-        ≡ line.old.items
-        ++ (codes "refused " ++ (refusal_name refusal.now ++ refusal_numbers refusal.now))) }
+// The first word of an answer that has one line.
+fn first_word(answer: &Answer) -> &'static [u8]
+    ensures { result.now ≡ get_or (answer_words answer.now) 0 [] }
+{
+    match answer {
+        Answer::Refused(_) => b"refused",
+        Answer::Bindings(_) | Answer::Dump(_, _, _, _) => b"",
+        _ => b"ok",
+    }
+}
+
+// The other words of an answer that has one line.
+fn push_rest(alloc: Global, line: &mut Vec<u8>, answer: &Answer) -> Result<(), AllocError>
+    ensures ok { OnOk result
+        (line.new.items ≡ line.old.items ++ spaced (drop 1 (answer_words answer.now))) }
     ensures err { OnErr result (take (length line.old.items) line.new.items ≡ line.old.items) }
 {
-    line.extend_from_slice(b"refused ")?;
-    push_refusal(line, refusal)
+    match answer {
+        Answer::Posted(serials) => push_posted(line, serials.list()),
+        Answer::Made(dir, stamp, serials) => push_made(line, *dir, stamp, serials.list()),
+        Answer::Stamped(stamp, serials) => push_stamped(line, stamp, serials.list()),
+        Answer::Epoch(epoch, serials) => push_counted(line, epoch.0, serials.list()),
+        Answer::Taken(serials) => push_posted_behind(line, b"taken", serials.list()),
+        Answer::Late(message, house) => push_epochs_behind(line, b"late", *message, *house),
+        Answer::Early(message, house) => push_epochs_behind(line, b"early", *message, *house),
+        Answer::Stale(stamp, running) => push_stale(line, stamp, *running),
+        Answer::NoReplica => push_word(line, b"noreplica"),
+        Answer::Complete(stamp, serials) => {
+            push_stamped_behind(line, b"complete", stamp, serials.list())
+        }
+        Answer::Values(values) => push_values(line, values.list()),
+        Answer::Target(name) => push_word(line, &name.print(alloc)?),
+        Answer::Updates(number, serials) => push_counted(line, *number, serials.list()),
+        Answer::Octets(octets) => push_octets(line, octets.list()),
+        Answer::Decoded(tag, used) => push_message(line, *tag, *used),
+        Answer::Refused(refusal) => push_refusal(line, refusal),
+        Answer::Done | Answer::Bindings(_) | Answer::Dump(_, _, _, _) => Ok(()),
+    }
 }
 
 // What an answer says that has one line.
+#[tactic(auto, using(crate::proofs::Printing::first_and_rest))]
 fn push_answer(alloc: Global, line: &mut Vec<u8>, answer: &Answer) -> Result<(), AllocError>
     ensures ok { OnOk result (line.new.items ≡ line.old.items ++ answer_line answer.now) }
     ensures err { OnErr result (take (length line.old.items) line.new.items ≡ line.old.items) }
 {
-    match answer {
-        Answer::Done => line.extend_from_slice(b"ok"),
-        Answer::Posted(serials) => push_posted_behind(line, b"ok", serials.list()),
-        Answer::Made(dir, stamp, serials) => push_made(line, *dir, stamp, serials.list()),
-        Answer::Stamped(stamp, serials) => push_stamped_behind(line, b"ok ", stamp, serials.list()),
-        Answer::Epoch(epoch, serials) => push_counted(line, epoch.0, serials.list()),
-        Answer::Taken(serials) => push_posted_behind(line, b"ok taken", serials.list()),
-        Answer::Late(message, house) => push_epochs_behind(line, b"ok late", *message, *house),
-        Answer::Early(message, house) => push_epochs_behind(line, b"ok early", *message, *house),
-        Answer::Stale(stamp, running) => push_stale(line, stamp, *running),
-        Answer::NoReplica => line.extend_from_slice(b"ok noreplica"),
-        Answer::Complete(stamp, serials) => {
-            push_stamped_behind(line, b"ok complete ", stamp, serials.list())
-        }
-        Answer::Values(values) => push_shown(line, values.list()),
-        Answer::Target(name) => push_target(alloc, line, name),
-        Answer::Updates(number, serials) => push_counted(line, *number, serials.list()),
-        Answer::Octets(octets) => push_octets(line, octets.list()),
-        Answer::Decoded(tag, used) => push_message(line, *tag, *used),
-        Answer::Refused(refusal) => push_refused(line, refusal),
-        Answer::Bindings(_) | Answer::Dump(_, _, _, _) => Ok(()),
-    }
+    line.extend_from_slice(first_word(answer))?;
+    push_rest(alloc, line, answer)
 }
 
 // The line of an answer that has one. After it ran out of memory the text may have grown.

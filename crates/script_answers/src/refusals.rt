@@ -1,16 +1,16 @@
 // The text of refusals.
-ghost use Rattle.std.specs.Prelude.{◌≡◌, ◌++◌, length, take, OnOk, OnErr};
-ghost use Rattle.script_answers.specs.Texts as texts;
-ghost use Rattle.script_answers.specs.Texts.{accepted_text, refusal_name, refusal_numbers};
+ghost use Rattle.std.specs.Prelude.{◌≡◌, ◌++◌, ◌∷◌, [], length, take, drop, OnOk, OnErr};
+ghost use Rattle.script_answers.specs.declared.answer.ScriptRefusal.TheVariants as why;
+ghost use Rattle.script_answers.specs.Texts.{spaced, rule_name, told_rule, refusal_words};
 
 use crate::answer::ScriptRefusal;
-use crate::pieces::{push_epochs, push_posted, push_spaced};
+use crate::pieces::{push_epochs, push_posted, push_spaced, push_word};
 use record_fields::Rule;
 use std::alloc::AllocError;
 
 /// The name of a rule that octets break.
 pub fn rule_name(rule: Rule) -> &'static str
-    ensures { result.now ≡ texts.rule_name rule }
+    ensures { result.now ≡ rule_name rule }
 {
     match rule {
         Rule::Short => "Short",
@@ -25,19 +25,19 @@ pub fn rule_name(rule: Rule) -> &'static str
     }
 }
 
-// The rule that the answer to a line tells.
+// The rule that an answer tells.
 fn told_rule(rule: Rule) -> Rule
-    ensures { result ≡ texts.told_rule rule }
+    ensures { result ≡ told_rule rule }
 {
     match rule {
         Rule::BadHeld | Rule::Trailing => Rule::BadLength,
-        _ => rule,
+        rule => rule,
     }
 }
 
 // The name of a refusal.
 fn name_of(refusal: &ScriptRefusal) -> &'static [u8]
-    ensures { result.now ≡ refusal_name refusal.now }
+    ensures { take 1 (refusal_words refusal.now) ≡ result.now ∷ [] }
 {
     match refusal {
         ScriptRefusal::HouseExists => b"HouseExists",
@@ -72,49 +72,52 @@ fn name_of(refusal: &ScriptRefusal) -> &'static [u8]
         ScriptRefusal::BadPriority => b"BadPriority",
         ScriptRefusal::ElementTooLong => b"ElementTooLong",
         ScriptRefusal::NoSuchElement => b"NoSuchElement",
-        ScriptRefusal::Octets(fault) => rule_name(told_rule(fault.rule)).as_bytes(),
         ScriptRefusal::NotAbove(_) => b"NotAbove",
+        ScriptRefusal::Octets(fault) => rule_name(told_rule(fault.rule)).as_bytes(),
     }
 }
 
 // The numbers of a refusal.
 fn push_numbers(line: &mut Vec<u8>, refusal: &ScriptRefusal) -> Result<(), AllocError>
-    ensures ok { OnOk result (line.new.items ≡ line.old.items ++ refusal_numbers refusal.now) }
+    ensures ok { OnOk result
+        (line.new.items ≡ line.old.items ++ spaced (drop 1 (refusal_words refusal.now))) }
     ensures err { OnErr result (take (length line.old.items) line.new.items ≡ line.old.items) }
 {
     match refusal {
-        ScriptRefusal::StampsSpent(accepted, serials) => {
-            push_accepted(line, *accepted)?;
-            push_posted(line, serials.list())
-        }
+        ScriptRefusal::StampsSpent(accepted, serials) => push_spent(line, *accepted, serials.list()),
         ScriptRefusal::NotJoined(held, since) => push_epochs(line, *held, *since),
+        ScriptRefusal::NotAbove(held) => push_spaced(line, held.0),
         ScriptRefusal::NoSuchName(done) => push_spaced(line, u64::from(*done)),
         ScriptRefusal::NotDirectory(number) => push_spaced(line, u64::from(*number)),
         ScriptRefusal::Unreachable(dir) => push_spaced(line, u64::from(dir.0)),
         ScriptRefusal::Octets(fault) => push_spaced(line, fault.place as u64),
-        ScriptRefusal::NotAbove(place) => push_spaced(line, *place as u64),
         _ => Ok(()),
     }
 }
 
-// How many updates were accepted, if that is said.
-fn push_accepted(line: &mut Vec<u8>, accepted: Option<u64>) -> Result<(), AllocError>
-    ensures ok { OnOk result (line.new.items ≡ line.old.items ++ accepted_text accepted) }
+// How many updates were accepted, if that is said, and the messages that were posted.
+fn push_spent(
+    line: &mut Vec<u8>,
+    accepted: Option<u64>,
+    serials: &[u64],
+) -> Result<(), AllocError>
+    ensures ok { OnOk result (line.new.items ≡ line.old.items
+        ++ spaced (drop 1 (refusal_words (why.StampsSpent accepted serials.now)))) }
     ensures err { OnErr result (take (length line.old.items) line.new.items ≡ line.old.items) }
 {
-    match accepted {
-        None => Ok(()),
-        Some(count) => push_spaced(line, count),
+    if let Some(count) = accepted {
+        push_spaced(line, count)?;
     }
+    push_posted(line, serials)
 }
 
-/// The name of a refusal, and its numbers.
+/// The name of a refusal and its numbers, each after a space.
+#[tactic(auto, using(crate::proofs::Printing::first_spaced))]
 pub(crate) fn push_refusal(line: &mut Vec<u8>, refusal: &ScriptRefusal) -> Result<(), AllocError>
     ensures ok { OnOk result
-        (line.new.items
-        ≡ line.old.items ++ (refusal_name refusal.now ++ refusal_numbers refusal.now)) }
+        (line.new.items ≡ line.old.items ++ spaced (refusal_words refusal.now)) }
     ensures err { OnErr result (take (length line.old.items) line.new.items ≡ line.old.items) }
 {
-    line.extend_from_slice(name_of(refusal))?;
+    push_word(line, name_of(refusal))?;
     push_numbers(line, refusal)
 }

@@ -38,9 +38,9 @@ returns-then-epoch-held c clock =
     let old : Clearinghouse = c.args.home.now in
     let good = rw (c.in-Some-2.is, c.number.ensures) at c.in_ok-members.ensures in
     refused_early c.refused-then-epoch-held.result c.args.number old old clock (order.Epoch c.args.dir c.args.epoch c.args.list.now)
-    (refused (why.NotAbove c.in-Some.held.0))
+    (refused (why.NotAbove c.in-Some.held))
     (ap maybe_refused (epoch_low old.house.0 c.args.epoch.0 c.args.list.now (get old.dirs c.args.dir) c.in-Some.held (sym c.epoch_held.ensures ∙ c.in-Some.is) good.0
-    c.if-epoch-held.true)) refl (rw c.not_above.ensures at c.refused-then-epoch-held.ensures)
+    c.if-epoch-held.true)) refl c.refused-then-epoch-held.ensures
 
 pub enter_epoch-requires : goal.enter_epoch-requires
 enter_epoch-requires c =

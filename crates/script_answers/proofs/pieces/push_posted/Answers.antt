@@ -1,13 +1,13 @@
 use Rattle.std.proofs.Common.{◌≡◌, ◌<◌, ℕ, List, [], ◌∷◌, ◌++◌, ◌∙◌, length, refl, ap, arith}
 use Rattle.std.specs.Prelude.{codes, decimal}
 use Rattle.std.proofs.lemmas.Bool.Decides.{nat_tests}
-use Rattle.script_answers.specs.Texts.{posted_text, spaced_numbers}
-use Rattle.script_answers.proofs.Printing.{on_err, row_ends, row_goes_on, still_begins}
+use Rattle.script_answers.specs.Texts.{posted_words, spaced, spaced_numbers}
+use Rattle.script_answers.proofs.Printing.{on_err, row_ends, row_goes_on, spaced_map, still_begins}
 use Rattle.script_answers.proofs.pieces.push_posted.Goals as goal
 
-some_posted : (ns : List ℕ) → 0 < length ns → codes " posted" ++ spaced_numbers ns ≡ posted_text ns
+some_posted : (ns : List ℕ) → 0 < length ns → codes " posted" ++ spaced_numbers ns ≡ spaced (posted_words ns)
 some_posted [] some = absurd (omega arith)
-some_posted (n ∷ ns) some = refl
+some_posted (n ∷ ns) some = ap (λ l. codes " posted" ++ ((32 ∷ decimal n) ++ l)) (spaced_map decimal ns)
 
 pub loop-serial-preserved : goal.loop-serial-preserved
 loop-serial-preserved c =
