@@ -3,7 +3,6 @@ use Rattle.std.proofs.Common.{◌≡◌, ◌≢◌, ◌<◌, ◌≤◌, ℕ, zer
 use Rattle.std.specs.Prelude.{slice_get, slice_index}
 use Rattle.std.specs.Bool.{Decides, OnTrue}
 use Rattle.std.specs.Cmp.Rules.{comparing}
-use Rattle.std.specs.Fmt.{digits}
 use Rattle.std.specs.List.{list_any}
 use Rattle.cds_stamps.specs.Members.{is_listed, members_of}
 use Rattle.cds_stamps.specs.contracts.members.MemberPartialEq.TheImpl.{eq-value}
@@ -23,7 +22,7 @@ use Rattle.cds_cell.specs.Scripted.{answer_of}
 use Rattle.cell_runs.specs.LineAnswers.{answer_said}
 use Rattle.cell_runs.specs.Views as views
 use Rattle.cell_runs.specs.Views.{is_turn, or_none}
-use Rattle.script_answers.specs.Texts.{answer_line, answer_lines, answer_text, lines_text}
+use Rattle.script_answers.specs.Texts.{answer_line}
 use Rattle.script_answers.specs.declared.answer.Answer.{Answer}
 use Rattle.house_directory.specs.HouseMessages.{numbers_of}
 use Rattle.house_lines.specs.declared.line.EpochList.{EpochList}
@@ -159,17 +158,6 @@ post_past g first posts rest behind n p so is few all =
     let one = (subst (λ (l : List PostedOctets). ArePostedAfter g n l) is (so.to all)).0 in
     let less = past_all g.bag n one.m (in_bag g n one.m one.there) in
     absurd (omega (arith, few, less))
-
--- ---- lines
-
--- the line in the text of an answer of one line
-pub line_in : (a : Answer) (text : List ℕ) → answer_lines a ≡ answer_line a ∷ [] → text ≡ answer_text 0 a
-    → take (length (drop 2 text) - 1) (drop 2 text) ≡ answer_line a
-unfolding digits
-line_in a text one is = by (drop 2 text) (ap (drop 2) (is ∙ ap (lines_text 0) one))
-  where
-    by : (rest : List ℕ) → rest ≡ (answer_line a ++ 10 ∷ []) ++ [] → take (length rest - 1) rest ≡ answer_line a
-    by rest is = grind (arith, common_steps)
 
 -- ---- members
 

@@ -6,7 +6,7 @@ ghost use Rattle.cell_model.specs.Cells as model;
 ghost use Rattle.cell_model.specs.Steps.{left_members};
 ghost use Rattle.cds_cell.specs.ModelCells.{Stands};
 ghost use Rattle.house_directory.specs.HouseMessages.{numbers_of};
-ghost use Rattle.script_answers.specs.Texts.{answer_line, answer_lines};
+ghost use Rattle.script_answers.specs.Texts.{answer_line};
 ghost use Rattle.cds_explain.specs.PrivateComparing.{ArePostedAfter, HasImage, IsOwnLine, IsPosted, own_of};
 ghost use Rattle.cds_explain.specs.PrivateReplays.{IfFault};
 
@@ -15,15 +15,14 @@ use cds_cell::Cell;
 use cds_stamps::{AllocOr, HouseNo, Member};
 use cell_script::Question;
 use house_logs::PostedOctets;
-use script_answers::{Answer, Serials, append_answer};
+use script_answers::{Answer, Serials, append_said};
 use script_replay::{Reply, reply_to_question};
 use std::alloc::{AllocError, Global};
 
 /// An answer of a turn without the serial numbers of messages, which no house knows; none, if
 /// nothing was done.
 pub(crate) fn own_answer(alloc: Global, answer: &Answer) -> Option<Answer>
-    ensures own { result ≡ own_of answer.now }
-    ensures line { IfSome result (λ own. answer_lines own ≡ answer_line own ∷ []) }
+    ensures { result ≡ own_of answer.now }
 {
     match answer {
         Answer::Posted(_) => Some(Answer::Done),
@@ -36,25 +35,13 @@ pub(crate) fn own_answer(alloc: Global, answer: &Answer) -> Option<Answer>
     }
 }
 
-/// The line of an answer of one line, without its number and its end.
-pub(crate) fn own_line(alloc: Global, answer: &Answer) -> Result<Vec<u8>, AllocError>
-    requires { answer_lines answer.now ≡ answer_line answer.now ∷ [] }
+/// What an answer of one line says.
+pub(crate) fn said_by(alloc: Global, answer: &Answer) -> Result<Vec<u8>, AllocError>
     ensures { IfOk result (λ v. v.items ≡ answer_line answer.now) }
 {
-    let mut text = Vec::new(alloc);
-    append_answer(alloc, &mut text, 0, answer)?;
-    let (_, line) = text.split_at(2);
-    let (line, _) = line.split_at(line.len() - 1);
-    Vec::from_slice(alloc, line)
-}
-
-/// An answer in words, for the reason of a fault.
-pub(crate) fn answer_text(alloc: Global, answer: &Answer) -> Result<Vec<u8>, AllocError> {
-    let mut text = Vec::new(alloc);
-    append_answer(alloc, &mut text, 0, answer)?;
-    let (_, line) = text.split_at(text.len().min(2));
-    let (line, _) = line.split_at(line.len().saturating_sub(1));
-    Vec::from_slice(alloc, line)
+    let mut line = Vec::new(alloc);
+    append_said(alloc, &mut line, answer)?;
+    Ok(line)
 }
 
 /// The fault of an answer that is another than this one.
@@ -76,10 +63,10 @@ pub(crate) fn compare_answer(
     ensures other { IfFault result (λ cause. ¬ IsOwnLine answer.now own.now) }
 {
     let Some(told) = own_answer(alloc, answer) else {
-        let text = answer_text(alloc, answer)?;
+        let text = said_by(alloc, answer)?;
         return Err(AllocOr::Fault(other_answer(alloc, own, text)?));
     };
-    let text = own_line(alloc, &told)?;
+    let text = said_by(alloc, &told)?;
     if text.as_slice() == own {
         return Ok(());
     }

@@ -12,7 +12,7 @@ ghost use Rattle.cds_explain.specs.PrivateConsole.{HasMembers, IsListedAs};
 
 use crate::cause::Cause;
 use crate::comparing::{
-    answer_text, are_posted, compare_answer, has_image, have_left, other_answer,
+    are_posted, compare_answer, has_image, have_left, other_answer, said_by,
 };
 use crate::posted::PostedIndex;
 use crate::ready::ready;
@@ -140,7 +140,7 @@ impl Replay {
         if let Answer::Done = &answer {
             return Ok(());
         }
-        let text = answer_text(alloc, &answer)?;
+        let text = said_by(alloc, &answer)?;
         Err(AllocOr::Fault(other_answer(alloc, b"ok", text)?))
     }
 

@@ -8,7 +8,7 @@ use Rattle.hex.specs.Hex.{encode_lower}
 use Rattle.cds_stamps.specs.declared.numbers.DirId.{DirId}
 use Rattle.cds_stamps.specs.declared.numbers.EpochNo.{EpochNo}
 use Rattle.cds_stamps.specs.declared.stamp.Stamp.{Stamp}
-use Rattle.script_answers.specs.Texts.{answer_line, node_octets, stamp_text, stamped_text}
+use Rattle.script_answers.specs.Texts.{answer_line, node_octets, stamp_text}
 use Rattle.script_answers.specs.declared.answer.Answer.TheVariants as answer
 use Rattle.house_directory.specs.declared.taking.Taken.{Taken}
 use Rattle.house_directory.specs.declared.taking.Taken.TheVariants as taken
@@ -42,7 +42,7 @@ both_end_nowhere xs ys first rest = All-append (λ (b : ℕ). b ≢ 10) xs ys fi
 -- ---- answers
 
 -- a stamp, without messages that were posted
-stamp_ends_nowhere : (s : Stamp) → HasNoEnd (stamped_text s [])
+stamp_ends_nowhere : (s : Stamp) → HasNoEnd (stamp_text s ++ [])
 stamp_ends_nowhere s =
     both_end_nowhere (stamp_text s) []
     (both_end_nowhere (decimal s.time) (64 ∷ encode_lower (node_octets s.node)) (decimal_ends_nowhere s.time)
@@ -52,17 +52,17 @@ pub done_ends_nowhere : HasNoEnd (answer_line answer.Done)
 done_ends_nowhere = text_ends_nowhere (codes "ok") refl
 
 pub stamped_ends_nowhere : (s : Stamp) → HasNoEnd (answer_line (answer.Stamped s []))
-stamped_ends_nowhere s = both_end_nowhere (codes "ok ") (stamped_text s []) (text_ends_nowhere (codes "ok ") refl) (stamp_ends_nowhere s)
+stamped_ends_nowhere s = both_end_nowhere (codes "ok ") (stamp_text s ++ []) (text_ends_nowhere (codes "ok ") refl) (stamp_ends_nowhere s)
 
 pub complete_ends_nowhere : (s : Stamp) → HasNoEnd (answer_line (answer.Complete s []))
 complete_ends_nowhere s =
-    both_end_nowhere (codes "ok complete ") (stamped_text s []) (text_ends_nowhere (codes "ok complete ") refl) (stamp_ends_nowhere s)
+    both_end_nowhere (codes "ok complete ") (stamp_text s ++ []) (text_ends_nowhere (codes "ok complete ") refl) (stamp_ends_nowhere s)
 
 pub made_ends_nowhere : (d : DirId) (s : Stamp) → HasNoEnd (answer_line (answer.Made d s []))
 made_ends_nowhere d s =
-    both_end_nowhere (codes "ok ") (decimal d.0 ++ (32 ∷ stamped_text s [])) (text_ends_nowhere (codes "ok ") refl)
-    (both_end_nowhere (decimal d.0) (32 ∷ stamped_text s []) (decimal_ends_nowhere d.0)
-    (more_end_nowhere 32 (stamped_text s []) (omega arith) (stamp_ends_nowhere s)))
+    both_end_nowhere (codes "ok ") (decimal d.0 ++ (32 ∷ (stamp_text s ++ []))) (text_ends_nowhere (codes "ok ") refl)
+    (both_end_nowhere (decimal d.0) (32 ∷ (stamp_text s ++ [])) (decimal_ends_nowhere d.0)
+    (more_end_nowhere 32 (stamp_text s ++ []) (omega arith) (stamp_ends_nowhere s)))
 
 pub epoch_ends_nowhere : (k : EpochNo) → HasNoEnd (answer_line (answer.Epoch k []))
 epoch_ends_nowhere k =

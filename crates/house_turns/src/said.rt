@@ -1,14 +1,12 @@
 // What a line comes to, and the texts of that.
 ghost use Rattle.std.specs.Prelude.{◌≡◌, ◌∷◌, [], ℕ, IfOk};
-ghost use Rattle.script_answers.specs.Texts.{answer_line, answer_lines, answer_text, lines_text};
-ghost use Rattle.script_answers.specs.declared.answer.ScriptRefusal.TheVariants as why;
+ghost use Rattle.script_answers.specs.Texts.{answer_line, answer_lines};
 ghost use Rattle.cell_runs.specs.LineAnswers as lines;
 ghost use Rattle.house_turns.specs.LineOutcomes as outcomes;
 ghost use Rattle.house_turns.specs.PrivateTurns.{Says, posts_in, posts_of_letters};
 
-use cds_stamps::EpochNo;
 use clearinghouse::Letters;
-use script_answers::{Answer, ScriptRefusal, append_answer, begin_line};
+use script_answers::{Answer, ScriptRefusal, append_answer, append_said, begin_line};
 use std::alloc::{AllocError, Global};
 
 /// The messages that a turn posts: one to some houses, and then another to some houses.
@@ -80,21 +78,17 @@ pub(crate) fn told_words(alloc: Global, number: u32, words: &[u8]) -> Result<Sai
     Ok(Said::Told(text))
 }
 
-// An answer of one line, without the number and the end of that.
+// What an answer of one line says.
 fn octets_of(alloc: Global, answer: &Answer) -> Result<Vec<u8>, AllocError>
-    requires { answer_lines answer.now ≡ answer_line answer.now ∷ [] }
     ensures { IfOk result (λ v. v.items ≡ answer_line answer.now) }
 {
-    let mut text = Vec::new(alloc);
-    append_answer(alloc, &mut text, 0, answer)?;
-    let (_, line) = text.split_at(2);
-    let (line, _) = line.split_at(line.len() - 1);
-    Vec::from_slice(alloc, line)
+    let mut line = Vec::new(alloc);
+    append_said(alloc, &mut line, answer)?;
+    Ok(line)
 }
 
 /// A turn with this answer.
 pub(crate) fn turned(alloc: Global, posts: Posts, answer: &Answer) -> Result<Said, AllocError>
-    requires { answer_lines answer.now ≡ answer_line answer.now ∷ [] }
     ensures { (number : ℕ) → IfOk result
         (λ s. Says number s (outcomes.Posts (posts_in posts) (answer_line answer.now))) }
 {

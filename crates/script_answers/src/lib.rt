@@ -13,5 +13,5 @@ mod refusals;
 pub use answer::{Answer, ScriptRefusal};
 pub use lists::{Serials, Values};
 pub use pieces::{begin_line, push_hex, push_number, push_stamp, push_stamp_or};
-pub use print::{append_answer, print_fault, print_parse_fault};
+pub use print::{append_answer, append_said, print_fault, print_parse_fault};
 pub use refusals::rule_name;

@@ -190,9 +190,10 @@ fn push_rest(alloc: Global, line: &mut Vec<u8>, answer: &Answer) -> Result<(), A
     }
 }
 
-// What an answer says that has one line.
+/// Puts what an answer of one line says after a line, without a number and an end; of an answer of
+/// several lines nothing. After it ran out of memory the line may have grown.
 #[tactic(auto, using(crate::proofs::Printing::first_and_rest))]
-fn push_answer(alloc: Global, line: &mut Vec<u8>, answer: &Answer) -> Result<(), AllocError>
+pub fn append_said(alloc: Global, line: &mut Vec<u8>, answer: &Answer) -> Result<(), AllocError>
     ensures ok { OnOk result (line.new.items ≡ line.old.items ++ answer_line answer.now) }
     ensures err { OnErr result (take (length line.old.items) line.new.items ≡ line.old.items) }
 {
@@ -212,7 +213,7 @@ fn push_line(
     ensures err { OnErr result (take (length line.old.items) line.new.items ≡ line.old.items) }
 {
     begin_line(line, number)?;
-    push_answer(alloc, line, answer)?;
+    append_said(alloc, line, answer)?;
     line.push(b'\n')?;
     Ok(())
 }
