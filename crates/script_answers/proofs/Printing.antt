@@ -1,11 +1,12 @@
 -- Text that grows after what stood before.
 use Rattle.std.proofs.Common.{◌≡◌, ◌≤◌, ◌<◌, ◌+◌, List, [], ◌∷◌, ℕ, ◌++◌, take, drop, get_or, length, map, refl, sym, ap, ◌∙◌, append_assoc, append-nil, add-one}
-use Rattle.std.specs.Prelude.{Result, Ok, Err, OnErr}
+use Rattle.std.specs.Prelude.{Option, Some, None, Result, Ok, Err, OnErr, codes}
 use Rattle.std.specs.List.{flat_map}
 use Rattle.std.proofs.lemmas.List.{take-append-drop, take_all}
 use Rattle.std.proofs.lemmas.List.Concat.{flat_map-append}
 use Rattle.std.proofs.Math.Seq.{take-append_seam, take-suc}
-use Rattle.script_answers.specs.Texts.{line_text, lines_text, spaced, unwords}
+use Rattle.script_answers.specs.declared.answer.ScriptRefusal.TheVariants as why
+use Rattle.script_answers.specs.Texts.{line_text, lines_text, refusal_words, spaced, unwords}
 
 -- what a text began with before it grew still begins it, where the grown text does
 pub still_begins : (a x b c : List ℕ) → b ≡ a ++ x → take (length b) c ≡ b → take (length a) c ≡ a
@@ -32,6 +33,11 @@ first_and_rest (w ∷ ws) = refl
 pub first_spaced : (w : List ℕ) (ws : List (List ℕ)) → take 1 ws ≡ w ∷ [] → (32 ∷ w) ++ spaced (drop 1 ws) ≡ spaced ws
 first_spaced w [] is = absurd cc
 first_spaced w (v ∷ ws) is = let same : v ≡ w = cc in ap (λ (u : List ℕ). (32 ∷ u) ++ spaced ws) (sym same)
+
+-- the name of that no stamp was left is the same, whether updates are counted or not
+pub spent_name : (accepted : Option ℕ) (posted : List ℕ) → take 1 (refusal_words (why.StampsSpent accepted posted)) ≡ codes "StampsSpent" ∷ []
+spent_name None posted = refl
+spent_name (Some n) posted = refl
 
 -- words of many things, each after a space
 pub spaced_map : {A : Type 0} (says : A → List ℕ) (xs : List A) → flat_map (λ x. 32 ∷ says x) xs ≡ spaced (map says xs)

@@ -36,6 +36,7 @@ fn told_rule(rule: Rule) -> Rule
 }
 
 // The name of a refusal.
+#[tactic(auto, using(crate::proofs::Printing::spent_name))]
 fn name_of(refusal: &ScriptRefusal) -> &'static [u8]
     ensures { take 1 (refusal_words refusal.now) ≡ result.now ∷ [] }
 {
