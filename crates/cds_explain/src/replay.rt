@@ -11,9 +11,7 @@ ghost use Rattle.cell_runs.specs.Views.{image_in};
 ghost use Rattle.cds_explain.specs.PrivateConsole.{HasMembers, IsListedAs};
 
 use crate::cause::Cause;
-use crate::comparing::{
-    are_posted, compare_answer, has_image, have_left, other_answer, said_by,
-};
+use crate::comparing::{are_posted, compare_answer, has_image, have_left, other_answer, said_by};
 use crate::posted::PostedIndex;
 use crate::ready::ready;
 use cds_base::MOST_LINES;

@@ -41,7 +41,7 @@ pub struct Words<'a> {
 impl<'a> Model for Words<'a> {
     ghost use Rattle.std.specs.Prelude.{◌+◌, ◌<◌, ◌^◌, length};
     ghost use Rattle.cell_script.specs.Words.{words_of, house_of, listed_of, directory_of, serial_of, number_of, node_of, simple_name_of, full_name_of};
-ghost use Rattle.cell_script.specs.Words.{attr_name_of, octets_value_of, octets_of, confidence_of};
+    ghost use Rattle.cell_script.specs.Words.{attr_name_of, octets_value_of, octets_of, confidence_of};
     ghost use Rattle.cell_script.specs.WordForms.{Words as Words'};
 
     ghost Value = { Words' };

@@ -310,8 +310,8 @@ rows_short = (
                                               λ o _. tt,
                                               (
                                                 λ n _ i _ b binds o names.
-                                                let few = bindings_few binds.0 b binds.1 binds.2 in
-                                                let fewer = objects_few names.0 o names.1 names.2 in omega (arith, few, fewer),
+                                                    let few = bindings_few binds.0 b binds.1 binds.2 in
+                                                    let fewer = objects_few names.0 o names.1 names.2 in omega (arith, few, fewer),
                                                 (
                                                   λ n _ i _ o _. tt,
                                                   (

@@ -85,7 +85,11 @@ fn push_numbers(line: &mut Vec<u8>, refusal: &ScriptRefusal) -> Result<(), Alloc
     ensures err { OnErr result (take (length line.old.items) line.new.items ≡ line.old.items) }
 {
     match refusal {
-        ScriptRefusal::StampsSpent(accepted, serials) => push_spent(line, *accepted, serials.list()),
+        ScriptRefusal::StampsSpent(accepted, serials) => push_spent(
+            line,
+            *accepted,
+            serials.list(),
+        ),
         ScriptRefusal::NotJoined(held, since) => push_epochs(line, *held, *since),
         ScriptRefusal::NotAbove(held) => push_spaced(line, held.0),
         ScriptRefusal::NoSuchName(done) => push_spaced(line, u64::from(*done)),
@@ -97,11 +101,7 @@ fn push_numbers(line: &mut Vec<u8>, refusal: &ScriptRefusal) -> Result<(), Alloc
 }
 
 // How many updates were accepted, if that is said, and the messages that were posted.
-fn push_spent(
-    line: &mut Vec<u8>,
-    accepted: Option<u64>,
-    serials: &[u64],
-) -> Result<(), AllocError>
+fn push_spent(line: &mut Vec<u8>, accepted: Option<u64>, serials: &[u64]) -> Result<(), AllocError>
     ensures ok { OnOk result (line.new.items ≡ line.old.items
         ++ spaced (drop 1 (refusal_words (why.StampsSpent accepted serials.now)))) }
     ensures err { OnErr result (take (length line.old.items) line.new.items ≡ line.old.items) }
