@@ -17,10 +17,10 @@ use Rattle.cell_script.specs.declared.command.Command.{Command}
 use Rattle.cell_script.specs.declared.command.Command.TheVariants as command
 use Rattle.cell_script.specs.declared.lists.Listed.{Listed}
 use Rattle.cell_script.specs.Words.{words_of}
-use Rattle.script_answers.specs.Texts.{node_octets}
+use Rattle.script_answers.specs.Texts.{node_octets, spaced, unwords}
 use Rattle.script_answers.proofs.ReadWords.{node_bytes}
 use Rattle.script_answers.proofs.WordTexts.{AreMarks, AreWords, IsWord, attr_word, decimal_word, given_word, hex_word, is_mark, name_word, simple_word, value_filled, words_again}
-use Rattle.command_lines.specs.CommandTexts.{command_line, command_words, house_word, line_of, listed_word, update_word, updated_words, words_behind}
+use Rattle.command_lines.specs.CommandTexts.{command_line, command_words, house_word, listed_word, update_word, updated_words}
 use Rattle.command_lines.specs.SayableCommands.{AreHouses, AreListed, CanBeSaid, CanUpdate, IsDirectory, IsHouse, IsSerial, IsValue}
 use Rattle.command_lines.proofs.LineLemmas.{printable_line}
 
@@ -82,8 +82,8 @@ updated_are_words (update.Repoint s hs) can = absurd can
 
 -- words are those of their line, and it has no other octets
 pub record IsLineOf (ws : List (List ℕ)) : Type 0 where
-  pub words : words_of (line_of ws) ≡ ws
-  pub shown : list_all is_printable (line_of ws) ≡ true
+  pub words : words_of (unwords ws) ≡ ws
+  pub shown : list_all is_printable (unwords ws) ≡ true
 
 word_shown : (w : List ℕ) → AreMarks w → AllPass is_printable w
 word_shown w marks = All-weaker (λ b. is_mark b ≡ true) (λ b. is_printable b ≡ true) shown w marks
@@ -91,18 +91,18 @@ word_shown w marks = All-weaker (λ b. is_mark b ≡ true) (λ b. is_printable b
     shown : (b : ℕ) → is_mark b ≡ true → is_printable b ≡ true
     shown b is = grind (arith, nat_tests, is)
 
-behind_shown : (ws : List (List ℕ)) → AreWords ws → AllPass is_printable (words_behind ws)
+behind_shown : (ws : List (List ℕ)) → AreWords ws → AllPass is_printable (spaced ws)
 behind_shown [] are = All-nil (λ b. is_printable b ≡ true)
 behind_shown (w ∷ ws) are =
     let P : ℕ → Type 0 = λ b. is_printable b ≡ true in
     subst (λ (o : List ℕ). AllPass is_printable o) (sym (flat_map-cons (λ (w : List ℕ). 32 ∷ w) w ws))
-    (All-append P (32 ∷ w) (words_behind ws) (All-cons P 32 w refl (word_shown w are.0.marks)) (behind_shown ws are.1))
+    (All-append P (32 ∷ w) (spaced ws) (All-cons P 32 w refl (word_shown w are.0.marks)) (behind_shown ws are.1))
 
 of_words : (w : List ℕ) (ws : List (List ℕ)) → IsWord w → AreWords ws → IsLineOf (w ∷ ws)
 of_words w ws is are = record {
   words = words_again w ws (is, are);
-  shown = list_all-from_AllPass is_printable (line_of (w ∷ ws))
-      (All-append (λ b. is_printable b ≡ true) w (words_behind ws) (word_shown w is.marks) (behind_shown ws are));
+  shown = list_all-from_AllPass is_printable (unwords (w ∷ ws))
+      (All-append (λ b. is_printable b ≡ true) w (spaced ws) (word_shown w is.marks) (behind_shown ws are));
 }
 
 -- likewise after a word that is given

@@ -1,7 +1,6 @@
 -- The words of a command of a script, and its line.
 use Rattle.std.specs.Prelude.{ℕ, if◌then◌else◌, List, [], ◌∷◌, ◌++◌, map, codes}
 use Rattle.std.specs.Fmt.{decimal}
-use Rattle.std.specs.List.{flat_map}
 use Rattle.hex.specs.Hex.{encode_lower}
 use Rattle.cds_stamps.specs.declared.numbers.HouseNo.{HouseNo}
 use Rattle.cell_names.specs.FullNames.{full_name_octets}
@@ -10,20 +9,7 @@ use Rattle.directory.specs.declared.update.Update.TheVariants as update
 use Rattle.cell_script.specs.declared.command.Command.{Command}
 use Rattle.cell_script.specs.declared.command.Command.TheVariants as command
 use Rattle.cell_script.specs.declared.lists.Listed.{Listed}
-use Rattle.script_answers.specs.Texts.{node_octets}
-
--- ---- lines of words
-
--- words after others, each after a space
-abbrev pub words_behind : List (List ℕ) → List ℕ
-words_behind = flat_map (λ w. 32 ∷ w)
-
--- words in a line, with a space between two of them
-abbrev pub line_of : List (List ℕ) → List ℕ
-line_of [] = []
-line_of (w ∷ ws) = w ++ words_behind ws
-
--- ---- commands
+use Rattle.script_answers.specs.Texts.{node_octets, unwords}
 
 -- a house, by its number
 abbrev pub house_word : HouseNo → List ℕ
@@ -79,4 +65,4 @@ command_words (command.Start h) = codes "start" ∷ house_word h ∷ []
 
 -- its line, without its end
 abbrev pub command_line : Command → List ℕ
-command_line c = line_of (command_words c)
+command_line c = unwords (command_words c)

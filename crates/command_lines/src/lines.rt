@@ -2,8 +2,8 @@
 // it may be there.
 ghost use Rattle.std.specs.Prelude.{◌≡◌, ◌++◌, ◌∷◌, OnOk, decimal, map};
 ghost use Rattle.hex.specs.Hex.{encode_lower};
-ghost use Rattle.script_answers.specs.Texts.{node_octets};
-ghost use Rattle.command_lines.specs.CommandTexts.{command_line, house_word, listed_word, words_behind};
+ghost use Rattle.script_answers.specs.Texts.{node_octets, spaced};
+ghost use Rattle.command_lines.specs.CommandTexts.{command_line, house_word, listed_word};
 
 use crate::updates::{push_updated, update_word};
 use cds_stamps::{DirId, HouseNo, Node, SimpleName};
@@ -152,7 +152,7 @@ fn push_listed(line: &mut Vec<u8>, listed: &Listed) -> Result<(), AllocError>
 // The other houses of a replica set.
 fn push_listeds(line: &mut Vec<u8>, list: &[Listed]) -> Result<(), AllocError>
     ensures { OnOk result
-        (line.new.items ≡ line.old.items ++ words_behind (map listed_word list.now)) }
+        (line.new.items ≡ line.old.items ++ spaced (map listed_word list.now)) }
 {
     for listed in list {
         push_listed(line, listed)?;
@@ -163,7 +163,7 @@ fn push_listeds(line: &mut Vec<u8>, list: &[Listed]) -> Result<(), AllocError>
 // Further houses.
 fn push_houses(line: &mut Vec<u8>, list: &[HouseNo]) -> Result<(), AllocError>
     ensures { OnOk result
-        (line.new.items ≡ line.old.items ++ words_behind (map house_word list.now)) }
+        (line.new.items ≡ line.old.items ++ spaced (map house_word list.now)) }
 {
     for house in list {
         push_house(line, *house)?;

@@ -3,7 +3,8 @@ ghost use Rattle.std.specs.Prelude.{◌≡◌, ◌++◌, ◌∷◌, OnOk};
 ghost use Rattle.hex.specs.Hex.{encode_lower};
 ghost use Rattle.cell_names.specs.FullNames.{full_name_octets};
 ghost use Rattle.command_lines.specs.CommandTexts as text;
-ghost use Rattle.command_lines.specs.CommandTexts.{updated_words, words_behind};
+ghost use Rattle.script_answers.specs.Texts.{spaced};
+ghost use Rattle.command_lines.specs.CommandTexts.{updated_words};
 
 use crate::lines::push_word;
 use attr_sets::Value;
@@ -33,7 +34,7 @@ pub(crate) fn update_word(update: &Update) -> &'static [u8]
 /// The words of an update after its directory.
 pub(crate) fn push_updated(line: &mut Vec<u8>, update: &Update) -> Result<(), AllocError>
     ensures { OnOk result
-        (line.new.items ≡ line.old.items ++ words_behind (updated_words update.now)) }
+        (line.new.items ≡ line.old.items ++ spaced (updated_words update.now)) }
 {
     match update {
         Update::Create(name) => push_word(line, name.octets()),

@@ -11,10 +11,10 @@ use Rattle.cell_script.specs.declared.fault.ParseFault.TheVariants.{BadWord}
 use Rattle.cell_script.specs.CommandRows.{said_by, said_in}
 use Rattle.cell_script.specs.WordForms.{check_count, take_words}
 use Rattle.cell_script.specs.Words.{house_of, number_of}
-use Rattle.script_answers.specs.Texts.{node_octets}
+use Rattle.script_answers.specs.Texts.{node_octets, unwords}
 use Rattle.script_answers.proofs.ReadWords.{node_bytes}
 use Rattle.script_answers.proofs.WordTexts.{decimal_word, hex_word}
-use Rattle.command_lines.specs.CommandTexts.{command_line, command_words, line_of}
+use Rattle.command_lines.specs.CommandTexts.{command_line, command_words}
 use Rattle.command_lines.specs.SayableCommands.{CanBeSaid}
 use Rattle.command_lines.proofs.CommandWords.{IsLineOf, given, line_fits, line_of_words}
 use Rattle.command_lines.proofs.LineLemmas.{line_short}
@@ -43,7 +43,7 @@ no_house : (h : HouseNo) → h.0 ≡ 0 → house_of (decimal h.0) ≡ None
 no_house h none = ap (λ (n : ℕ). house_of (decimal n)) none ∙ zero_house
 
 -- words with a fault are not said
-unsaid : (ws : List (List ℕ)) (fault : ParseFault) (c : Command) → IsLineOf ws → said_in ws ≡ Err fault → ¬ SaysCommand (line_of ws) c
+unsaid : (ws : List (List ℕ)) (fault : ParseFault) (c : Command) → IsLineOf ws → said_in ws ≡ Err fault → ¬ SaysCommand (unwords ws) c
 unsaid ws fault c of bad s = absurd (cc (sym bad ∙ ap said_in (sym of.words) ∙ s.says))
 
 -- the words of a command whose house has no number

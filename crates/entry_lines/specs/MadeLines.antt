@@ -3,7 +3,8 @@ use Rattle.std.specs.Prelude.{ℕ, List, [], ◌∷◌, ◌++◌, decimal, drop,
 use Rattle.cds_stamps.specs.declared.numbers.HouseNo.{HouseNo}
 use Rattle.cell_script.specs.Words.{words_of}
 use Rattle.cell_script.specs.declared.command.Command.TheVariants as command
-use Rattle.command_lines.specs.CommandTexts.{command_line, words_behind}
+use Rattle.script_answers.specs.Texts.{spaced}
+use Rattle.command_lines.specs.CommandTexts.{command_line}
 use Rattle.command_lines.specs.ListedMembers.{listed_others}
 use Rattle.house_lines.specs.declared.line.HouseOrder.{HouseOrder}
 use Rattle.house_lines.specs.declared.line.HouseOrder.TheVariants as order
@@ -19,13 +20,13 @@ house_line command h = command ++ (32 ∷ decimal h.0)
 
 -- the words of a turn of the house h, with the house after the first one
 abbrev pub same_line : (h : HouseNo) → (own : List (List ℕ)) → List ℕ
-same_line h own = house_line (first_in own) h ++ words_behind (drop 1 own)
+same_line h own = house_line (first_in own) h ++ spaced (drop 1 own)
 
 -- those of `mkdir D S N R..`: without the number N, and with h as the master
 abbrev pub mkdir_line : (h : HouseNo) → (own : List (List ℕ)) → List ℕ
 mkdir_line h own =
     house_line (first_in own) h
-    ++ (words_behind (take 2 (drop 1 own)) ++ ((32 ∷ decimal h.0) ++ words_behind (drop 4 own)))
+    ++ (spaced (take 2 (drop 1 own)) ++ ((32 ∷ decimal h.0) ++ spaced (drop 4 own)))
 
 -- the line of a turn of the house h: its own words, or what its order says; of `take` the message
 -- of this serial number is delivered

@@ -3,7 +3,8 @@
 ghost use Rattle.std.specs.Prelude.{◌≡◌, ◌++◌, ◌∷◌, IfOk, OnOk, decimal, drop, take};
 ghost use Rattle.cell_script.specs.Words.{words_of};
 ghost use Rattle.cell_script.specs.declared.command.Command.TheVariants as command';
-ghost use Rattle.command_lines.specs.CommandTexts.{command_line, words_behind};
+ghost use Rattle.script_answers.specs.Texts.{spaced};
+ghost use Rattle.command_lines.specs.CommandTexts.{command_line};
 ghost use Rattle.command_lines.specs.ListedMembers as listed;
 ghost use Rattle.entry_lines.specs.MadeLines.{first_in, mkdir_line, same_line, turn_line};
 
@@ -17,7 +18,7 @@ use std::alloc::{AllocError, Global};
 // Adds the next word, if there is one.
 fn push_next(line: &mut Vec<u8>, words: &mut Words<'_>) -> Result<(), AllocError>
     ensures line { OnOk result
-        (line.new.items ≡ line.old.items ++ words_behind (take 1 words.old.rest)) }
+        (line.new.items ≡ line.old.items ++ spaced (take 1 words.old.rest)) }
     ensures words { OnOk result (words.new.rest ≡ drop 1 words.old.rest) }
 {
     match words.next() {
@@ -28,7 +29,7 @@ fn push_next(line: &mut Vec<u8>, words: &mut Words<'_>) -> Result<(), AllocError
 
 // Adds the next words, as many as there are.
 fn push_rest(line: &mut Vec<u8>, words: &mut Words<'_>) -> Result<(), AllocError>
-    ensures { OnOk result (line.new.items ≡ line.old.items ++ words_behind words.old.rest) }
+    ensures { OnOk result (line.new.items ≡ line.old.items ++ spaced words.old.rest) }
 {
     'words: while let Some(word) = words.next() {
         push_word(line, word)?;

@@ -12,22 +12,23 @@ use Rattle.cell_model.specs.Mending.{deliver_commands, start_commands}
 use Rattle.cell_model.specs.Steps.{is_down}
 use Rattle.cell_script.specs.declared.command.Command.TheVariants as script
 use Rattle.cell_script.specs.declared.lists.Listed.{Listed}
-use Rattle.command_lines.specs.CommandTexts.{command_words as script_words, line_of}
+use Rattle.script_answers.specs.Texts.{unwords}
+use Rattle.command_lines.specs.CommandTexts.{command_words as script_words}
 use Rattle.command_lines.specs.ListedMembers.{listed_others}
 use Rattle.mend_replay.specs.MendLines.{command_line, command_lines, command_words}
 use Rattle.mend_replay.specs.PrivateLines.{AreOrdered, IsScriptWith}
 use Rattle.mend_replay.proofs.MemberKinds.{kinds_known, listed_match, once_ordered}
 
 -- the line of one command
-pub put_line : (old new : List ℕ) (c : Command) (ws : List (List ℕ)) → ws ≡ command_words c → new ≡ old ++ (line_of ws ++ 10 ∷ [])
+pub put_line : (old new : List ℕ) (c : Command) (ws : List (List ℕ)) → ws ≡ command_words c → new ≡ old ++ (unwords ws ++ 10 ∷ [])
     → IsScriptWith old new (c ∷ [])
 put_line old new c ws words is =
-    is ∙ ap (λ (us : List (List ℕ)). old ++ (line_of us ++ 10 ∷ [])) words
+    is ∙ ap (λ (us : List (List ℕ)). old ++ (unwords us ++ 10 ∷ [])) words
     ∙ ap (λ (l : List ℕ). old ++ l) (sym (append-nil (command_line c ++ 10 ∷ [])))
 
 -- the line of an epoch of members that are in ascending order has the others of its master
 pub put_epoch : (old new : List ℕ) (d m : ℕ) (ms : List declared.Member) (ls : List Listed) → AreOrdered (members_of ms) → ls ≡ listed_others (record { 0 = m }) ms
-    → new ≡ old ++ (line_of (script_words (script.Epoch (record { 0 = d }) (record { 0 = m }) ls)) ++ 10 ∷ [])
+    → new ≡ old ++ (unwords (script_words (script.Epoch (record { 0 = d }) (record { 0 = m }) ls)) ++ 10 ∷ [])
     → IsScriptWith old new (Epoch d m (others_of m (members_of ms)) (secondaries_of (members_of ms)) ∷ [])
 put_epoch old new d m ms ls ordered are is =
     let listed_so = are ∙ listed_match (secondaries_of (members_of ms)) (record { 0 = m }) ms (kinds_known (members_of ms) (once_ordered 1 0 (members_of ms) ordered)) in

@@ -16,7 +16,8 @@ use Rattle.cell_script.specs.Listings.{houses_in, secondaries_in}
 use Rattle.cell_script.specs.Words.{words_of}
 use Rattle.house_directory.specs.HouseMessages.{numbers_of}
 use Rattle.cds_cell.specs.Scripted.{step_of}
-use Rattle.command_lines.specs.CommandTexts.{command_words as script_words, line_of, listed_word, words_behind}
+use Rattle.script_answers.specs.Texts.{spaced, unwords}
+use Rattle.command_lines.specs.CommandTexts.{command_words as script_words, listed_word}
 use Rattle.command_lines.specs.SayableCommands.{AreListed, CanBeSaid as IsSayable, IsHouse}
 use Rattle.command_lines.proofs.CommandWords.{line_of_words, line_fits as script_line_fits}
 use Rattle.command_lines.proofs.SaidCommands.{command_said}
@@ -126,7 +127,7 @@ same_words (model.Crash h) can = absurd can
 -- and is what its line says
 pub line_says_so : (c : model.Command) → CanBeSaid c → said_in (words_of (command_line c)) ≡ Ok (Some (line.Cell (as_command c)))
 line_says_so c can =
-    ap (λ (ws : List (List ℕ)). said_in (words_of (line_of ws))) (same_words c can)
+    ap (λ (ws : List (List ℕ)). said_in (words_of (unwords ws))) (same_words c can)
     ∙ ap said_in (line_of_words (as_command c) (sayable c can)).words ∙ command_said (as_command c) (sayable c can)
 
 pub line_says : (c : model.Command) → CanBeSaid c → SaysCommand (command_line c) c
@@ -137,20 +138,20 @@ line_says c can = (as_command c, line_says_so c can, is_as_command c (can_mend c
 abbrev AreShort : List (List ℕ) → Type 0
 AreShort = AllByRecursion (λ w. length w ≤ 21)
 
-behind_length : (ws : List (List ℕ)) → AreShort ws → length (words_behind ws) ≤ 22 * length ws
+behind_length : (ws : List (List ℕ)) → AreShort ws → length (spaced ws) ≤ 22 * length ws
 behind_length [] all = omega arith
 behind_length (w ∷ ws) all =
     let rest = behind_length ws all.1 in
     let one = all.0 in
-    let size = length-append w (words_behind ws) in
+    let size = length-append w (spaced ws) in
     omega (arith, rest, one, size)
 
-line_length : (ws : List (List ℕ)) → AreShort ws → length (line_of ws) ≤ 22 * length ws
+line_length : (ws : List (List ℕ)) → AreShort ws → length (unwords ws) ≤ 22 * length ws
 line_length [] all = omega arith
 line_length (w ∷ ws) all =
     let rest = behind_length ws all.1 in
     let one = all.0 in
-    let size = length-append w (words_behind ws) in
+    let size = length-append w (spaced ws) in
     omega (arith, rest, one, size)
 
 number_short : (n : ℕ) → n < 2 ^ 64 → length (decimal n) ≤ 20
@@ -211,5 +212,5 @@ line_fits c number can check_count =
     let few = few_words c can in
     let short : length (command_line c) ≤ 4096 = omega (arith, size, few) in
     let same = same_words c can in
-    subst (λ (ws : List (List ℕ)). IsLine number (line_of ws)) (sym same)
-    (script_line_fits (as_command c) number (sayable c can) (subst (λ (ws : List (List ℕ)). length (line_of ws) ≤ 4096) same short) check_count)
+    subst (λ (ws : List (List ℕ)). IsLine number (unwords ws)) (sym same)
+    (script_line_fits (as_command c) number (sayable c can) (subst (λ (ws : List (List ℕ)). length (unwords ws) ≤ 4096) same short) check_count)

@@ -11,7 +11,7 @@ use Rattle.cell_model.specs.Turns.{stamp_at}
 use Rattle.cell_script.specs.declared.command.Command.TheVariants as script
 use Rattle.cell_script.specs.declared.lists.Listed.{Listed}
 use Rattle.command_lines.specs.CommandTexts as text
-use Rattle.command_lines.specs.CommandTexts.{line_of}
+use Rattle.script_answers.specs.Texts.{unwords}
 use Rattle.mend_model.specs.Leaving.{leaving_commands, new_master}
 use Rattle.mend_replay.specs.Readiness.{is_ready}
 
@@ -35,7 +35,7 @@ command_words _ = []
 
 -- the line of a command, without its end
 abbrev pub command_line : Command → List ℕ
-command_line c = line_of (command_words c)
+command_line c = unwords (command_words c)
 
 -- the lines of commands, each with its end
 abbrev pub command_lines : List Command → List ℕ

@@ -1,7 +1,8 @@
 use Rattle.std.proofs.Common.{◌≡◌, ◌++◌, drop, map}
-use Rattle.command_lines.specs.CommandTexts.{house_word, words_behind}
+use Rattle.script_answers.specs.Texts.{spaced}
+use Rattle.command_lines.specs.CommandTexts.{house_word}
 use Rattle.command_lines.proofs.lines.push_houses.Given as goal
 
 abbrev pub invariant-loop-house : goal.invariant-loop-house
 invariant-loop-house l =
-    l.line.items ++ words_behind (map house_word (drop l.house-index l.list)) ≡ l.fn.line.items ++ words_behind (map house_word l.list)
+    l.line.items ++ spaced (map house_word (drop l.house-index l.list)) ≡ l.fn.line.items ++ spaced (map house_word l.list)
