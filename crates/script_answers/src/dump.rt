@@ -1,11 +1,12 @@
 // The lines of a dump: what a house holds of a directory.
 ghost use Rattle.std.specs.Prelude.{◌≡◌, ◌++◌, ◌∷◌, [], IfOk, OnOk, codes, decimal};
-ghost use Rattle.script_answers.specs.Texts.{line_text, lines_text, member_letter, member_text, members_text, kind_word};
+ghost use Rattle.script_answers.specs.Texts.{spaced, stamp_or, line_text, lines_text, member_letter, member_text, members_text, kind_word};
 ghost use Rattle.script_answers.specs.Texts.{presence, dump_line, entry_line, attr_line, value_line, each_lines, value_lines, attr_lines};
 ghost use Rattle.script_answers.specs.Texts.{entry_lines, dump_lines};
 
 use crate::pieces::{
-    begin_line, push_hex, push_number, push_spaced, push_spaced_stamp, push_stamp_or, push_word,
+    begin_line, push_hex, push_number, push_spaced, push_spaced_stamp, push_spaced_stamp_or,
+    push_word,
 };
 use attr_sets::{AttrCell, Value, ValueMap, ValueMark};
 use cds_stamps::{AttrName, EpochNo, Member, MemberKind, Members, SimpleName, Stamp};
@@ -44,6 +45,22 @@ fn push_members(line: &mut Vec<u8>, members: &[Member]) -> Result<(), AllocError
     Ok(())
 }
 
+// AllUpTo, and the members.
+fn push_state(
+    line: &mut Vec<u8>,
+    all_up_to: Option<Stamp>,
+    members: &[Member],
+) -> Result<(), AllocError>
+    ensures { OnOk result (line.new.items ≡ line.old.items
+        ++ (spaced (codes "allupto" ∷ stamp_or (codes "none") all_up_to ∷ codes "members" ∷ [])
+        ++ members_text members.now)) }
+{
+    push_word(line, b"allupto")?;
+    push_spaced_stamp_or(line, b"none", all_up_to)?;
+    push_word(line, b"members")?;
+    push_members(line, members)
+}
+
 // The first line of a dump: the epoch, AllUpTo and the members.
 fn push_dump(
     line: &mut Vec<u8>,
@@ -56,11 +73,7 @@ fn push_dump(
 {
     line.extend_from_slice(b"dump epoch")?;
     push_spaced(line, epoch.0)?;
-    push_word(line, b"allupto")?;
-    line.push(b' ')?;
-    push_stamp_or(line, b"none", all_up_to)?;
-    push_word(line, b"members")?;
-    push_members(line, members)
+    push_state(line, all_up_to, members)
 }
 
 // The word of an entry's kind.
@@ -89,8 +102,7 @@ fn push_entry(line: &mut Vec<u8>, name: &SimpleName, entry: &EntryCell) -> Resul
     push_word(line, name.octets())?;
     push_word(line, word_of(entry.kind))?;
     push_spaced_stamp(line, &entry.birth)?;
-    line.push(b' ')?;
-    push_stamp_or(line, b"live", entry.death)
+    push_spaced_stamp_or(line, b"live", entry.death)
 }
 
 // An attribute: its name, and its clear, if there was one.
@@ -99,8 +111,7 @@ fn push_attr(line: &mut Vec<u8>, name: &AttrName, cleared: Option<Stamp>) -> Res
 {
     line.extend_from_slice(b"attr")?;
     push_word(line, name.octets())?;
-    line.push(b' ')?;
-    push_stamp_or(line, b"none", cleared)
+    push_spaced_stamp_or(line, b"none", cleared)
 }
 
 // A value, whether it is present, and since when.

@@ -93,6 +93,19 @@ pub fn push_stamp_or(
     }
 }
 
+/// The same after a space.
+pub(crate) fn push_spaced_stamp_or(
+    line: &mut Vec<u8>,
+    none: &[u8],
+    stamp: Option<Stamp>,
+) -> Result<(), AllocError>
+    ensures ok { OnOk result (line.new.items ≡ line.old.items ++ 32 ∷ stamp_or none.now stamp) }
+    ensures err { OnErr result (take (length line.old.items) line.new.items ≡ line.old.items) }
+{
+    line.push(b' ')?;
+    push_stamp_or(line, none, stamp)
+}
+
 /// Two epochs, each after a space.
 pub(crate) fn push_epochs(line: &mut Vec<u8>, a: EpochNo, b: EpochNo) -> Result<(), AllocError>
     ensures ok { OnOk result

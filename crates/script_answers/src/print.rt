@@ -10,7 +10,7 @@ use crate::dump::dump_text;
 use crate::import::import_text;
 use crate::pieces::{
     begin_line, push_epochs, push_hex, push_number, push_posted, push_spaced, push_spaced_stamp,
-    push_stamp_or, push_stamped, push_word,
+    push_spaced_stamp_or, push_stamped, push_word,
 };
 use crate::refusals::push_refusal;
 use attr_sets::Value;
@@ -135,8 +135,7 @@ fn push_stale(line: &mut Vec<u8>, stamp: &Stamp, running: Option<Stamp>) -> Resu
 {
     push_word(line, b"stale")?;
     push_spaced_stamp(line, stamp)?;
-    line.push(b' ')?;
-    push_stamp_or(line, b"none", running)
+    push_spaced_stamp_or(line, b"none", running)
 }
 
 // Octets: how many, and they in hexadecimal digits.
