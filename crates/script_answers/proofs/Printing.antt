@@ -24,6 +24,15 @@ on_err (Err e) p = p
 pub one_line : (number : ℕ) (said : List ℕ) → lines_text number (said ∷ []) ≡ line_text number said
 one_line number said = append-nil (line_text number said)
 
+-- three texts that are put one after another are put together
+pub three_parts : (old a d s m mid more end : List ℕ) → mid ≡ old ++ a → more ≡ mid ++ d → end ≡ more ++ (s ++ m) → end ≡ old ++ ((a ++ (d ++ s)) ++ m)
+three_parts old a d s m mid more end first second third =
+    third
+    ∙ ap (λ (l : List ℕ). l ++ (s ++ m)) (second ∙ ap (λ (l : List ℕ). l ++ d) first)
+    ∙ append_assoc (old ++ a) d (s ++ m)
+    ∙ append_assoc old a (d ++ (s ++ m))
+    ∙ ap (λ (l : List ℕ). old ++ l) (sym (append_assoc a (d ++ s) m ∙ ap (λ (l : List ℕ). a ++ l) (append_assoc d s m)))
+
 -- words are the first one and the others
 pub first_and_rest : (ws : List (List ℕ)) → get_or ws 0 [] ++ spaced (drop 1 ws) ≡ unwords ws
 first_and_rest [] = refl
