@@ -9,7 +9,7 @@ from . import sources
 
 # What is added, by the heading of docs/CHANGING.md: enums of the code, and types of the model with their files.
 ADDED = {
-    "a command": (("Command", "Question", "Step"), (("Commands", "Command"),)),
+    "a command": (("Command", "Question"), (("Commands", "Command"),)),
     "a message": (("Body",), (("Cells", "Body"),)),
     "a form": (("Form", "LineForm"), ()),
     "a line of a house": (("HouseLine", "HouseOrder"), ()),
