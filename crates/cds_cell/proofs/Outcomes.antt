@@ -9,6 +9,7 @@ use Rattle.cell_model.specs.Reached.{IsReached}
 use Rattle.cell_model.specs.Steps.{Outcome, effect, first_refusal, outcome, refusals_of}
 use Rattle.cell_model.proofs.Standing.{reached_lem}
 use Rattle.script_answers.specs.declared.answer.Answer.{Answer}
+use Rattle.script_answers.specs.declared.answer.Answer.TheVariants as answer
 use Rattle.script_answers.specs.declared.answer.ScriptRefusal.{ScriptRefusal}
 use Rattle.cds_cell.specs.declared.cell.Cell.{Cell}
 use Rattle.cds_cell.specs.PrivateSteps.{ComesTo, IsStepAs}
@@ -50,6 +51,19 @@ refused_stands c g k r s told = by (first_refusal (refusals_of g k)) refl told
     by : (o : Option command.Refusal) → first_refusal (refusals_of g k) ≡ o → Some r ≡ option_map script.refusal_of o → Stands c (outcome g k).cell
     by None is told = absurd (cc (told))
     by (Some q) is told = rw is s
+
+-- a command that is refused is a step of its own
+pub refused_step : (c : Cell) (g : model.Cell) (k : command.Command) (r : ScriptRefusal) → Stands c g
+    → Some r ≡ option_map script.refusal_of (first_refusal (refusals_of g k)) → IsStep (answer.Refused r) c (outcome g k)
+refused_step c g k r s told = record {
+  answer = by (first_refusal (refusals_of g k)) refl told;
+  stands = refused_stands c g k r s told;
+}
+  where
+    by : (o : Option command.Refusal) → first_refusal (refusals_of g k) ≡ o → Some r ≡ option_map script.refusal_of o
+        → script.answer_of (outcome g k).answer ≡ Some (answer.Refused r)
+    by None is told = absurd (cc (told))
+    by (Some q) is told = rw is (ap (option_map answer.Refused) (sym told))
 
 -- a cell that notes whether memory ran out stands for the same
 pub unspent_stands : {T : Type 0} (d : Cell) (g : model.Cell) (r : Result T AllocError) → OnOk r (Stands d g) → OnOk r (Stands (record d { spent = is_err r }) g)

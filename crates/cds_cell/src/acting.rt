@@ -5,7 +5,7 @@ ghost use Rattle.cds_stamps.specs.Members.{master_of, members_of};
 ghost use Rattle.directory.specs.Updates.{change_of};
 ghost use Rattle.cell_model.specs.Cells as model;
 ghost use Rattle.cell_model.specs.Commands as command;
-ghost use Rattle.cell_model.specs.Steps.{effect, first_refusal, refusals_of};
+ghost use Rattle.cell_model.specs.Steps.{effect, first_refusal, outcome, refusals_of};
 ghost use Rattle.cell_model.specs.Turns as turns;
 ghost use Rattle.cell_script.specs.Listings.{houses_in, secondaries_in};
 ghost use Rattle.house_directory.specs.HouseMessages.{numbers_of};
@@ -15,7 +15,7 @@ ghost use Rattle.cds_cell.specs.PrivateActs.{ActsAt, KeepsRest, Posts};
 ghost use Rattle.cds_cell.specs.PrivateHouses.{IsNewEpoch, leaves_by, posted_at};
 ghost use Rattle.cds_cell.specs.PrivateSteps.{ComesTo, IsPlaceOf, Leaves};
 ghost use Rattle.cds_cell.specs.Scripted.{step_of};
-ghost use Rattle.cds_cell.specs.ModelCells.{HasRoom, Stands};
+ghost use Rattle.cds_cell.specs.ModelCells.{HasRoom, IsStep, Stands};
 
 use crate::answers::{begun_in_script, epoch_refusal_in_script, refusal_in_script};
 use crate::cell::Cell;
@@ -57,7 +57,28 @@ impl Cell {
         }
     }
 
-    /// An update of a directory at a house.
+    /// An update of a directory at a house, or the first reason against it.
+    #[inline(never)]
+    pub(crate) fn update(
+        &mut self,
+        alloc: Global,
+        house: HouseNo,
+        dir: DirId,
+        update: &Update,
+    ) -> Result<Answer, AllocError>
+        requires room { HasRoom self.old }
+        ensures leaves { Leaves self.old self.new result }
+        ensures step { (g : model.Cell) → Stands self.old g
+            → IfOk result (λ a. IsStep a self.new
+            (outcome g (command.Accept house.0 dir.0 (change_of update.now)))) }
+    {
+        match self.acting_place(house, dir) {
+            Ok(at) => self.accept_placed(alloc, at, dir, update),
+            Err(refusal) => Ok(Answer::Refused(refusal)),
+        }
+    }
+
+    /// An update of a directory at a house that nothing was said against.
     pub(crate) fn accept(
         &mut self,
         alloc: Global,
@@ -76,6 +97,26 @@ impl Cell {
         let Some(at) = self.position(house) else {
             return Ok(Answer::Refused(ScriptRefusal::NoHouse));
         };
+        self.accept_placed(alloc, at, dir, update)
+    }
+
+    // An update of a directory at the house of this place that nothing was said against.
+    fn accept_placed(
+        &mut self,
+        alloc: Global,
+        at: usize,
+        dir: DirId,
+        update: &Update,
+    ) -> Result<Answer, AllocError>
+        requires house { at < length self.old.houses.items }
+        requires room { HasRoom self.old }
+        ensures leaves { Leaves self.old self.new result }
+        ensures step { (g : model.Cell) (x : ℕ) → Stands self.old g
+            → IsPlaceOf self.old.houses.items x at
+            → first_refusal (refusals_of g (command.Accept x dir.0 (change_of update.now))) ≡ None
+            → ComesTo result self.new
+            (effect g (command.Accept x dir.0 (change_of update.now))) }
+    {
         let mut serials = Serials::new(alloc);
         match self.accept_at(alloc, at, dir, update, &mut serials)? {
             Ok(stamp) => Ok(Answer::Stamped(stamp, serials)),

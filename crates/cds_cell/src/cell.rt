@@ -9,7 +9,7 @@ ghost use Rattle.cell_model.specs.Steps.{message_at, outcome};
 ghost use Rattle.cds_cell.specs.Accepting.{IsAccepting, accept_in_turn};
 ghost use Rattle.cds_cell.specs.Bags.{letter_at};
 ghost use Rattle.cds_cell.specs.CellHouses.{is_up_state};
-ghost use Rattle.cds_cell.specs.PrivateSteps.{IsPlaceOf};
+ghost use Rattle.cds_cell.specs.PrivateSteps.{IsPlaceOf, Leaves};
 ghost use Rattle.cds_cell.specs.Recorded.{octets_of};
 ghost use Rattle.cds_cell.specs.Scripted.{step_of};
 ghost use Rattle.cds_cell.specs.ModelCells.{GrowsBy, GrowsByUpdates, HasRoom, IsCall, IsGreatestEpoch, IsStep, IsWithin, Stands, UnlessDone};
@@ -184,6 +184,23 @@ impl Cell {
         ensures spent { self.new.spent ≡ self.old.spent }
         ensures grows { OnOk result (GrowsBy self.old self.new) }
         ensures same { IfOk result (λ a. UnlessDone a (self.new ≡ self.old)) }
+        ensures step { (g : model.Cell) → Stands self.old g
+            → IfOk result (λ a. IsStep a self.new (outcome g (step_of command))) }
+    {
+        match &command {
+            Command::Update(house, dir, update) => self.update(alloc, *house, *dir, update),
+            Command::Deliver(serial) => self.deliver(alloc, *serial),
+            Command::Lose(serial) => Ok(self.lose(*serial)),
+            _ => self.take_rarer(alloc, command),
+        }
+    }
+
+    // Refuses a step, or does it: any, though updates and messages, of which there are many more,
+    // do not come here.
+    #[inline(never)]
+    fn take_rarer(&mut self, alloc: Global, command: Command) -> Result<Answer, AllocError>
+        requires room { HasRoom self.old }
+        ensures leaves { Leaves self.old self.new result }
         ensures step { (g : model.Cell) → Stands self.old g
             → IfOk result (λ a. IsStep a self.new (outcome g (step_of command))) }
     {

@@ -33,6 +33,7 @@ pub(crate) struct Delivery {
 
 impl Cell {
     /// The message of a serial number comes to its receiver, if it is in the bag, where it stays.
+    #[inline(never)]
     pub(crate) fn deliver(&mut self, alloc: Global, serial: u64) -> Result<Answer, AllocError>
         requires room { HasRoom self.old }
         ensures leaves { Leaves self.old self.new result }

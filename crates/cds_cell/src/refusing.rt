@@ -1,6 +1,6 @@
 // Which steps are allowed, but for what the house that acts says to them. Nothing here takes
 // memory.
-ghost use Rattle.std.specs.Prelude.{◌≡◌, [], ◌∷◌, ◌++◌, is_none, is_some, not};
+ghost use Rattle.std.specs.Prelude.{◌≡◌, [], ◌∷◌, ◌++◌, IfOk, is_none, is_some, not};
 ghost use Rattle.std.specs.List.{list_any};
 ghost use Rattle.std.specs.Option.{option_map};
 ghost use Rattle.cds_stamps.specs.Members.{is_listed};
@@ -9,7 +9,7 @@ ghost use Rattle.cell_model.specs.Commands as command;
 ghost use Rattle.cell_model.specs.Steps.{is_bad_list, is_down, is_missing, is_taken, is_unknown, refusals_of};
 ghost use Rattle.house_directory.specs.HouseMessages.{numbers_of};
 ghost use Rattle.cds_cell.specs.CellHouses.{is_up_state};
-ghost use Rattle.cds_cell.specs.PrivateSteps.{IsAllowed};
+ghost use Rattle.cds_cell.specs.PrivateSteps.{IsAllowed, IsPlaceOf};
 ghost use Rattle.cds_cell.specs.Scripted.{step_of};
 ghost use Rattle.cds_cell.specs.ModelCells.{Stands, directory_of, house_of};
 
@@ -96,8 +96,35 @@ impl Cell {
         ensures { (g : model.Cell) → Stands self.now g
             → IsAllowed result (refusals_of g (command.Skulk house.0 dir.0)) }
     {
-        self.placed(house, dir)?;
-        self.up(house)
+        self.acting_place(house, dir)?;
+        Ok(())
+    }
+
+    /// Where the house is that takes an update or a skulk, or the first reason against that.
+    pub(crate) fn acting_place(&self, house: HouseNo, dir: DirId) -> Result<usize, ScriptRefusal>
+        ensures place { IfOk result (IsPlaceOf self.now.houses.items house.0) }
+        ensures allowed { (g : model.Cell) → Stands self.now g
+            → IsAllowed result (refusals_of g (command.Skulk house.0 dir.0)) }
+    {
+        self.known(dir)?;
+        self.place_up(house)
+    }
+
+    // Where a house that is up is.
+    fn place_up(&self, house: HouseNo) -> Result<usize, ScriptRefusal>
+        ensures place { IfOk result (IsPlaceOf self.now.houses.items house.0) }
+        ensures allowed { (g : model.Cell) → Stands self.now g
+            → IsAllowed result
+            ((is_missing g (house.0 ∷ []), command.NoHouse)
+            ∷ (is_down g house.0, command.Down) ∷ []) }
+    {
+        let Some(at) = self.position(house) else {
+            return Err(ScriptRefusal::NoHouse);
+        };
+        match &self.houses[at].state {
+            HouseState::Up(_) => Ok(at),
+            HouseState::Down(_) => Err(ScriptRefusal::Down),
+        }
     }
 
     fn allows_epoch(
@@ -122,8 +149,8 @@ impl Cell {
         ensures { (g : model.Cell) → Stands self.now g
             → IsAllowed result (refusals_of g (command.Crash house.0)) }
     {
-        self.made(house, &[])?;
-        self.up(house)
+        self.place_up(house)?;
+        Ok(())
     }
 
     fn allows_start(&self, house: HouseNo) -> Result<(), ScriptRefusal>

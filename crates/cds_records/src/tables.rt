@@ -1,5 +1,5 @@
 // Readers of replicas, level by level.
-ghost use Rattle.std.specs.Prelude.{◌≡◌, ◌-◌, ◌≤◌, Some, None, OnOk};
+ghost use Rattle.std.specs.Prelude.{◌≡◌, ◌-◌, ◌≤◌, [], Some, None, OnOk};
 ghost use Rattle.std.specs.FinMap as map;
 ghost use Rattle.std.specs.Option.{option_map};
 ghost use Rattle.directory.specs.Kinds.{kind_of_rank};
@@ -14,6 +14,10 @@ use directory::{AttrMap, EntryCell, Excerpt, Kind, Table};
 use purge_rule::{Delta, Replica};
 use record_fields::{Broken, ReadError, Reader, Rule};
 use std::alloc::{AllocError, Global};
+
+/// The octets of an entry that has least: a name of one octet, a kind, a birth, no death, and the
+/// number of its attributes.
+const LEAST_ENTRY: usize = 26;
 
 // Attributes and entries.
 
@@ -117,6 +121,16 @@ fn push_entry<'a>(
     Ok(own)
 }
 
+/// No entries, with room for so many, but at most for as many as this many octets can have. Where
+/// memory is lacking there is no room.
+fn roomy(alloc: Global, count: u64, octets: usize) -> Vec<(SimpleName, EntryCell)>
+    ensures { result.items ≡ [] }
+{
+    let mut entries = Vec::new(alloc);
+    let _ = entries.reserve_exact((count as usize).min(octets / LEAST_ENTRY));
+    entries
+}
+
 /// So many entries, ascending.
 fn read_entries(
     reader: &mut Reader<'_>,
@@ -127,7 +141,7 @@ fn read_entries(
     ensures { Reads (λ v. v.items)
         (ascending_items simple_name (entry above.now) count None) reader.old reader.new result }
 {
-    let mut entries = Vec::new(alloc);
+    let mut entries = roomy(alloc, count, reader.left());
     let mut before = None;
     for _ in 0..count {
         let own = push_entry(reader, alloc, &mut entries, above, before)?;

@@ -26,7 +26,7 @@ pub(crate) fn octets_of(
 ) -> Result<Vec<u8>, AllocError>
     ensures { IfOk result (λ v. v.items ≡ body.now ++ digest.now) }
 {
-    let mut octets = Vec::with_capacity(alloc, body.len())?;
+    let mut octets = Vec::with_capacity(alloc, body.len().saturating_add(DIGEST))?;
     octets.extend_from_slice(body)?;
     octets.extend_from_slice(digest)?;
     Ok(octets)

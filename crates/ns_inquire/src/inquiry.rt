@@ -105,7 +105,7 @@ fn elements_shown(
 ) -> Result<Vec<Element>, AllocError>
     ensures { IfOk result (λ v. v.items ≡ elements_of inquiry.now (cell_values cell.now)) }
 {
-    let mut found = Vec::new(alloc);
+    let mut found = Vec::with_capacity(alloc, cell.values.len())?;
     for (value, mark) in cell.values.iter() {
         if mark.present {
             push_some(&mut found, picked(alloc, value, inquiry)?)?;

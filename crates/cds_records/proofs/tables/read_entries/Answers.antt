@@ -10,7 +10,7 @@ use Rattle.record_fields.proofs.ListLoops.{list_begins, list_goes_on, list_ends,
 use Rattle.cds_records.proofs.tables.read_entries.Goals as goal
 
 pub loop-init : goal.loop-init
-loop-init c = rw c.new-entries.ensures.items (list_begins simple_name (entry c.args.above.now) c.args.count c.args.reader.now)
+loop-init c = rw c.roomy-entries.ensures (list_begins simple_name (entry c.args.above.now) c.args.count c.args.reader.now)
 
 pub returns-in_err-own : goal.returns-in_err-own
 returns-in_err-own c =
