@@ -64,16 +64,16 @@ impl Cell {
         alloc: Global,
         house: HouseNo,
         dir: DirId,
-        update: &Update,
+        change: &Update,
     ) -> Result<Answer, AllocError>
         requires room { HasRoom self.old }
         ensures leaves { Leaves self.old self.new result }
         ensures step { (g : model.Cell) → Stands self.old g
             → IfOk result (λ a. IsStep a self.new
-            (outcome g (command.Accept house.0 dir.0 (change_of update.now)))) }
+            (outcome g (command.Accept house.0 dir.0 (change_of change.now)))) }
     {
         match self.acting_place(house, dir) {
-            Ok(at) => self.accept_placed(alloc, at, dir, update),
+            Ok(at) => self.accept_placed(alloc, at, dir, change),
             Err(refusal) => Ok(Answer::Refused(refusal)),
         }
     }
