@@ -161,17 +161,17 @@ among {L} (r ∷ rs) are w s l is = by (bytes_eq w r.word) refl (λ later. among
     by false off later is = later is
 
 directory_name : (fs : List Form) → AreWords fs → AreWords (One directory_of ∷ One simple_name_of ∷ fs)
-directory_name fs words = (plain_directory, plain_name, words)
+directory_name fs words = (plain_directory, (plain_name, words))
 
 directory_value : AreWords (One directory_of ∷ One simple_name_of ∷ One attr_name_of ∷ One octets_value_of ∷ [])
-directory_value = (plain_directory, plain_name, plain_attr, plain_value, tt)
+directory_value = (plain_directory, (plain_name, (plain_attr, (plain_value, tt))))
 
 directory_attr : AreWords (One directory_of ∷ One simple_name_of ∷ One attr_name_of ∷ [])
-directory_attr = (plain_directory, plain_name, plain_attr, tt)
+directory_attr = (plain_directory, (plain_name, (plain_attr, tt)))
 
 making : AreRows making_rows
 making = (
-  (plain_house, plain_node, tt),
+  (plain_house, (plain_node, tt)),
   begins (codes "house") refl (λ rest. refl),
   (
     (plain_number, tt),
@@ -180,10 +180,10 @@ making = (
       plain_listed,
       begins (codes "root") refl (λ rest. refl),
       (
-        (plain_directory, plain_name, plain_directory, plain_listed),
+        (plain_directory, (plain_name, (plain_directory, plain_listed))),
         begins (codes "mkdir") refl (λ rest. refl),
         (
-          (plain_directory, plain_name, plain_house, plain_house),
+          (plain_directory, (plain_name, (plain_house, plain_house))),
           begins (codes "repoint") refl (λ rest. refl),
           tt,
         ),
@@ -197,7 +197,7 @@ entries = (
   directory_name [] tt,
   begins (codes "create") refl (λ rest. refl),
   (
-    (plain_directory, plain_name, plain_full_name, tt),
+    (plain_directory, (plain_name, (plain_full_name, tt))),
     begins (codes "link") refl (λ rest. refl),
     (directory_name [] tt, begins (codes "delete") refl (λ rest. refl), tt),
   ),
@@ -237,7 +237,7 @@ questions = (
     directory_attr,
     begins (codes "look") refl (λ rest. refl),
     (
-      (plain_confidence, plain_directory, plain_name, tt),
+      (plain_confidence, (plain_directory, (plain_name, tt))),
       begins (codes "show") refl (λ rest. refl),
       (
         (plain_directory, tt),
