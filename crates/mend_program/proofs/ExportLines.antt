@@ -258,10 +258,12 @@ read_all Q fs build all s short = by_count (check_count (is_open fs) (least_of f
     by_count (Ok u) = built_all Q fs build all s short
     by_count (Err e) = tt
 
-abbrev RowShort : Row → Type 0
-RowShort row = AllBuilt IsShort row.forms row.says
+-- each of these rows says short lines
+abbrev AreShortRows : List Row → Type 0
+AreShortRows [] = Unit {0}
+AreShortRows (row ∷ rs) = AllBuilt IsShort row.forms row.says × AreShortRows rs
 
-rows_short : AllByRecursion RowShort rows
+rows_short : AreShortRows rows
 rows_short = (
   λ h _ n _. tt,
   (
@@ -356,7 +358,7 @@ rows_short = (
   ),
 )
 
-among_short : (rs : List Row) → AllByRecursion RowShort rs → (word : List ℕ) (s : Words) → AllShort s.rest → Holds (said_among rs no_command word s) IsShort
+among_short : (rs : List Row) → AreShortRows rs → (word : List ℕ) (s : Words) → AllShort s.rest → Holds (said_among rs no_command word s) IsShort
 among_short [] all word s short = tt
 among_short (row ∷ rs) all word s short = by_word (among_short rs all.1 word s short) (bytes_eq word row.word)
   where

@@ -117,10 +117,12 @@ abbrev pub Ranged : ScriptLine → Type 0
 Ranged (line.Cell (command.House h node)) = IsHouse h.0
 Ranged _ = Unit {0}
 
-abbrev RowRanged : Row → Type 0
-RowRanged row = AllBuilt Ranged row.forms row.says
+-- each of these rows says such lines
+abbrev AreRanged : List Row → Type 0
+AreRanged [] = Unit {0}
+AreRanged (row ∷ rs) = AllBuilt Ranged row.forms row.says × AreRanged rs
 
-rows_ranged : AllByRecursion RowRanged rows
+rows_ranged : AreRanged rows
 rows_ranged = (
   λ h said n _. house_valid said.0 h said.1,
   (
@@ -213,7 +215,7 @@ rows_ranged = (
   ),
 )
 
-among_ranged : (rs : List Row) → AllByRecursion RowRanged rs → (word : List ℕ) (s : Words) → Holds (said_among rs no_command word s) Ranged
+among_ranged : (rs : List Row) → AreRanged rs → (word : List ℕ) (s : Words) → Holds (said_among rs no_command word s) Ranged
 among_ranged [] all word s = tt
 among_ranged (row ∷ rs) all word s = by_word (among_ranged rs all.1 word s) (bytes_eq word row.word)
   where
