@@ -2,13 +2,19 @@
 #![tactic(auto)]
 
 mod heard;
+mod importing;
+mod inquiring;
 mod linking;
+mod planning;
 mod reading;
 mod searching;
 mod walking;
 
 pub use heard::{Answered, Answers, Heard, Lack, Looked, Root};
+pub use importing::import;
+pub use inquiring::{Listing, inquire, lookup};
 pub use linking::read_link;
+pub use planning::{NamedUpdate, Plan, Planned, plan_of, plan_update};
 pub use reading::{Outcome, read};
-pub use searching::{Searched, search};
+pub use searching::Searched;
 pub use walking::{Walked, walk};
