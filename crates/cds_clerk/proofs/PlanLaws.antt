@@ -1,6 +1,7 @@
 -- Plans over readers that agree with what was heard are one.
-use Rattle.std.proofs.Common.{◌≡◌, ℕ, Bool, true, List, refl, sym, ap, ap₂, subst, ◌∙◌}
-use Rattle.std.specs.Prelude.{Some, is_none}
+use Rattle.std.proofs.Common.{◌≡◌, ℕ, true, List, refl, sym, ap, ap₂, ◌∙◌}
+use Rattle.std.specs.Prelude.{Some, Result, Ok, Err, IfOk, is_none}
+use Rattle.std.specs.declared.alloc.AllocError.{AllocError}
 use Rattle.std.specs.Option.{option_map}
 use Rattle.directory.specs.declared.entry.Kind.{Kind}
 use Rattle.directory.specs.declared.entry.Kind.TheVariants as kind
@@ -17,13 +18,14 @@ use Rattle.ns_profiles.specs.Profiles as profiles_of
 use Rattle.ns_commands.specs.Asks.{Asks, changes_unless, deleted_from, fills, object_in, of_entry, of_kind, place_to_fill, refusal_of_export, refusal_of_group, refusal_of_profile, unless, unless_none}
 use Rattle.clerk_lines.specs.ShownEntries.{attr_values}
 use Rattle.cds_clerk.specs.declared.heard.Heard.{Heard}
+use Rattle.cds_clerk.specs.declared.heard.Lack.{Lack}
 use Rattle.cds_clerk.specs.declared.planning.Plan.{Plan}
 use Rattle.cds_clerk.specs.declared.planning.Plan.TheVariants as plan
 use Rattle.cds_clerk.specs.declared.planning.Planned.{Planned}
 use Rattle.cds_clerk.specs.declared.planning.Planned.TheVariants as planned
 use Rattle.cds_clerk.specs.Agreements.{Agrees}
 use Rattle.cds_clerk.specs.Heards.{heard_values, values_told}
-use Rattle.cds_clerk.specs.Plans.{IfPlanned, asks_of, name_of}
+use Rattle.cds_clerk.specs.Plans.{IfMisses, IfPlanned, IfRootless, IsKnown, asks_of, name_of}
 use Rattle.cds_clerk.specs.Readings.{IfFound, IsShown, least_reader}
 use Rattle.cds_clerk.proofs.HeardLaws.{end_is, least_agrees}
 
@@ -99,3 +101,19 @@ same_plan (planned.Made u) P Q gives its = gives _ its
 same_plan (planned.Refused why) P Q gives its = gives _ its
 same_plan planned.LacksRoot P Q gives its = tt
 same_plan (planned.Lacks q) P Q gives its = tt
+
+-- what is known lacks nothing
+pub misses_none : (x : Result Planned AllocError) (P : Lack → Type 0) → IfOk x IsKnown → IfOk x (λ y. IfMisses y P)
+misses_none (Ok (planned.Made u)) P known = tt
+misses_none (Ok (planned.Refused why)) P known = tt
+misses_none (Ok planned.LacksRoot) P known = absurd known
+misses_none (Ok (planned.Lacks q)) P known = absurd known
+misses_none (Err e) P known = tt
+
+-- nor where the root directory is
+pub has_root : (x : Result Planned AllocError) (P : Type 0) → IfOk x IsKnown → IfOk x (λ y. IfRootless y P)
+has_root (Ok (planned.Made u)) P known = tt
+has_root (Ok (planned.Refused why)) P known = tt
+has_root (Ok planned.LacksRoot) P known = absurd known
+has_root (Ok (planned.Lacks q)) P known = absurd known
+has_root (Err e) P known = tt

@@ -87,3 +87,12 @@ IfRootless (planned.Made u) P = Unit {0}
 IfRootless (planned.Refused reason) P = Unit {0}
 IfRootless planned.LacksRoot P = P
 IfRootless (planned.Lacks q) P = Unit {0}
+
+-- ---- words of private contracts
+
+-- it is known what is asked for, or why nothing is
+abbrev pub IsKnown : Planned → Type 0
+IsKnown (planned.Made u) = Unit {0}
+IsKnown (planned.Refused reason) = Unit {0}
+IsKnown planned.LacksRoot = ⊥
+IsKnown (planned.Lacks q) = ⊥

@@ -13,7 +13,7 @@ ghost use Rattle.cds_clerk.specs.Agreements.{Agrees, IsNeeded};
 ghost use Rattle.cds_clerk.specs.Heards.{IsUnheard, heard_root};
 ghost use Rattle.cds_clerk.specs.Inquirings.{IsAtName};
 ghost use Rattle.cds_clerk.specs.Readings.{IfFound, IsShown};
-ghost use Rattle.cds_clerk.specs.Plans.{IfMisses, IfPlanned, IfRootless, asks_of, change_named, is_creation, name_of, update_at, update_of};
+ghost use Rattle.cds_clerk.specs.Plans.{IfMisses, IfPlanned, IfRootless, IsKnown, asks_of, change_named, is_creation, name_of, update_at, update_of};
 
 use crate::heard::{Heard, Lack};
 use crate::importing::HeardReader;
@@ -126,8 +126,9 @@ impl Plan {
 
 // What was asked for, as what a plan comes to.
 fn told(asked: Result<Updates, AllocOr<ScriptRefusal>>) -> Result<Planned, AllocError>
-    ensures { (asks : Asks) → Answers (result_map_both changes_in (λ e. e) asked) asks
+    ensures asked { (asks : Asks) → Answers (result_map_both changes_in (λ e. e) asked) asks
         → IfOk result (λ x. IfPlanned x (λ a. a ≡ asks)) }
+    ensures known { IfOk result IsKnown }
 {
     match asked {
         Ok(updates) => Ok(Planned::Made(updates)),
@@ -140,8 +141,9 @@ fn told(asked: Result<Updates, AllocOr<ScriptRefusal>>) -> Result<Planned, Alloc
 fn plan_at(alloc: Global, heard: &Heard, plan: &Plan, end: &End) -> Result<Planned, AllocError>
     requires walked { (r : Reader) → Agrees r heard.now → Ends r true (name_of plan.now) end.now }
     requires shown { IfFound end.now (IsShown heard.now) }
-    ensures { IfOk result (λ x. IfPlanned x (λ asks. (r : Reader) → Agrees r heard.now
+    ensures asked { IfOk result (λ x. IfPlanned x (λ asks. (r : Reader) → Agrees r heard.now
         → asks ≡ asks_of r plan.now)) }
+    ensures known { IfOk result IsKnown }
 {
     told(plan.asks(alloc, &HeardReader { heard }))
 }
@@ -214,7 +216,9 @@ fn single(
 
 // What an update asks for by the end of a walk.
 fn update_at(alloc: Global, end: &End, update: &NamedUpdate) -> Result<Planned, AllocError>
-    ensures { IfOk result (λ x. IfPlanned x (λ asks. asks ≡ update_at update.now end.now)) }
+    ensures asked { IfOk result
+        (λ x. IfPlanned x (λ asks. asks ≡ update_at update.now end.now)) }
+    ensures known { IfOk result IsKnown }
 {
     match end {
         End::Found(found) => Ok(Planned::Made(single(
