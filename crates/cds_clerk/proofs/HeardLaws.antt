@@ -5,35 +5,29 @@ use Rattle.std.proofs.lemmas.Bool.Decides.{nat_tests}
 use Rattle.std.specs.Prelude.{◌==◌, ◌||◌, IfSome, Option, Some, None, unwrap_or}
 use Rattle.std.specs.List.{list_any}
 use Rattle.cds_stamps.specs.declared.numbers.HouseNo.{HouseNo}
-use Rattle.std.specs.Option.{option_map, option_map_or}
 use Rattle.cell_names.specs.ChildPointers.{Pointer}
-use Rattle.directory.specs.declared.entry.Kind.{Kind}
-use Rattle.directory.specs.declared.entry.Kind.TheVariants as kind
 use Rattle.resolver.specs.declared.seen.Found.{Found}
 use Rattle.resolver.specs.declared.seen.Seen.{Seen}
 use Rattle.resolver.specs.declared.walk.End.{End}
 use Rattle.resolver.specs.declared.walk.End.TheVariants as ends
 use Rattle.resolver.specs.Readers.{Reader, Sight, Unreachable, sight_of}
-use Rattle.resolver.specs.SeenEnds.{IsSeen, IsSeenEnd, entry_seen}
+use Rattle.resolver.specs.SeenEnds.{IsSeen, IsSeenEnd}
 use Rattle.resolver.specs.Walks.{Walker, Ends, EndsFrom, found_of}
 use Rattle.resolver.specs.WalkEnds.{end_of, walk_end}
 use Rattle.resolver.specs.PassWords.{first_walker}
 use Rattle.resolver.specs.WalkEndProofs.{one_end, some_end}
 use Rattle.script_answers.specs.declared.answer.Answer.{Answer}
-use Rattle.clerk_lines.specs.declared.hearing.Told.{Told}
 use Rattle.clerk_lines.specs.declared.hearing.Told.TheVariants as told
-use Rattle.clerk_lines.specs.declared.shown.Lead.{Lead}
-use Rattle.clerk_lines.specs.declared.shown.Lead.TheVariants as lead
-use Rattle.clerk_lines.specs.declared.shown.ShownEntry.{ShownEntry}
-use Rattle.cds_clerk.specs.declared.heard.Answered.{Answered}
+use Rattle.clerk_lines.specs.ShownEntries.{attr_values}
 use Rattle.cds_clerk.specs.declared.heard.Heard.{Heard}
+use Rattle.cds_clerk.specs.declared.heard.Lack.{Lack}
 use Rattle.cds_clerk.specs.declared.heard.Looked.{Looked}
 use Rattle.cds_clerk.specs.declared.heard.Looked.TheVariants as looked
 use Rattle.cds_clerk.specs.declared.walking.Walked.{Walked}
 use Rattle.cds_clerk.specs.declared.walking.Walked.TheVariants as walked
 use Rattle.cds_clerk.specs.Agreements.{Agrees, IfEnded, IfWants, IsNeeded}
-use Rattle.cds_clerk.specs.Heards.{IfLacks, IfSeen, IsAmong, heard_root, heard_sight, heard_values, lead_sight, near_of, seen_among, seen_by, seen_first, sight_after, told_of}
-use Rattle.cds_clerk.specs.HeardProofs.{IsTold, sight_told}
+use Rattle.cds_clerk.specs.Heards.{IfLacks, IfSeen, IsAmong, heard_root, heard_sight, heard_values, sight_after, told_of, values_told}
+use Rattle.cds_clerk.specs.HeardProofs.{sight_told}
 use Rattle.cds_clerk.specs.Readings.{IfFound, IsShown, least_reader, values_read}
 
 -- ---- looks
@@ -120,6 +114,10 @@ needed_from h last name root w (walked.Lacks q) there first needs = λ other is.
 pub if_ended : (x : Walked) (e : End) (P : End → Type 0) → x ≡ walked.Ended e → IfEnded x P → P e
 if_ended x e P is there = subst (λ (y : Walked). IfEnded y P) is there
 
+-- what is known of a walk that lacks this
+pub if_wants : (x : Walked) (q : Lack) (P : Lack → Type 0) → x ≡ walked.Lacks q → IfWants x P → P q
+if_wants x q P is there = subst (λ (y : Walked). IfWants y P) is there
+
 -- ---- one reader that agrees
 
 or_is : {A : Type 0} (o : Option A) (d x : A) → o ≡ Some x → unwrap_or o d ≡ x
@@ -132,6 +130,13 @@ least_agrees h = record {
   sees = λ at name s is. or_is (heard_sight h at name) Unreachable s is;
   values = λ f attr vs is. or_is (heard_values h f attr) [] vs is;
 }
+
+-- of an entry that was shown readers that agree tell the same values
+pub values_alike : (h : Heard) (r : Reader) → Agrees r h → (e : Found) (attr : List ℕ) → IsShown h e → r.values e attr ≡ (least_reader h).values e attr
+values_alike h r agrees e attr shown =
+    let vs : List (List ℕ) = attr_values attr shown.entry.attrs in
+    let heard : heard_values h e attr ≡ Some vs = ap (λ o. values_told o attr) shown.told in
+    agrees.values e attr vs heard ∙ sym ((least_agrees h).values e attr vs heard)
 
 -- ---- entries that were shown
 
@@ -147,7 +152,7 @@ ended_shown h last (ends.Missing place done) seen = tt
 ended_shown h last (ends.Refused why) seen = tt
 
 -- an end to which a walk comes is its end
-end_is : (r : Reader) (last : Bool) (name : List (List ℕ)) (e : End) → Ends r last name e → end_of r last name ≡ e
+pub end_is : (r : Reader) (last : Bool) (name : List (List ℕ)) (e : End) → Ends r last name e → end_of r last name ≡ e
 unfolding end_of
 end_is r last name e there = one_end (some_end r last name).1 there
 

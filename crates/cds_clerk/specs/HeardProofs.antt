@@ -29,44 +29,55 @@ use Rattle.cds_clerk.specs.Readings.{least_reader}
 -- an entry that is seen was shown by that house
 abbrev pub IsTold : List Answered → (dir : ℕ) → (name : List ℕ) → Option Sight → Type 0
 IsTold answers dir name o =
-    (x : ℕ) (k : Kind) → entry_seen (unwrap_or o Unreachable) ≡ Some (x, k) → (e : ShownEntry) × (told_of answers dir x name ≡ Some (told.Shows e))
+    (x : ℕ) (k : Kind) → entry_seen (unwrap_or o Unreachable) ≡ Some (x, k)
+    → (e : ShownEntry) × (told_of answers dir x name ≡ Some (told.Shows e))
 
-same_house : (x y : ℕ) (k l : Kind) → ◌≡◌ {A = Option (ℕ × Kind)} (Some (x, k)) (Some (y, l)) → x ≡ y
+same_house : (x y : ℕ) (k l : Kind) → ◌≡◌ {A = Option (ℕ × Kind)} (Some (x, k)) (Some (y, l))
+    → x ≡ y
 same_house x y k l is = ap (λ (o : Option (ℕ × Kind)). option_map_or (λ q. q.0) o x) is
 
-lead_told : (answers : List Answered) (dir : ℕ) (name : List ℕ) (x : ℕ) (e : ShownEntry) (to : Lead) → told_of answers dir x name ≡ Some (told.Shows e)
-    → IsTold answers dir name (Some (lead_sight x to))
-lead_told answers dir name x e lead.Object is y k seen =
-    let same = same_house x y kind.Object k seen in (e, subst (λ (z : ℕ). told_of answers dir z name ≡ Some (told.Shows e)) same is)
-lead_told answers dir name x e (lead.Link target) is y k seen =
-    let same = same_house x y kind.Link k seen in (e, subst (λ (z : ℕ). told_of answers dir z name ≡ Some (told.Shows e)) same is)
-lead_told answers dir name x e (lead.Child p) is y k seen =
-    let same = same_house x y kind.Child k seen in (e, subst (λ (z : ℕ). told_of answers dir z name ≡ Some (told.Shows e)) same is)
+module _ (answers : List Answered) (dir : ℕ) (name : List ℕ) where
+  -- the house said so
+  abbrev IsSaid : ℕ → ShownEntry → Type 0
+  IsSaid x e = told_of answers dir x name ≡ Some (told.Shows e)
 
-house_told : (answers : List Answered) (dir : ℕ) (name : List ℕ) (x : ℕ) (t : Option Told) (later : Option Sight) → told_of answers dir x name ≡ t
-    → IsTold answers dir name later → IsTold answers dir name (seen_by t x later)
-house_told answers dir name x None later is rest y k seen = absurd (cc)
-house_told answers dir name x (Some told.Passed) later is rest y k seen = rest y k seen
-house_told answers dir name x (Some told.Absent) later is rest y k seen = absurd (cc)
-house_told answers dir name x (Some (told.Shows e)) later is rest y k seen = lead_told answers dir name x e e.lead is y k seen
+  lead_told : (x : ℕ) (e : ShownEntry) (to : Lead) → IsSaid x e
+      → IsTold answers dir name (Some (lead_sight x to))
+  lead_told x e lead.Object is y k seen =
+      (e, subst (λ (z : ℕ). IsSaid z e) (same_house x y kind.Object k seen) is)
+  lead_told x e (lead.Link target) is y k seen =
+      (e, subst (λ (z : ℕ). IsSaid z e) (same_house x y kind.Link k seen) is)
+  lead_told x e (lead.Child p) is y k seen =
+      (e, subst (λ (z : ℕ). IsSaid z e) (same_house x y kind.Child k seen) is)
 
-among_told : (answers : List Answered) (dir : ℕ) (name : List ℕ) (houses : List ℕ) (later : Option Sight) → IsTold answers dir name later
-    → IsTold answers dir name (seen_among answers dir name houses later)
-unfolding seen_among
-among_told answers dir name [] later rest = rest
-among_told answers dir name (x ∷ xs) later rest =
-    house_told answers dir name x (told_of answers dir x name) (seen_among answers dir name xs later) refl (among_told answers dir name xs later rest)
+  house_told : (x : ℕ) (t : Option Told) (later : Option Sight) → told_of answers dir x name ≡ t
+      → IsTold answers dir name later → IsTold answers dir name (seen_by t x later)
+  house_told x None later is rest y k seen = absurd (cc)
+  house_told x (Some told.Passed) later is rest y k seen = rest y k seen
+  house_told x (Some told.Absent) later is rest y k seen = absurd (cc)
+  house_told x (Some (told.Shows e)) later is rest y k seen = lead_told x e e.lead is y k seen
 
-first_told : (answers : List Answered) (dir : ℕ) (name : List ℕ) (near : Option ℕ) (later : Option Sight) → IsTold answers dir name later
-    → IsTold answers dir name (seen_first answers dir name near later)
-first_told answers dir name None later rest = rest
-first_told answers dir name (Some x) later rest = house_told answers dir name x (told_of answers dir x name) later refl rest
+  among_told : (houses : List ℕ) (later : Option Sight) → IsTold answers dir name later
+      → IsTold answers dir name (seen_among answers dir name houses later)
+  unfolding seen_among
+  among_told [] later rest = rest
+  among_told (x ∷ xs) later rest =
+      house_told x (told_of answers dir x name) (seen_among answers dir name xs later) refl
+      (among_told xs later rest)
 
-pub sight_told : (h : Heard) (at : Pointer) (name : List ℕ) → IsTold h.answers at.dir name (heard_sight h at name)
+  first_told : (near : Option ℕ) (later : Option Sight) → IsTold answers dir name later
+      → IsTold answers dir name (seen_first answers dir name near later)
+  first_told None later rest = rest
+  first_told (Some x) later rest =
+      house_told x (told_of answers dir x name) later refl rest
+
+pub sight_told : (h : Heard) (at : Pointer) (name : List ℕ)
+    → IsTold h.answers at.dir name (heard_sight h at name)
 sight_told h at name =
-    first_told h.answers at.dir name (near_of (option_map (λ x. x.0) h.near) (at.master ∷ at.others))
-    (seen_among h.answers at.dir name (at.master ∷ at.others) (Some Unreachable))
-    (among_told h.answers at.dir name (at.master ∷ at.others) (Some Unreachable) (λ x k seen. absurd (cc)))
+    let houses : List ℕ = at.master ∷ at.others in
+    first_told h.answers at.dir name (near_of (option_map (λ x. x.0) h.near) houses)
+    (seen_among h.answers at.dir name houses (Some Unreachable))
+    (among_told h.answers at.dir name houses (Some Unreachable) (λ x k seen. absurd (cc)))
 
 -- ---- objects
 
@@ -74,37 +85,46 @@ sight_told h at name =
 abbrev pub told_objects : List Answered → List Found
 told_objects answers = map (λ a. object_found a.dir.0 a.house.0 a.name) answers
 
-same_number : (a b : ℕ) → (a == b) ≡ true → a ≡ b
+-- numbers and names that tie are equal
+pub same_number : (a b : ℕ) → (a == b) ≡ true → a ≡ b
 same_number a b is = grind (arith, is)
 
-same_name : (a b : List ℕ) → pointwise nat_eq a b ≡ true → a ≡ b
+pub same_name : (a b : List ℕ) → pointwise nat_eq a b ≡ true → a ≡ b
 same_name a b is = ties_are_equal octets_exact a b (sym (texts_ties a b) ∙ is)
 
 -- an answer about this is one of its object
 about_is : (a : Answered) (dir house : ℕ) (name : List ℕ) → is_about a dir house name ≡ true
     → object_found a.dir.0 a.house.0 a.name ≡ object_found dir house name
 about_is a dir house name is =
-    let first = and_parts (a.dir.0 == dir) (a.house.0 == house && pointwise nat_eq a.name name) is in
-    let rest = and_parts (a.house.0 == house) (pointwise nat_eq a.name name) first.1 in
+    let named : Bool = pointwise nat_eq a.name name in
+    let first = and_parts (a.dir.0 == dir) (a.house.0 == house && named) is in
+    let rest = and_parts (a.house.0 == house) named first.1 in
     let d = same_number a.dir.0 dir first.0 in
     let x = same_number a.house.0 house rest.0 in
     let n = same_name a.name name rest.1 in
     λ i. object_found (d i) (x i) (n i)
 
-told_contains : (answers : List Answered) (dir house : ℕ) (name : List ℕ) (t : Told) → told_of answers dir house name ≡ Some t
+told_contains : (answers : List Answered) (dir house : ℕ) (name : List ℕ) (t : Told)
+    → told_of answers dir house name ≡ Some t
     → Contains (told_objects answers) (object_found dir house name)
 unfolding told_of
 told_contains [] dir house name t is = absurd (cc)
 told_contains (a ∷ more) dir house name t is =
-    by_test (is_about a dir house name) refl (λ later. told_contains more dir house name t later) is
+    by_test (is_about a dir house name) refl (told_contains more dir house name t) is
   where
+    front : Found
+    front = object_found a.dir.0 a.house.0 a.name
+
     by_test : (b : Bool) → is_about a dir house name ≡ b
-        → (told_of more dir house name ≡ Some t → Contains (told_objects more) (object_found dir house name))
-        → (if b then Some a.told else told_of more dir house name) ≡ Some t → Contains (told_objects (a ∷ more)) (object_found dir house name)
+        → (told_of more dir house name ≡ Some t
+        → Contains (told_objects more) (object_found dir house name))
+        → (if b then Some a.told else told_of more dir house name) ≡ Some t
+        → Contains (told_objects (a ∷ more)) (object_found dir house name)
     by_test true about rest here =
-        subst (Contains (told_objects (a ∷ more))) (about_is a dir house name about) (Contains-head (object_found a.dir.0 a.house.0 a.name) (told_objects more))
+        subst (Contains (told_objects (a ∷ more))) (about_is a dir house name about)
+        (Contains-head front (told_objects more))
     by_test false about rest later =
-        Contains-tail (object_found a.dir.0 a.house.0 a.name) (told_objects more) (object_found dir house name) (rest later)
+        Contains-tail front (told_objects more) (object_found dir house name) (rest later)
 
 -- a reader of what was heard shows these objects alone
 pub least_shows_only : (h : Heard) → ShowsOnly (least_reader h) (told_objects h.answers)

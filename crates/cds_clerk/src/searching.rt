@@ -1,11 +1,11 @@
 // The entries that a search comes to by what was heard.
 ghost use Rattle.std.specs.Prelude.{◌≡◌, [], ◌∷◌, ◌++◌, List, ℕ, true, None, IfOk, IfSome, OnOk};
-ghost use Rattle.std.specs.List.{Contains};
+ghost use Rattle.std.specs.List.{Contains, list_any};
 ghost use Rattle.cds_stamps.specs.Names.{attr_fault};
 ghost use Rattle.ns_import.specs.Imports.{names_of};
-ghost use Rattle.cds_clerk.specs.Heards.{IsUnheard, heard_root};
+ghost use Rattle.cds_clerk.specs.Heards.{heard_root};
 ghost use Rattle.cds_clerk.specs.Readings.{IsShown, least_reader};
-ghost use Rattle.cds_clerk.specs.Searches.{IfClosed, IfLost, IfMisses, IsSearch, Settles, object_in};
+ghost use Rattle.cds_clerk.specs.Searches.{AreAll, AreAsked, IfClosed, IfLost, IfMisses, IsClosed, IsSought, Settles, object_in, same_lack, with_lack};
 
 use crate::heard::{Heard, Lack};
 use crate::reading::values_in;
@@ -21,14 +21,13 @@ use script_answers::Values;
 use std::alloc::{AllocError, Global};
 use tower_codec::Interface;
 
-/// What a search comes to by what was heard: all entries that are reached, or what was not heard
-/// yet.
+/// What a search comes to by what was heard: what it is for, or all that was not heard yet.
 #[derive(Drop)]
-pub enum Searched {
-    Closed(Vec<Found>),
+pub enum Searched<T> {
+    Closed(T),
     /// Where the root directory is.
     LacksRoot,
-    Lacks(Lack),
+    Lacks(Vec<Lack>),
 }
 
 // The object that the end of a walk is.
@@ -139,32 +138,77 @@ fn settle(
     enter(alloc, heard, interface, found, entries, names)
 }
 
-/// Searches from a name on, by what was heard.
-pub fn search(
+// Whether it is what the same house says of the same name.
+fn is_same_lack(a: &Lack, b: &Lack) -> bool
+    ensures { result ≡ same_lack a.now b.now }
+{
+    a.dir == b.dir && a.house == b.house && a.name == b.name
+}
+
+// Whether it is known that this lacks.
+fn is_missed(lacks: &[Lack], lack: &Lack) -> bool
+    ensures { result ≡ list_any (λ q. same_lack q lack.now) lacks.now }
+{
+    for other in lacks {
+        if is_same_lack(other, lack) {
+            return true;
+        }
+    }
+    false
+}
+
+// Notes that this lacks, too.
+fn miss(lacks: &mut Vec<Lack>, lack: Lack) -> Result<(), AllocError>
+    ensures { OnOk result (lacks.new.items ≡ with_lack lacks.old.items lack) }
+{
+    if is_missed(lacks, &lack) {
+        return Ok(());
+    }
+    Ok(lacks.push(lack)?)
+}
+
+// The name at which a search begins.
+fn begun(alloc: Global, first: &FullName) -> Result<Vec<FullName>, AllocError>
+    ensures { IfOk result (λ v. v.items ≡ first.now ∷ []) }
+{
+    let mut names = Vec::new(alloc);
+    names.push(first.copy(alloc)?)?;
+    Ok(names)
+}
+
+/// Searches from a name on, by what was heard. A name whose walk lacks something is passed over, so
+/// that what lacks of others is found, too.
+#[tactic(auto, using(crate::proofs::SearchLaws::way_all, crate::proofs::SearchLaws::way_asks, crate::proofs::SearchLaws::way_closed))]
+pub(crate) fn search(
     alloc: Global,
     heard: &Heard,
     first: &FullName,
     interface: &Interface,
-) -> Result<Searched, AllocError>
+) -> Result<Searched<Vec<Found>>, AllocError>
     ensures closed { IfOk result (λ s. IfClosed s
-        (λ entries. IsSearch heard.now interface.now first.now entries [])) }
-    ensures asks { IfOk result (λ s. IfMisses s (IsUnheard heard.now)) }
+        (λ entries. IsClosed heard.now interface.now first.now entries.items)) }
+    ensures asks { IfOk result (λ s. IfMisses s
+        (AreAsked heard.now (IsSought heard.now interface.now first.now))) }
+    ensures all { IfOk result (λ s. IfMisses s (AreAll heard.now interface.now first.now)) }
     ensures root { IfOk result (λ s. IfLost s (heard_root heard.now.root ≡ None)) }
 {
     ends_are_seen();
     let mut entries = Vec::new(alloc);
-    let mut names = Vec::new(alloc);
-    names.push(first.copy(alloc)?)?;
+    let mut lacks = Vec::new(alloc);
+    let mut names = begun(alloc, first)?;
     'steps: for _ in 0..u64::MAX {
         let Some(name) = names.pop() else {
-            return Ok(Searched::Closed(entries));
+            if lacks.is_empty() {
+                return Ok(Searched::Closed(entries));
+            }
+            return Ok(Searched::Lacks(lacks));
         };
         match walk(alloc, heard, &name, true)? {
             Walked::Ended(end) => {
                 settle(alloc, heard, interface, end, &mut entries, &mut names)?;
             }
             Walked::LacksRoot => return Ok(Searched::LacksRoot),
-            Walked::Lacks(lack) => return Ok(Searched::Lacks(lack)),
+            Walked::Lacks(lack) => miss(&mut lacks, lack)?,
         }
     }
     Err(AllocError)

@@ -6,3 +6,5 @@
 mod lines;
 #[cfg(test)]
 mod reads;
+#[cfg(test)]
+mod searches;

@@ -31,8 +31,8 @@ fn says(alloc: Global, heard: &mut Heard, house: u8, name: &[u8], told: Told) ->
     Ok(())
 }
 
-// An entry that leads there by its first line.
-fn shown(alloc: Global, lines: &[&[u8]]) -> Result<Told, Fail> {
+/// An entry that leads there by its first line.
+pub(crate) fn shown(alloc: Global, lines: &[&[u8]]) -> Result<Told, Fail> {
     let mut hearing = Hearing::Begun;
     for line in lines {
         hearing = hearing.hear(alloc, line)?;

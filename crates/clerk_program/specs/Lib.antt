@@ -1,0 +1,3 @@
+pub mod ProgramWords
+pub mod ClerkRuns
+pub mod LineTurns

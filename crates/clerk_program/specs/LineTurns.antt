@@ -1,0 +1,27 @@
+-- Words of private contracts: how one line is taken.
+use Rattle.std.specs.Prelude.{◌≡◌, ℕ, List, Option, take, Result, Ok, Err}
+use Rattle.std.specs.Io.KnownBytes.{Appends}
+use Rattle.cds_base.specs.Counts.{Rose}
+use Rattle.cds_base.specs.declared.scan.LineFault.{LineFault}
+use Rattle.cds_base.specs.declared.scan.LineFault.TheVariants as fault
+use Rattle.line_forms.specs.declared.endings.Status.{Status}
+use Rattle.line_forms.specs.declared.endings.Status.TheVariants.{Ok as AllRead, Usage, BadInput, ReadFault, WriteFault, OutOfMemory, JournalFull}
+use Rattle.clerk_turns.specs.declared.clerk.Clerk.{Clerk}
+use Rattle.clerk_turns.specs.Turns.{IsTurn}
+
+-- how a run ends at a fault of the lines
+abbrev pub status_of : LineFault → Status
+status_of fault.ReadFault = ReadFault
+status_of (fault.LineTooLong number place) = BadInput
+status_of (fault.NotAscii number place) = BadInput
+status_of (fault.NoLineEnd number place) = BadInput
+status_of (fault.TooManyLines number place) = BadInput
+
+-- a line is taken, and all that is said to it is written, or a part; or memory ran out
+abbrev pub TakesLine : Clerk → (line : List ℕ) → Clerk → (written written' : Option (List ℕ)) → (writes writes' : ℕ) → Result (Unit {0}) Status → Type 0
+TakesLine c line c' written written' writes writes' (Ok x) =
+    (said : List ℕ) × IsTurn c line said c' × Appends written written' said × (writes' ≡ writes)
+TakesLine c line c' written written' writes writes' (Err WriteFault) =
+    (said : List ℕ) × IsTurn c line said c' × ((k : ℕ) × Appends written written' (take k said)) × Rose writes writes'
+TakesLine c line c' written written' writes writes' (Err OutOfMemory) = (written' ≡ written) × (writes' ≡ writes)
+TakesLine c line c' written written' writes writes' (Err other) = ⊥

@@ -1,0 +1,12 @@
+use Rattle.clerk_turns.proofs.Goings.{if_said, if_unknown, if_unrooted}
+use Rattle.clerk_turns.specs.Answers.{IsAnswer}
+use Rattle.cds_clerk.specs.Heards.{IsUnheard}
+use Rattle.clerk_turns.proofs.clerk.Clerk.go_rooted.Goals as goal
+
+pub end-requires : goal.end-requires
+end-requires c =
+    if_said c.in_ok-answer.field-0 c.in-Said.answer (IsAnswer c.args.job.heard c.args.job.command) c.in-Said.is c.in_ok-answer.ensures.done
+
+pub ask_name-requires : goal.ask_name-requires
+ask_name-requires c =
+    if_unknown c.in_ok-answer.field-0 c.in-Lacks.lack (IsUnheard c.args.job.heard) c.in-Lacks.is c.in_ok-answer.ensures.asks

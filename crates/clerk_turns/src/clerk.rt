@@ -1,0 +1,161 @@
+// A clerk: the commands that are under way, and what houses are asked for them.
+ghost use Rattle.std.specs.Prelude.{◌≡◌, [], ◌<◌, None, IfNone, IfSome, length, slice_get};
+ghost use Rattle.clerk_turns.specs.Clerks.{IsJobTaken, IsQuestionTaken, TakesJob, TakesQuestion, waits_for};
+
+use crate::command::Command;
+use cds_clerk::{Heard, Lack};
+use cds_stamps::{DirId, HouseNo};
+use directory::Update;
+use cell_names::ChildPointer;
+use clerk_lines::{Hearing, RootList};
+use std::alloc::Global;
+
+/// A command that is under way: its number, what was heard for it, and of the lists of the root
+/// directory that were heard the latest.
+#[derive(Drop)]
+pub struct Job {
+    pub number: u64,
+    pub command: Command,
+    pub heard: Heard,
+    pub latest: Option<RootList>,
+    pub sending: Sending,
+}
+
+/// How far the lines of a plan are: those that were done, and those that are left; how often it was
+/// worked out; and whether a line was sent of which nobody knows whether it was done.
+#[derive(Drop)]
+pub struct Sending {
+    pub done: u64,
+    pub left: Vec<Update>,
+    pub dir: DirId,
+    pub tries: u32,
+    pub doubt: bool,
+}
+
+/// What a house is asked.
+#[derive(Drop)]
+pub enum Topic {
+    /// Where the root directory is. Of the houses that a clerk asks this, so many come before this
+    /// one.
+    Root(usize),
+    /// What shows of a name, and what was heard of the answer.
+    Show(Lack, Hearing),
+    /// The first line that is left of a plan.
+    Step(HouseNo),
+}
+
+/// A question that is under way: its number, that of its command, and what is asked.
+#[derive(Drop)]
+pub struct Question {
+    pub number: u64,
+    pub job: u64,
+    pub topic: Topic,
+}
+
+/// A clerk: the house that is near, the houses that it asks where the root directory is, where that
+/// was for the last command, the number of its last question, the commands that are under way, and
+/// their questions.
+#[derive(Drop)]
+pub struct Clerk {
+    pub near: HouseNo,
+    pub houses: Vec<HouseNo>,
+    pub root: Option<ChildPointer>,
+    pub asked: u64,
+    pub jobs: Vec<Job>,
+    pub questions: Vec<Question>,
+}
+
+impl Clerk {
+    /// A clerk that has no command. It asks these houses where the root directory is, in this
+    /// order. Takes no memory.
+    pub fn new(alloc: Global, near: HouseNo, houses: Vec<HouseNo>) -> Clerk
+        ensures near { result.near ≡ near }
+        ensures houses { result.houses ≡ houses }
+        ensures root { result.root ≡ None }
+        ensures jobs { result.jobs.items ≡ [] }
+        ensures questions { result.questions.items ≡ [] }
+    {
+        Clerk {
+            near,
+            houses,
+            root: None,
+            asked: 0,
+            jobs: Vec::new(alloc),
+            questions: Vec::new(alloc),
+        }
+    }
+}
+
+// Where the question of this number is.
+fn place_of_question(questions: &[Question], number: u64) -> Option<usize>
+    ensures within { IfSome result (λ i. i < length questions.now) }
+    ensures is { IfSome result (λ i. IfSome (slice_get questions.now i) (λ q. q.number ≡ number)) }
+{
+    for (i, question) in questions.iter().enumerate() {
+        if question.number == number {
+            return Some(i);
+        }
+    }
+    None
+}
+
+// Takes a question out by its number.
+fn take_question(questions: &mut Vec<Question>, number: u64) -> Option<Question>
+    ensures some { IfSome result (λ q. IsQuestionTaken number questions.old.items q questions.new.items) }
+    ensures none { IfNone result (questions.new ≡ questions.old) }
+{
+    let place = place_of_question(questions, number)?;
+    Some(questions.remove(place))
+}
+
+// Where the command of this number is.
+fn place_of_job(jobs: &[Job], number: u64) -> Option<usize>
+    ensures within { IfSome result (λ i. i < length jobs.now) }
+    ensures is { IfSome result (λ i. IfSome (slice_get jobs.now i) (λ j. j.number ≡ number)) }
+{
+    for (i, job) in jobs.iter().enumerate() {
+        if job.number == number {
+            return Some(i);
+        }
+    }
+    None
+}
+
+// Takes a command out by its number.
+fn take_job(jobs: &mut Vec<Job>, number: u64) -> Option<Job>
+    ensures some { IfSome result (λ j. IsJobTaken number jobs.old.items j jobs.new.items) }
+    ensures none { IfNone result (jobs.new ≡ jobs.old) }
+{
+    let place = place_of_job(jobs, number)?;
+    Some(jobs.remove(place))
+}
+
+impl Clerk {
+    /// Takes a question out by its number.
+    pub(crate) fn take_question(&mut self, number: u64) -> Option<Question>
+        ensures some { IfSome result (λ q. TakesQuestion number self.old q self.new) }
+        ensures none { IfNone result (self.new ≡ self.old) }
+    {
+        take_question(&mut self.questions, number)
+    }
+
+    /// Takes a command out by its number.
+    pub(crate) fn take_job(&mut self, number: u64) -> Option<Job>
+        ensures some { IfSome result (λ j. TakesJob number self.old j self.new) }
+        ensures none { IfNone result (self.new ≡ self.old) }
+    {
+        take_job(&mut self.jobs, number)
+    }
+}
+
+/// Whether a question waits that is asked for this command.
+pub(crate) fn waits_for(questions: &[Question], job: u64) -> bool
+    ensures { result ≡ waits_for job questions.now }
+{
+    for question in questions {
+        if question.job == job {
+            return true;
+        }
+    }
+    false
+}

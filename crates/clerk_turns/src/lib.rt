@@ -1,0 +1,13 @@
+//! A clerk of live houses: what it makes of each line that it reads.
+#![tactic(auto)]
+
+mod clerk;
+mod command;
+mod outcomes;
+mod sending;
+mod says;
+mod turns;
+
+pub use clerk::{Clerk, Job, Question, Sending, Topic};
+pub use command::{Command, parse_command};
+pub use outcomes::{Comes, outcome};

@@ -1,0 +1,582 @@
+// What a clerk makes of each line that it reads.
+ghost use Rattle.std.specs.Prelude.{◌≡◌, ℕ, List, [], None, IfOk, IsSome, slice_get};
+ghost use Rattle.clerk_lines.specs.ClerkTexts.{show_text};
+ghost use Rattle.cell_script.specs.Words.{words_of};
+ghost use Rattle.cds_clerk.specs.Heards.{IsUnheard, heard_root};
+ghost use Rattle.clerk_turns.specs.Answers.{IsAnswer};
+ghost use Rattle.clerk_turns.specs.ClerkRows.{command_said};
+ghost use Rattle.clerk_turns.specs.Turns.{AnswersTopic, Asks, AsksAll, AsksAt, AsksOn, Begins, BeginsCommand, Goes, GoesRooted, Hears, HearsLine, HearsMore, IsDown, IsFirst, IsRootTold, IsTold, IsTurn, IsWithJob, Puts, PutsEach, RootHeard, Settles, TakesWord, TopicDown, Waits, after_answer, answer_to, is_unreached, later_list, place_of, rest_root, root_in, settled, with_answer, with_list};
+
+use crate::clerk::{Clerk, Job, Question, Topic, waits_for};
+use crate::command::{Command, parse_command};
+use crate::outcomes::{Comes, outcome};
+use crate::sending::{no_sending, say_doubted};
+use crate::says::{say_answer, say_fault, single_line};
+use cds_clerk::{Answered, Answers, Heard, Lack, Root};
+use cds_stamps::{AllocOr, DirId, HouseNo};
+use cell_names::ChildPointer;
+use clerk_lines::{ClerkLine, ClerkWord, Hearing, RootList, Told, is_last, push_ask, push_show, read_clerk_line, read_root};
+use script_answers::{Answer, ScriptRefusal};
+use std::alloc::{AllocError, Global};
+
+const STATUS: &[u8] = b"status 1";
+
+// The later one of two lists of the root directory.
+fn later_list(latest: Option<RootList>, heard: Option<RootList>) -> Option<RootList>
+    ensures { result ≡ later_list latest heard }
+{
+    match (latest, heard) {
+        (None, heard) => heard,
+        (latest, None) => latest,
+        (Some(latest), Some(heard)) => {
+            if latest.epoch.0 < heard.epoch.0 {
+                Some(heard)
+            } else {
+                Some(latest)
+            }
+        }
+    }
+}
+
+// Where the root directory is by the latest list.
+fn root_in(latest: Option<RootList>) -> Root
+    ensures { result ≡ root_in latest }
+{
+    match latest {
+        Some(list) => Root::At(ChildPointer {
+            dir: DirId::ROOT,
+            houses: list.houses,
+        }),
+        None => Root::Nowhere,
+    }
+}
+
+// A copy of where the root directory is, if it is anywhere.
+fn place_of(alloc: Global, root: &Root) -> Result<Option<ChildPointer>, AllocError>
+    ensures { IfOk result (λ p. p ≡ place_of root.now) }
+{
+    match root {
+        Root::At(place) => Ok(Some(place.copy(alloc)?)),
+        Root::Unheard | Root::Nowhere => Ok(None),
+    }
+}
+
+// Where the root directory was.
+fn rest_root(alloc: Global, place: &Option<ChildPointer>) -> Result<Root, AllocError>
+    ensures { IfOk result (λ root. root ≡ rest_root place.now) }
+{
+    match place {
+        Some(place) => Ok(Root::At(place.copy(alloc)?)),
+        None => Ok(Root::Unheard),
+    }
+}
+
+// A command that knows where the root directory is, by the latest list that it heard.
+fn settled(job: Job) -> Job
+    ensures { result ≡ settled job }
+{
+    let Job { number, command, heard, latest, sending } = job;
+    let Heard { near, root: _, answers } = heard;
+    Job {
+        number,
+        command,
+        heard: Heard {
+            near,
+            root: root_in(latest),
+            answers,
+        },
+        latest: None,
+        sending,
+    }
+}
+
+// The question what shows of a name.
+fn show_line(alloc: Global, high: bool, lack: &Lack) -> Result<Vec<u8>, AllocError>
+    ensures { IfOk result (λ line. line.items ≡ show_text high lack.now.dir.0 lack.now.name) }
+{
+    let mut line = Vec::new(alloc);
+    push_show(&mut line, high, lack.dir, &lack.name)?;
+    Ok(line)
+}
+
+// Nothing is said.
+fn nothing(alloc: Global) -> Vec<u8>
+    ensures { result.items ≡ [] }
+{
+    Vec::new(alloc)
+}
+
+// A command for which one answer more was heard.
+fn with_answer(job: Job, answer: Answered) -> Result<Job, AllocError>
+    ensures { IfOk result (λ j. j ≡ with_answer job answer) }
+{
+    let Job { number, command, heard, latest, sending } = job;
+    let Heard { near, root, mut answers } = heard;
+    answers.push(answer)?;
+    let heard = Heard { near, root, answers };
+    Ok(Job {
+        number,
+        command,
+        heard,
+        latest,
+        sending,
+    })
+}
+
+// A command for which one list more of the root directory was heard, if there is one.
+fn with_list(job: Job, list: Option<RootList>) -> Job
+    ensures { result ≡ with_list job list }
+{
+    let Job { number, command, heard, latest, sending } = job;
+    Job {
+        number,
+        command,
+        heard,
+        latest: later_list(latest, list),
+        sending,
+    }
+}
+
+// What a house told of a name.
+fn answer_to(lack: Lack, told: Told) -> Answered
+    ensures { result ≡ answer_to lack told }
+{
+    let Lack { dir, house, name } = lack;
+    Answered { dir, house, name, told }
+}
+
+// Whether an answer says that no house of a directory is reached.
+fn is_unreached(answer: &Answer) -> bool
+    ensures { result ≡ is_unreached answer.now }
+{
+    matches!(answer, Answer::Refused(ScriptRefusal::Unreachable(_)))
+}
+
+impl Clerk {
+    // Where the root directory is is not known any more, if a directory was not reached.
+    fn forget(&mut self, answer: &Answer)
+        ensures { self.new ≡ after_answer answer.now self.old }
+    {
+        if is_unreached(answer) {
+            self.root = None;
+        }
+    }
+
+    // A command has its answer, and ends.
+    fn end(&mut self, alloc: Global, job: Job, answer: Answer) -> Result<Vec<u8>, AllocError>
+        requires { IsAnswer job.heard job.command answer }
+        ensures { IfOk result (λ text. GoesRooted self.old job text.items self.new) }
+    {
+        self.forget(&answer);
+        if job.sending.doubt {
+            return say_doubted(alloc, &job, &single_line(alloc, &answer)?);
+        }
+        say_answer(alloc, job.number, &answer)
+    }
+
+    // Asks a house for the command of this number.
+    fn put(
+        &mut self,
+        alloc: Global,
+        job: u64,
+        house: HouseNo,
+        line: &[u8],
+        topic: Topic,
+    ) -> Result<Vec<u8>, AllocError>
+        ensures { IfOk result
+            (λ text. Puts self.old job house line.now topic text.items self.new) }
+    {
+        self.asked = self.asked.saturating_add(1);
+        self.questions.push(Question {
+            number: self.asked,
+            job,
+            topic,
+        })?;
+        let mut text = Vec::new(alloc);
+        push_ask(&mut text, self.asked, job, house, line)?;
+        Ok(text)
+    }
+
+    // Asks a house for a command, which waits.
+    pub(crate) fn ask(
+        &mut self,
+        alloc: Global,
+        job: Job,
+        house: HouseNo,
+        line: &[u8],
+        topic: Topic,
+    ) -> Result<Vec<u8>, AllocError>
+        ensures { (asks : List ℕ) → line.now ≡ asks → IfOk result
+            (λ text. Asks self.old job house asks topic text.items self.new) }
+    {
+        let text = self.put(alloc, job.number, house, line, topic)?;
+        self.jobs.push(job)?;
+        Ok(text)
+    }
+
+    // Asks a house what shows of a name.
+    fn ask_name(&mut self, alloc: Global, job: Job, lack: Lack) -> Result<Vec<u8>, AllocError>
+        requires { IsUnheard job.heard lack }
+        ensures { IfOk result (λ text. GoesRooted self.old job text.items self.new) }
+    {
+        let line = show_line(alloc, job.command.is_high(), &lack)?;
+        let house = lack.house;
+        self.ask(alloc, job, house, &line, Topic::Show(lack, Hearing::Begun))
+    }
+
+    // Goes on with a command that knows where the root directory is: it has its answer, or a house
+    // is asked what shows of a name.
+    fn go_rooted(&mut self, alloc: Global, job: Job) -> Result<Vec<u8>, AllocError>
+        requires { IsSome (heard_root job.heard.root) }
+        ensures { IfOk result (λ text. GoesRooted self.old job text.items self.new) }
+    {
+        match outcome(alloc, &job.heard, &job.command)? {
+            Comes::Said(answer) => self.end(alloc, job, answer),
+            Comes::Updates(updates) => self.send(alloc, job, updates),
+            Comes::Lacks(lack) => self.ask_name(alloc, job, lack),
+            Comes::LacksRoot => unreachable!(),
+        }
+    }
+
+    // Goes on with a command that heard where the root directory is.
+    fn settle(&mut self, alloc: Global, job: Job) -> Result<Vec<u8>, AllocError>
+        ensures { IfOk result (λ text. Settles self.old job text.items self.new) }
+    {
+        let job = settled(job);
+        self.root = place_of(alloc, &job.heard.root)?;
+        self.go_rooted(alloc, job)
+    }
+
+    // Asks the house at this place where the root directory is; or goes on, if there is none.
+    fn ask_at(&mut self, alloc: Global, job: Job, place: usize) -> Result<Vec<u8>, AllocError>
+        ensures { IfOk result (λ text. AsksAt self.old job place text.items self.new) }
+    {
+        match self.house_at(place) {
+            Some(house) => self.ask(alloc, job, house, STATUS, Topic::Root(place)),
+            None => self.settle(alloc, job),
+        }
+    }
+
+    // The house at a place of those that are asked where the root directory is.
+    fn house_at(&self, place: usize) -> Option<HouseNo>
+        ensures { result ≡ slice_get self.now.houses.items place }
+    {
+        self.houses.get(place).copied()
+    }
+
+    // Asks all houses where the root directory is.
+    fn put_each(&mut self, alloc: Global, job: u64) -> Result<Vec<u8>, AllocError>
+        ensures { IfOk result (λ text. PutsEach self.old job text.items self.new) }
+    {
+        let mut text = Vec::new(alloc);
+        for place in 0..self.houses.len() {
+            let house = self.houses[place];
+            let asks = self.put(alloc, job, house, STATUS, Topic::Root(place))?;
+            text.extend_from_slice(&asks)?;
+        }
+        Ok(text)
+    }
+
+    // The same for a command, which waits.
+    fn ask_each(&mut self, alloc: Global, job: Job) -> Result<Vec<u8>, AllocError>
+        ensures { IfOk result (λ text. AsksAll self.old job text.items self.new) }
+    {
+        let text = self.put_each(alloc, job.number)?;
+        self.jobs.push(job)?;
+        Ok(text)
+    }
+
+    // Asks where the root directory is: all houses at once, if masters alone are trusted, and else
+    // the first one.
+    fn ask_root(&mut self, alloc: Global, job: Job) -> Result<Vec<u8>, AllocError>
+        requires { heard_root job.heard.root ≡ None }
+        ensures { IfOk result (λ text. Goes self.old job text.items self.new) }
+    {
+        if self.houses.is_empty() || !job.command.is_high() {
+            self.ask_at(alloc, job, 0)
+        } else {
+            self.ask_each(alloc, job)
+        }
+    }
+
+    // Goes on with a command, by all that was heard for it.
+    pub(crate) fn go_on(&mut self, alloc: Global, job: Job) -> Result<Vec<u8>, AllocError>
+        ensures { IfOk result (λ text. Goes self.old job text.items self.new) }
+    {
+        match outcome(alloc, &job.heard, &job.command)? {
+            Comes::Said(answer) => self.end(alloc, job, answer),
+            Comes::Updates(updates) => self.send(alloc, job, updates),
+            Comes::Lacks(lack) => self.ask_name(alloc, job, lack),
+            Comes::LacksRoot => self.ask_root(alloc, job),
+        }
+    }
+
+    // What is known at the beginning of a command: where the root directory was, unless masters
+    // alone are trusted.
+    fn first_heard(&self, alloc: Global, high: bool) -> Result<Heard, AllocError>
+        ensures { IfOk result (λ h. IsFirst self.now high h) }
+    {
+        let (near, root) = if high {
+            (None, Root::Unheard)
+        } else {
+            (Some(self.near), rest_root(alloc, &self.root)?)
+        };
+        Ok(Heard {
+            near,
+            root,
+            answers: Answers::new(alloc),
+        })
+    }
+
+    // Begins a command.
+    fn begin_command(
+        &mut self,
+        alloc: Global,
+        number: u64,
+        command: Command,
+    ) -> Result<Vec<u8>, AllocError>
+        ensures { IfOk result
+            (λ text. BeginsCommand self.old number command text.items self.new) }
+    {
+        let heard = self.first_heard(alloc, command.is_high())?;
+        self.go_on(alloc, Job {
+            number,
+            command,
+            heard,
+            latest: None,
+            sending: no_sending(alloc),
+        })
+    }
+
+    // Begins what a text says, or says its fault.
+    fn begin(&mut self, alloc: Global, number: u64, text: &[u8]) -> Result<Vec<u8>, AllocError>
+        ensures { IfOk result (λ said. Begins self.old number
+            (command_said (words_of text.now)) said.items self.new) }
+    {
+        match parse_command(alloc, text) {
+            Ok(command) => self.begin_command(alloc, number, command),
+            Err(AllocOr::Fault(fault)) => say_fault(alloc, number, fault),
+            Err(AllocOr::OutOfMemory) => Err(AllocError),
+        }
+    }
+
+    // Goes on with a command for which one answer more was heard.
+    fn go_with(
+        &mut self,
+        alloc: Global,
+        job: Job,
+        answer: Answered,
+    ) -> Result<Vec<u8>, AllocError>
+        ensures { IfOk result
+            (λ text. Goes self.old (with_answer job answer) text.items self.new) }
+    {
+        let job = with_answer(job, answer)?;
+        self.go_on(alloc, job)
+    }
+
+    // A house told what shows of a name, or is not reached.
+    fn take_told(
+        &mut self,
+        alloc: Global,
+        number: u64,
+        answer: Answered,
+    ) -> Result<Vec<u8>, AllocError>
+        ensures { IfOk result (λ text. IsTold self.old number answer text.items self.new) }
+    {
+        match self.take_job(number) {
+            Some(job) => self.go_with(alloc, job, answer),
+            None => Ok(nothing(alloc)),
+        }
+    }
+
+    // A command is under way with the others, and nothing is said.
+    fn keep(&mut self, alloc: Global, job: Job) -> Result<Vec<u8>, AllocError>
+        ensures text { IfOk result (λ text. text.items ≡ []) }
+        ensures jobs { IfOk result (λ _. IsWithJob self.old job self.new) }
+    {
+        self.jobs.push(job)?;
+        Ok(nothing(alloc))
+    }
+
+    // Goes on with a command of which all houses were asked where the root directory is, if all
+    // have answered.
+    fn wait(&mut self, alloc: Global, job: Job) -> Result<Vec<u8>, AllocError>
+        ensures { IfOk result (λ text. Waits self.old job text.items self.new) }
+    {
+        if waits_for(&self.questions, job.number) {
+            self.keep(alloc, job)
+        } else {
+            self.settle(alloc, job)
+        }
+    }
+
+    // Goes on with a command of which one house was asked where the root directory is: at the next
+    // one, if that did not tell it.
+    fn ask_on(&mut self, alloc: Global, job: Job, place: usize) -> Result<Vec<u8>, AllocError>
+        ensures { IfOk result (λ text. AsksOn self.old job place text.items self.new) }
+    {
+        if job.latest.is_some() {
+            self.settle(alloc, job)
+        } else {
+            self.ask_at(alloc, job, place.saturating_add(1))
+        }
+    }
+
+    // Goes on with a command for which a house was asked where the root directory is.
+    fn root_heard(&mut self, alloc: Global, job: Job, place: usize) -> Result<Vec<u8>, AllocError>
+        ensures { IfOk result (λ text. RootHeard self.old job place text.items self.new) }
+    {
+        if job.command.is_high() {
+            self.wait(alloc, job)
+        } else {
+            self.ask_on(alloc, job, place)
+        }
+    }
+
+    // A house told where the root directory is, or told nothing of that.
+    fn root_told(
+        &mut self,
+        alloc: Global,
+        number: u64,
+        place: usize,
+        list: Option<RootList>,
+    ) -> Result<Vec<u8>, AllocError>
+        ensures { IfOk result
+            (λ text. IsRootTold self.old number place list text.items self.new) }
+    {
+        match self.take_job(number) {
+            Some(job) => self.root_heard(alloc, with_list(job, list), place),
+            None => Ok(nothing(alloc)),
+        }
+    }
+
+    // A question has its whole answer.
+    fn answered(
+        &mut self,
+        alloc: Global,
+        job: u64,
+        topic: Topic,
+        last: &[u8],
+    ) -> Result<Vec<u8>, AllocError>
+        ensures { IfOk result
+            (λ text. AnswersTopic topic self.old job last.now text.items self.new) }
+    {
+        match topic {
+            Topic::Show(lack, hearing) => {
+                self.take_told(alloc, job, answer_to(lack, hearing.told(last)))
+            }
+            Topic::Root(place) => {
+                let list = read_root(alloc, last)?;
+                self.root_told(alloc, job, place, list)
+            }
+            Topic::Step(house) => match self.take_job(job) {
+                Some(job) => self.step_told(alloc, job, house, last),
+                None => Ok(nothing(alloc)),
+            },
+        }
+    }
+
+    // A line of an answer that has more.
+    fn hear_more(
+        &mut self,
+        alloc: Global,
+        question: Question,
+        line: &[u8],
+    ) -> Result<Vec<u8>, AllocError>
+        ensures { IfOk result
+            (λ text. HearsMore self.old question line.now text.items self.new) }
+    {
+        let Question { number, job, topic } = question;
+        let topic = match topic {
+            Topic::Show(lack, hearing) => Topic::Show(lack, hearing.hear(alloc, line)?),
+            Topic::Root(place) => Topic::Root(place),
+            Topic::Step(house) => Topic::Step(house),
+        };
+        self.questions.push(Question { number, job, topic })?;
+        Ok(nothing(alloc))
+    }
+
+    // A line of the answer to this question.
+    fn hear_line(
+        &mut self,
+        alloc: Global,
+        question: Question,
+        line: &[u8],
+    ) -> Result<Vec<u8>, AllocError>
+        ensures { IfOk result
+            (λ text. HearsLine self.old question line.now text.items self.new) }
+    {
+        if is_last(line) {
+            let Question { number: _, job, topic } = question;
+            self.answered(alloc, job, topic, line)
+        } else {
+            self.hear_more(alloc, question, line)
+        }
+    }
+
+    // A line of the answer to a question.
+    fn hear(&mut self, alloc: Global, number: u64, line: &[u8]) -> Result<Vec<u8>, AllocError>
+        ensures { IfOk result (λ text. Hears self.old number line.now text.items self.new) }
+    {
+        match self.take_question(number) {
+            Some(question) => self.hear_line(alloc, question, line),
+            None => Ok(nothing(alloc)),
+        }
+    }
+
+    // The house is not reached that was asked this.
+    fn topic_down(&mut self, alloc: Global, job: u64, topic: Topic) -> Result<Vec<u8>, AllocError>
+        ensures { IfOk result (λ text. TopicDown topic self.old job text.items self.new) }
+    {
+        match topic {
+            Topic::Show(lack, _) => self.take_told(alloc, job, answer_to(lack, Told::Passed)),
+            Topic::Root(place) => self.root_told(alloc, job, place, None),
+            Topic::Step(_) => match self.take_job(job) {
+                Some(job) => self.step_down(alloc, job),
+                None => Ok(nothing(alloc)),
+            },
+        }
+    }
+
+    // The house of a question is not reached.
+    fn down(&mut self, alloc: Global, number: u64) -> Result<Vec<u8>, AllocError>
+        ensures { IfOk result (λ text. IsDown self.old number text.items self.new) }
+    {
+        match self.take_question(number) {
+            Some(question) => {
+                let Question { number: _, job, topic } = question;
+                self.topic_down(alloc, job, topic)
+            }
+            None => Ok(nothing(alloc)),
+        }
+    }
+
+    /// What a clerk makes of a line: what it says and asks then. A line that is none of a clerk's,
+    /// or is about a question that nobody asked, changes nothing.
+    pub fn next(&mut self, alloc: Global, line: &[u8]) -> Result<Vec<u8>, AllocError>
+        ensures { IfOk result (λ text. IsTurn self.old line.now text.items self.new) }
+    {
+        match read_clerk_line(line) {
+            Some(ClerkLine { word, number, text }) => self.take(alloc, word, number, text),
+            None => Ok(nothing(alloc)),
+        }
+    }
+
+    // What it makes of a line of its own: what that is, its number, and its text.
+    fn take(
+        &mut self,
+        alloc: Global,
+        word: ClerkWord,
+        number: u64,
+        text: &[u8],
+    ) -> Result<Vec<u8>, AllocError>
+        ensures { IfOk result
+            (λ said. TakesWord word self.old number text.now said.items self.new) }
+    {
+        match word {
+            ClerkWord::Do => self.begin(alloc, number, text),
+            ClerkWord::Hear => self.hear(alloc, number, text),
+            ClerkWord::Down => self.down(alloc, number),
+        }
+    }
+}
