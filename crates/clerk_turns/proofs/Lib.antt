@@ -1,3 +1,4 @@
 pub mod Texts
 pub mod RootAsks
 pub mod Goings
+pub mod Places

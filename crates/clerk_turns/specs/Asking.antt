@@ -42,8 +42,8 @@ pub record Puts (job : ℕ) (c : Clerk) (ask : Ask) (said : List ℕ) (c' : Cler
 
 -- all of these are asked, one after the other
 pub data PutsEach (job : ℕ) : Clerk → List Ask → (said : List ℕ) → Clerk → Type 0 where
-  none : (c : Clerk) → PutsEach job c [] [] c
-  next : (c mid c' : Clerk) (ask : Ask) (asks : List Ask) (said more : List ℕ) → Puts job c ask said mid
+  no_more : (c : Clerk) → PutsEach job c [] [] c
+  one_more : (c mid c' : Clerk) (ask : Ask) (asks : List Ask) (said more : List ℕ) → Puts job c ask said mid
       → PutsEach job mid asks more c' → PutsEach job c (ask ∷ asks) (said ++ more) c'
 
 -- a command is under way with the others

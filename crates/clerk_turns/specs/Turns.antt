@@ -227,12 +227,14 @@ IsRootTold c number place list said c' = WithJob c number (λ d job. RootHeard d
 
 -- ---- answers to the lines of a plan
 
--- the plan is worked out again, of what houses say now; or it was so often, and this is why it ends
+-- a command is tried once more; or it was so often, and ends with this reason
+abbrev pub TriesAgain : Clerk → Job → (why said : List ℕ) → Clerk → Type 0
+TriesAgain c job why said c' =
+    Cases (nat_le most_tries job.sending.tries) (Ends c (last_said job why) said c') (Goes c job said c')
+
+-- a plan is worked out again, of what houses say now
 abbrev pub PlansAgain : Clerk → Job → (why said : List ℕ) → Clerk → Type 0
-PlansAgain c job why said c' =
-    Cases (nat_le most_tries (again job).sending.tries)
-    (Ends (record c { root = None }) (last_said job why) said c')
-    (Goes (record c { root = None }) (again job) said c')
+PlansAgain c job why said c' = TriesAgain (record c { root = None }) (again job) why said c'
 
 -- what comes of the answer of a house to a line, by what it means
 abbrev pub StepComes : Fate → Clerk → Job → HouseNo → (last said : List ℕ) → Clerk → Type 0

@@ -1,5 +1,5 @@
 // A clerk: the commands that are under way, and what houses are asked for them.
-ghost use Rattle.std.specs.Prelude.{◌≡◌, [], ◌<◌, None, IfNone, IfSome, is_some, length};
+ghost use Rattle.std.specs.Prelude.{◌≡◌, [], None, IfNone, IfSome, is_some};
 ghost use Rattle.clerk_turns.specs.Clerks.{IsJobTaken, IsQuestionTaken, TakesJob, TakesQuestion, job_place, question_place, waits_for};
 
 use crate::command::Command;
@@ -89,8 +89,7 @@ impl Clerk {
 
 // Where the first question of this number is.
 fn place_of_question(questions: &[Question], number: u64) -> Option<usize>
-    ensures is { result ≡ question_place number questions.now }
-    ensures within { IfSome result (λ i. i < length questions.now) }
+    ensures { result ≡ question_place number questions.now }
 {
     questions
         .iter()
@@ -110,8 +109,7 @@ fn take_question(questions: &mut Vec<Question>, number: u64) -> Option<Question>
 
 // Where the first command of this number is.
 fn place_of_job(jobs: &[Job], number: u64) -> Option<usize>
-    ensures is { result ≡ job_place number jobs.now }
-    ensures within { IfSome result (λ i. i < length jobs.now) }
+    ensures { result ≡ job_place number jobs.now }
 {
     jobs.iter().position(|job| job.number == number)
 }

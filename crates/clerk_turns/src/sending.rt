@@ -4,8 +4,9 @@ ghost use Rattle.cell_names.specs.FullNames.{full_name_octets};
 ghost use Rattle.std.specs.Option.{option_map};
 ghost use Rattle.directory.specs.Updates.{change_of};
 ghost use Rattle.clerk_lines.specs.ClerkTexts.{say_text};
+ghost use Rattle.clerk_lines.specs.Hearings.{word_of};
 ghost use Rattle.clerk_turns.specs.Sendings.{IsUnsent, Sends, again, doubted, fate_of, fate_of_line, fate_of_update, front_text, in_doubt, last_said, next_line, planned, refusal_in, stepped, update_text, value_text};
-ghost use Rattle.clerk_turns.specs.Turns.{PlansAgain, StepComes, StepDown, StepTold};
+ghost use Rattle.clerk_turns.specs.Turns.{PlansAgain, StepComes, StepDown, StepTold, TriesAgain};
 
 use crate::clerk::{Clerk, Job, Sending, Topic};
 use attr_sets::Value;
@@ -187,15 +188,21 @@ fn fate_of(is_update: bool, last: &[u8]) -> Fate
     }
 }
 
+// The first word of a line.
+fn first_word(line: &[u8]) -> &[u8]
+    ensures { result.now ≡ word_of line.now }
+{
+    match split_at_mark(line, b' ') {
+        Some((word, _)) => word,
+        None => line,
+    }
+}
+
 // Why a house did not do a line, as a client is told it: what it says, if that is a refusal.
 fn refusal_in(last: &[u8]) -> &[u8]
     ensures { result.now ≡ refusal_in last.now }
 {
-    let word = match split_at_mark(last, b' ') {
-        Some((word, _)) => word,
-        None => last,
-    };
-    if word == b"refused".as_slice() {
+    if first_word(last) == b"refused".as_slice() {
         last
     } else {
         DOWN
@@ -375,16 +382,22 @@ impl Clerk {
         }
     }
 
-    // Works a plan out again, of what houses say now; or ends, if that was done often enough.
-    fn plan_again(&mut self, alloc: Global, job: Job, why: &[u8]) -> Result<Vec<u8>, AllocError>
-        ensures { IfOk result (λ text. PlansAgain self.old job why.now text.items self.new) }
+    // Goes on with a command that is tried once more; or ends it, if that was done often enough.
+    fn try_again(&mut self, alloc: Global, job: Job, why: &[u8]) -> Result<Vec<u8>, AllocError>
+        ensures { IfOk result (λ text. TriesAgain self.old job why.now text.items self.new) }
     {
-        self.root = None;
-        let job = again(alloc, job);
         if MOST_TRIES <= job.sending.tries {
             say_last(alloc, &job, why)
         } else {
             self.go_on(alloc, job)
         }
+    }
+
+    // Works a plan out again, of what houses say now.
+    fn plan_again(&mut self, alloc: Global, job: Job, why: &[u8]) -> Result<Vec<u8>, AllocError>
+        ensures { IfOk result (λ text. PlansAgain self.old job why.now text.items self.new) }
+    {
+        self.root = None;
+        self.try_again(alloc, again(alloc, job), why)
     }
 }

@@ -1,5 +1,5 @@
 // What a clerk makes of each line that it reads.
-ghost use Rattle.std.specs.Prelude.{◌≡◌, ℕ, List, [], None, IfOk, IsSome, map, slice_get};
+ghost use Rattle.std.specs.Prelude.{◌≡◌, true, [], None, IfOk, IsSome, map, slice_get};
 ghost use Rattle.clerk_lines.specs.ClerkTexts.{show_text};
 ghost use Rattle.cds_clerk.specs.Heards.{heard_root};
 ghost use Rattle.ns_commands.specs.declared.updates.Updates.{Updates};
@@ -416,16 +416,28 @@ impl Clerk {
         Ok(text)
     }
 
+    // Asks all houses where the root directory is; or goes on, if there is none.
+    fn ask_all(&mut self, alloc: Global, job: Job) -> Result<Vec<u8>, AllocError>
+        ensures { IfOk result
+            (λ text. AsksHouses self.old.houses.items true self.old job text.items self.new) }
+    {
+        if self.houses.is_empty() {
+            self.settle(alloc, job)
+        } else {
+            self.ask_each(alloc, job)
+        }
+    }
+
     // Asks where the root directory is: all houses at once, if masters alone are trusted, and else
     // the first one.
     fn ask_root(&mut self, alloc: Global, job: Job) -> Result<Vec<u8>, AllocError>
         ensures { IfOk result (λ text. AsksHouses self.old.houses.items (is_high job.command)
             self.old job text.items self.new) }
     {
-        if self.houses.is_empty() || !job.command.is_high() {
-            self.ask_at(alloc, job, 0)
+        if job.command.is_high() {
+            self.ask_all(alloc, job)
         } else {
-            self.ask_each(alloc, job)
+            self.ask_at(alloc, job, 0)
         }
     }
 
@@ -499,9 +511,10 @@ impl Clerk {
             (λ said. Begins self.old number text.now said.items self.new) }
     {
         if self.has_job(number) {
-            return Ok(nothing(alloc));
+            Ok(nothing(alloc))
+        } else {
+            self.begin_said(alloc, number, text)
         }
-        self.begin_said(alloc, number, text)
     }
 
     // A command is under way with the others, and nothing is said.
@@ -523,6 +536,15 @@ impl Clerk {
         }
     }
 
+    // Goes on with a command for which one answer more was heard.
+    fn go_with(&mut self, alloc: Global, job: Job, answer: Answered) -> Result<Vec<u8>, AllocError>
+        ensures { IfOk result
+            (λ text. GoesIfAll self.old (with_answer job answer) text.items self.new) }
+    {
+        let job = with_answer(job, answer)?;
+        self.go_if_all(alloc, job)
+    }
+
     // A house told what shows of a name, or is not reached.
     fn take_told(
         &mut self,
@@ -533,10 +555,7 @@ impl Clerk {
         ensures { IfOk result (λ text. IsTold self.old number answer text.items self.new) }
     {
         match self.take_job(number) {
-            Some(job) => {
-                let job = with_answer(job, answer)?;
-                self.go_if_all(alloc, job)
-            }
+            Some(job) => self.go_with(alloc, job, answer),
             None => Ok(nothing(alloc)),
         }
     }
