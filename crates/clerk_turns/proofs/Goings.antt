@@ -1,12 +1,12 @@
 -- What is known of what a command comes to, and tests.
-use Rattle.std.proofs.Common.{◌≡◌, ℕ, Bool, true, false, List, [], ◌∷◌, sym, subst}
-use Rattle.std.specs.Prelude.{Option, Some, None, IsSome, is_some, is_empty, slice_get, Result, Ok, Err, IfOk}
+use Rattle.std.proofs.Common.{◌≡◌, ℕ, Bool, true, false, List, [], ◌∷◌, map, sym, subst}
+use Rattle.std.specs.Prelude.{Option, Some, None, IsSome, is_some, slice_get, Result, Ok, Err, IfOk}
 use Rattle.cds_stamps.specs.declared.numbers.HouseNo.{HouseNo}
 use Rattle.clerk_lines.specs.declared.status.RootList.{RootList}
 use Rattle.cds_clerk.specs.Heards.{heard_root}
 use Rattle.clerk_turns.specs.declared.clerk.Clerk.{Clerk}
 use Rattle.clerk_turns.specs.declared.clerk.Job.{Job}
-use Rattle.clerk_turns.specs.Asking.{AsksEach, root_asks}
+use Rattle.clerk_turns.specs.Asking.{AsksEach, root_ask}
 use Rattle.clerk_turns.specs.Turns.{AsksAt, AsksAtPlace, AsksHouses, Cases, IfThere, Settles, root_in}
 
 pub cases_true : (b : Bool) (Yes No : Type 0) → b ≡ true → Yes → Cases b Yes No
@@ -40,15 +40,15 @@ root_known (Some list) = tt
 
 -- ---- who is asked where the root directory is
 
-pub none_asked : (hs : List HouseNo) (c : Clerk) (job : Job) (said : List ℕ) (c' : Clerk) → is_empty hs ≡ true → Settles c job said c'
+pub none_asked : (hs : List HouseNo) (c : Clerk) (job : Job) (said : List ℕ) (c' : Clerk) → slice_get hs 0 ≡ None → Settles c job said c'
     → AsksHouses hs true c job said c'
 none_asked [] c job said c' is its = its
 none_asked (h ∷ hs) c job said c' is its = absurd (cc (is))
 
-pub all_asked : (hs : List HouseNo) (c : Clerk) (job : Job) (said : List ℕ) (c' : Clerk) → is_empty hs ≡ false → AsksEach c job (root_asks 0 hs) said c'
-    → AsksHouses hs true c job said c'
-all_asked [] c job said c' is its = absurd (cc (is))
-all_asked (h ∷ hs) c job said c' is its = its
+pub all_asked : (hs : List HouseNo) (first : HouseNo) (c : Clerk) (job : Job) (said : List ℕ) (c' : Clerk) → slice_get hs 0 ≡ Some first
+    → AsksEach c job (map (root_ask 0) hs) said c' → AsksHouses hs true c job said c'
+all_asked [] first c job said c' is its = absurd (cc (is))
+all_asked (h ∷ hs) first c job said c' is its = its
 
 pub first_asked : (hs : List HouseNo) (c : Clerk) (job : Job) (said : List ℕ) (c' : Clerk) → AsksAtPlace (slice_get hs 0) c job 0 said c'
     → AsksHouses hs false c job said c'

@@ -2,4 +2,4 @@ pub mod Texts
 pub mod RootAsks
 pub mod Goings
 pub mod Places
-pub mod Outcomes
+pub mod Refusing

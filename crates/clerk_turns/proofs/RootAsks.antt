@@ -1,8 +1,8 @@
 -- Houses that are asked one after the other.
-use Rattle.std.proofs.Common.{◌≡◌, ℕ, ◌+◌, ◌<◌, List, [], ◌∷◌, ◌++◌, length, map, get_or, drop, suc, sym, ◌∙◌, ap, subst, append_assoc, append-nil, drop-cons, arith}
-use Rattle.cds_stamps.specs.declared.numbers.HouseNo.{HouseNo}
+use Rattle.std.proofs.Common.{◌≡◌, ℕ, ◌+◌, ◌<◌, ◌≤◌, List, [], ◌∷◌, ◌++◌, length, map, get_or, drop, sym, ◌∙◌, ap, subst, append_assoc, append-nil}
+use Rattle.std.proofs.lemmas.List.{drop_all, drop_more}
 use Rattle.clerk_turns.specs.declared.clerk.Clerk.{Clerk}
-use Rattle.clerk_turns.specs.Asking.{Ask, Puts, PutsEach, no_more, one_more, root_ask, root_asks}
+use Rattle.clerk_turns.specs.Asking.{Ask, Puts, PutsEach, no_more, one_more}
 
 -- if what is left is asked from now on, all are asked from the first clerk on
 abbrev pub IsAsking : (job : ℕ) (first : Clerk) (all : List Ask) (text : List ℕ) (now : Clerk) (left : List Ask) → Type 0
@@ -14,27 +14,19 @@ pub asking_next : (job : ℕ) (first : Clerk) (all : List Ask) (text : List ℕ)
 asking_next job first all text now ask left said after so puts more last rest =
     subst (λ (t : List ℕ). PutsEach job first all t last) (sym (append_assoc text said more)) (so (said ++ more) last (one_more now after last ask left said more puts rest))
 
--- none is left
-pub asked_each : (job : ℕ) (first : Clerk) (all : List Ask) (text : List ℕ) (now : Clerk) (left : List Ask) → left ≡ [] → IsAsking job first all text now left
-    → PutsEach job first all text now
-asked_each job first all text now left is so =
-    subst (λ (t : List ℕ). PutsEach job first all t now) (append-nil text)
-    (so [] now (subst (λ (l : List Ask). PutsEach job now l [] now) (sym is) (no_more now)))
+-- the same in a loop over what is asked
+module _ {X : Type 0} (ask : X → Ask) (xs : List X) (i : ℕ) (job : ℕ) (first : Clerk) (text : List ℕ) (now : Clerk) where
+  pub asking_more : (x : X) (told said text' : List ℕ) (after : Clerk) → i < length xs → x ≡ get_or xs i x
+      → IsAsking job first (map ask xs) text now (map ask (drop i xs)) → Puts job now (ask x) said after → told ≡ said → text' ≡ text ++ told
+      → IsAsking job first (map ask xs) text' after (map ask (drop (i + 1) xs))
+  asking_more x told said text' after within is so puts same longer =
+      let all : List Ask = map ask xs in
+      let left : drop i xs ≡ x ∷ drop (i + 1) xs = drop_more xs i x within ∙ ap (λ (y : X). y ∷ drop (i + 1) xs) (sym is) in
+      let there : IsAsking job first all text now (ask x ∷ map ask (drop (i + 1) xs)) = subst (λ (ys : List X). IsAsking job first all text now (map ask ys)) left so in
+      subst (λ (t : List ℕ). IsAsking job first all t after (map ask (drop (i + 1) xs))) (sym (longer ∙ ap (λ (t : List ℕ). text ++ t) same))
+      (asking_next job first all text now (ask x) (map ask (drop (i + 1) xs)) said after there puts)
 
--- what is left at a place of a list
-pub left_at : {X : Type 0} (ask : X → Ask) (xs : List X) (i : ℕ) (x : X) → i < length xs → x ≡ get_or xs i x
-    → map ask (drop i xs) ≡ ask x ∷ map ask (drop (i + 1) xs)
-left_at {X} ask xs i x within is =
-    ap (map ask) (drop-cons xs i x within ∙ ap (λ (y : X). y ∷ drop (suc i) xs) (sym is) ∙ ap (λ k. x ∷ drop k xs) (plus_one i))
-  where
-    plus_one : (n : ℕ) → suc n ≡ n + 1
-    plus_one n = omega arith
-
--- the same of houses by their places
-pub houses_left : (hs : List HouseNo) (i : ℕ) (h : HouseNo) → i < length hs → h ≡ get_or hs i h
-    → root_asks i (drop i hs) ≡ root_ask i h ∷ root_asks (i + 1) (drop (i + 1) hs)
-houses_left hs i h within is =
-    ap (root_asks i) (drop-cons hs i h within ∙ ap (λ (y : HouseNo). y ∷ drop (suc i) hs) (sym is)) ∙ ap (λ k. root_ask i h ∷ root_asks (i + 1) (drop k hs)) (plus_one i)
-  where
-    plus_one : (n : ℕ) → suc n ≡ n + 1
-    plus_one n = omega arith
+  pub asked_all : length xs ≤ i → IsAsking job first (map ask xs) text now (map ask (drop i xs)) → PutsEach job first (map ask xs) text now
+  asked_all past so =
+      let done : IsAsking job first (map ask xs) text now [] = subst (λ (ys : List X). IsAsking job first (map ask xs) text now (map ask ys)) (drop_all i xs past) so in
+      subst (λ (t : List ℕ). PutsEach job first (map ask xs) t now) (append-nil text) (done [] now (no_more now))

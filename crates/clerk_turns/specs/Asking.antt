@@ -1,5 +1,5 @@
 -- What a clerk asks houses for a command (own).
-use Rattle.std.specs.Prelude.{◌≡◌, ℕ, ◌+◌, Bool, List, [], ◌∷◌, ◌++◌, map, codes}
+use Rattle.std.specs.Prelude.{◌≡◌, ℕ, Bool, List, [], ◌∷◌, ◌++◌, codes}
 use Rattle.cds_base.specs.Counts.{next_count}
 use Rattle.cds_stamps.specs.declared.numbers.HouseNo.{HouseNo}
 use Rattle.clerk_lines.specs.declared.hearing.Hearing.TheVariants.{Begun}
@@ -24,11 +24,6 @@ name_ask high q = record { house = q.house; line = show_text high q.dir.0 q.name
 -- where the root directory is, of the house at this place
 abbrev pub root_ask : (place : ℕ) → HouseNo → Ask
 root_ask place house = record { house = house; line = codes "status 1"; topic = topic.Root place }
-
--- likewise of each of these houses, the first of which is at this place
-abbrev pub root_asks : (place : ℕ) → List HouseNo → List Ask
-root_asks place [] = []
-root_asks place (h ∷ hs) = root_ask place h ∷ root_asks (place + 1) hs
 
 -- this is asked for the command of this number, under the next number of a question
 pub record Puts (job : ℕ) (c : Clerk) (ask : Ask) (said : List ℕ) (c' : Clerk) : Type 0 where

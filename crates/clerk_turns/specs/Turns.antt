@@ -36,7 +36,7 @@ use Rattle.clerk_turns.specs.declared.sending.Fate.{Fate}
 use Rattle.clerk_turns.specs.declared.sending.Fate.TheVariants as fate
 use Rattle.clerk_turns.specs.Commands.{is_high, is_update, may_repeat}
 use Rattle.clerk_turns.specs.Answers.{ArePlanned, AreWanted, IsAnswer}
-use Rattle.clerk_turns.specs.Asking.{Asks, AsksEach, IsWithJob, name_ask, root_ask, root_asks}
+use Rattle.clerk_turns.specs.Asking.{Asks, AsksEach, IsWithJob, name_ask, root_ask}
 use Rattle.clerk_turns.specs.ClerkRows.{command_said}
 use Rattle.clerk_turns.specs.Clerks.{TakesJob, TakesQuestion, job_place, question_place, waits_for}
 use Rattle.clerk_turns.specs.Says.{answer_said, fault_said}
@@ -139,7 +139,7 @@ AsksAt c job place said c' = AsksAtPlace (slice_get c.houses.items place) c job 
 -- none, the command goes on
 abbrev pub AsksHouses : List HouseNo → (high : Bool) → Clerk → Job → (said : List ℕ) → Clerk → Type 0
 AsksHouses [] high c job said c' = Settles c job said c'
-AsksHouses (h ∷ hs) true c job said c' = AsksEach c job (root_asks 0 (h ∷ hs)) said c'
+AsksHouses (h ∷ hs) true c job said c' = AsksEach c job (map (root_ask 0) (h ∷ hs)) said c'
 AsksHouses (h ∷ hs) false c job said c' = Asks c job (root_ask 0 h) said c'
 
 -- where the root directory is was not heard, and is asked

@@ -103,8 +103,10 @@ fn take_question(questions: &mut Vec<Question>, number: u64) -> Option<Question>
     ensures none { IfNone result (question_place number questions.old.items ≡ None) }
     ensures stays { IfNone result (questions.new ≡ questions.old) }
 {
-    let place = place_of_question(questions, number)?;
-    Some(questions.remove(place))
+    match place_of_question(questions, number) {
+        Some(place) => Some(questions.remove(place)),
+        None => None,
+    }
 }
 
 // Where the first command of this number is.
@@ -120,8 +122,10 @@ fn take_job(jobs: &mut Vec<Job>, number: u64) -> Option<Job>
     ensures none { IfNone result (job_place number jobs.old.items ≡ None) }
     ensures stays { IfNone result (jobs.new ≡ jobs.old) }
 {
-    let place = place_of_job(jobs, number)?;
-    Some(jobs.remove(place))
+    match place_of_job(jobs, number) {
+        Some(place) => Some(jobs.remove(place)),
+        None => None,
+    }
 }
 
 impl Clerk {

@@ -53,70 +53,83 @@ fn push_value(line: &mut Vec<u8>, attr: &AttrName, value: &Value) -> Result<(), 
     push_hex(line, value.octets())
 }
 
+// The line of a word, a directory and a name.
+fn front_line(
+    alloc: Global,
+    word: &[u8],
+    dir: DirId,
+    name: &SimpleName,
+) -> Result<Vec<u8>, AllocError>
+    ensures { IfOk result (λ line. line.items ≡ front_text word.now dir.0 name.now) }
+{
+    let mut line = Vec::new(alloc);
+    push_front(&mut line, word, dir, name)?;
+    Ok(line)
+}
+
 // The line that changes a value.
-fn push_change(
-    line: &mut Vec<u8>,
+fn change_line(
+    alloc: Global,
     word: &[u8],
     dir: DirId,
     name: &SimpleName,
     attr: &AttrName,
     value: &Value,
-) -> Result<(), AllocError>
-    ensures { OnOk result (line.new.items ≡ line.old.items
-        ++ (front_text word.now dir.0 name.now ++ value_text attr.now value.now)) }
+) -> Result<Vec<u8>, AllocError>
+    ensures { IfOk result (λ line. line.items
+        ≡ front_text word.now dir.0 name.now ++ value_text attr.now value.now) }
 {
-    push_front(line, word, dir, name)?;
-    push_value(line, attr, value)
+    let mut line = front_line(alloc, word, dir, name)?;
+    push_value(&mut line, attr, value)?;
+    Ok(line)
 }
 
 // The line that makes a link.
-fn push_link(
-    line: &mut Vec<u8>,
+fn link_line(
+    alloc: Global,
     dir: DirId,
     name: &SimpleName,
     target: &FullName,
-) -> Result<(), AllocError>
-    ensures { OnOk result (line.new.items ≡ line.old.items
-        ++ (front_text (codes "link") dir.0 name.now ++ (32 ∷ full_name_octets target.now))) }
+) -> Result<Vec<u8>, AllocError>
+    ensures { IfOk result (λ line. line.items
+        ≡ front_text (codes "link") dir.0 name.now ++ (32 ∷ full_name_octets target.now)) }
 {
-    push_front(line, b"link", dir, name)?;
+    let mut line = front_line(alloc, b"link", dir, name)?;
     line.push(b' ')?;
-    target.append_spelling(line)
+    target.append_spelling(&mut line)?;
+    Ok(line)
 }
 
 // The line that clears an attribute.
-fn push_clear(
-    line: &mut Vec<u8>,
+fn clear_line(
+    alloc: Global,
     dir: DirId,
     name: &SimpleName,
     attr: &AttrName,
-) -> Result<(), AllocError>
-    ensures { OnOk result (line.new.items ≡ line.old.items
-        ++ (front_text (codes "clear") dir.0 name.now ++ (32 ∷ attr.now))) }
+) -> Result<Vec<u8>, AllocError>
+    ensures { IfOk result (λ line. line.items
+        ≡ front_text (codes "clear") dir.0 name.now ++ (32 ∷ attr.now)) }
 {
-    push_front(line, b"clear", dir, name)?;
+    let mut line = front_line(alloc, b"clear", dir, name)?;
     line.push(b' ')?;
-    line.extend_from_slice(attr.octets())
+    line.extend_from_slice(attr.octets())?;
+    Ok(line)
 }
 
 // The line of a house that makes an update.
 fn update_line(alloc: Global, dir: DirId, update: &Update) -> Result<Vec<u8>, AllocError>
     ensures { IfOk result (λ line. line.items ≡ update_text dir.0 (change_of update.now)) }
 {
-    let mut line = Vec::new(alloc);
     match update {
-        Update::Create(name) => push_front(&mut line, b"create", dir, name)?,
-        Update::Delete(name) => push_front(&mut line, b"delete", dir, name)?,
-        Update::MakeLink(name, target) => push_link(&mut line, dir, name, target)?,
-        Update::Add(name, attr, value) => push_change(&mut line, b"add", dir, name, attr, value)?,
-        Update::Remove(name, attr, value) => {
-            push_change(&mut line, b"remove", dir, name, attr, value)?;
-        }
-        Update::Put(name, attr, value) => push_change(&mut line, b"put", dir, name, attr, value)?,
-        Update::Clear(name, attr) => push_clear(&mut line, dir, name, attr)?,
-        Update::MakeChild(_, _) | Update::Repoint(_, _) => {}
+        Update::Create(name) => front_line(alloc, b"create", dir, name),
+        Update::Delete(name) => front_line(alloc, b"delete", dir, name),
+        Update::MakeLink(name, target) => link_line(alloc, dir, name, target),
+        Update::Add(name, attr, value) => change_line(alloc, b"add", dir, name, attr, value),
+        Update::Remove(name, attr, value) => change_line(alloc, b"remove", dir, name, attr, value),
+        Update::Put(name, attr, value) => change_line(alloc, b"put", dir, name, attr, value),
+        Update::Clear(name, attr) => clear_line(alloc, dir, name, attr),
+        Update::MakeChild(_, _) | Update::Repoint(_, _) => Ok(Vec::new(alloc)),
     }
-    Ok(line)
 }
 
 // The first line that is not done, if there is one.

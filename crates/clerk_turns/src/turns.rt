@@ -5,7 +5,7 @@ ghost use Rattle.cds_clerk.specs.Heards.{heard_root};
 ghost use Rattle.ns_commands.specs.declared.updates.Updates.{Updates};
 ghost use Rattle.cell_script.specs.Words.{words_of};
 ghost use Rattle.clerk_turns.specs.Answers.{ArePlanned, AreWanted, IsAnswer};
-ghost use Rattle.clerk_turns.specs.Asking.{Asks, AsksEach, IsWithJob, Puts, PutsEach, name_ask, root_asks};
+ghost use Rattle.clerk_turns.specs.Asking.{Asks, AsksEach, IsWithJob, Puts, PutsEach, name_ask, root_ask};
 ghost use Rattle.clerk_turns.specs.ClerkRows.{command_said};
 ghost use Rattle.clerk_turns.specs.Commands.{is_high};
 ghost use Rattle.clerk_turns.specs.Turns.{AnswersTopic, AsksAt, AsksHouses, AsksOn, Begins, BeginsCommand, BeginsSaid, Goes, GoesIfAll, GoesRooted, HearsLine, HearsMore, Hears, IsDown, IsFirst, IsRootTold, IsTold, IsTurn, Keeps, RootHeard, Settles, StepDown, StepTold, TakesWord, TopicDown, Waits, WithJob, after_answer, answer_to, is_unreached, later_list, place_of, rest_root, root_in, settled, topic_with, with_answer, with_list};
@@ -392,26 +392,31 @@ impl Clerk {
         self.houses.get(place).copied()
     }
 
-    // Asks all houses where the root directory is.
-    fn put_each(&mut self, alloc: Global, job: u64) -> Result<Vec<u8>, AllocError>
-        ensures { IfOk result (λ text.
-            PutsEach job self.old (root_asks 0 self.old.houses.items) text.items self.new) }
+    // Asks houses where the root directory is.
+    fn put_each(
+        &mut self,
+        alloc: Global,
+        job: u64,
+        houses: &[HouseNo],
+    ) -> Result<Vec<u8>, AllocError>
+        ensures { IfOk result
+            (λ text. PutsEach job self.old (map (root_ask 0) houses.now) text.items self.new) }
     {
         let mut text = Vec::new(alloc);
-        for place in 0..self.houses.len() {
-            let house = self.houses[place];
-            let asks = self.put(alloc, job, house, STATUS, Topic::Root(place))?;
+        for house in houses {
+            let asks = self.put(alloc, job, *house, STATUS, Topic::Root(0))?;
             text.extend_from_slice(&asks)?;
         }
         Ok(text)
     }
 
-    // The same for a command, which waits.
+    // Asks all houses where the root directory is, for a command, which waits.
     fn ask_each(&mut self, alloc: Global, job: Job) -> Result<Vec<u8>, AllocError>
         ensures { IfOk result (λ text.
-            AsksEach self.old job (root_asks 0 self.old.houses.items) text.items self.new) }
+            AsksEach self.old job (map (root_ask 0) self.old.houses.items) text.items self.new) }
     {
-        let text = self.put_each(alloc, job.number)?;
+        let houses = Vec::from_slice(alloc, &self.houses)?;
+        let text = self.put_each(alloc, job.number, &houses)?;
         self.join(job)?;
         Ok(text)
     }
@@ -421,10 +426,9 @@ impl Clerk {
         ensures { IfOk result
             (λ text. AsksHouses self.old.houses.items true self.old job text.items self.new) }
     {
-        if self.houses.is_empty() {
-            self.settle(alloc, job)
-        } else {
-            self.ask_each(alloc, job)
+        match self.house_at(0) {
+            Some(_) => self.ask_each(alloc, job),
+            None => self.settle(alloc, job),
         }
     }
 

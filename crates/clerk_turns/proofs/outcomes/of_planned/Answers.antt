@@ -1,7 +1,7 @@
 use Rattle.std.proofs.Common.{subst, sym}
 use Rattle.cds_clerk.proofs.InquiryLaws.{one_asked}
 use Rattle.clerk_turns.specs.Answers.{AreWanted, Wants}
-use Rattle.clerk_turns.proofs.Outcomes.{refused_over}
+use Rattle.clerk_turns.proofs.Refusing.{refused_over}
 use Rattle.clerk_turns.proofs.outcomes.of_planned.Goals as goal
 
 pub returns-in-Made : goal.returns-in-Made

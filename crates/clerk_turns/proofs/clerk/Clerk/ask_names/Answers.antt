@@ -7,5 +7,5 @@ pub returns : goal.returns
 returns c = inr (inr (record {
   lacks = c.args.lacks.items;
   wanted = c.requires;
-  asks = (c.in_ok-text.new.self, rw (c.is_high.ensures, c.deref.ensures.value) at c.in_ok-text.ensures, c.in_ok-join.ensures);
+  asks = (_, rw (c.is_high.ensures, c.deref.ensures.value) at c.in_ok-text.ensures, c.in_ok-join.ensures);
 }))
