@@ -6,6 +6,9 @@ ghost use Rattle.cds_clerk.specs.Heards.{IsUnheard, heard_root};
 ghost use Rattle.cds_clerk.specs.Plans.{IfMisses as IfPlanLacks, IfPlanned, IfRootless};
 ghost use Rattle.cds_clerk.specs.Readings.{IfSaid, IfUnknown, IfUnrooted};
 ghost use Rattle.cds_clerk.specs.Searches.{IfClosed, IfLost, IfMisses};
+ghost use Rattle.cds_clerk.specs.declared.heard.Heard.{Heard};
+ghost use Rattle.cds_clerk.specs.declared.heard.Lack.{Lack};
+ghost use Rattle.clerk_turns.specs.declared.command.Command.{Command};
 ghost use Rattle.clerk_turns.specs.Answers.{AreWanted, IsAnswer, IsComing, IsPlanOver, Wants};
 
 use crate::command::Command;
