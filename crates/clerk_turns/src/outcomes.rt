@@ -7,7 +7,6 @@ ghost use Rattle.cds_clerk.specs.Plans.{IfMisses as IfPlanLacks, IfPlanned, IfRo
 ghost use Rattle.cds_clerk.specs.Readings.{IfSaid, IfUnknown, IfUnrooted};
 ghost use Rattle.cds_clerk.specs.Searches.{IfClosed, IfLost, IfMisses};
 ghost use Rattle.cds_clerk.specs.declared.heard.Heard.{Heard};
-ghost use Rattle.cds_clerk.specs.declared.heard.Lack.{Lack};
 ghost use Rattle.clerk_turns.specs.declared.command.Command.{Command};
 ghost use Rattle.clerk_turns.specs.Answers.{AreWanted, IsAnswer, IsComing, IsPlanOver, Wants};
 
@@ -69,7 +68,7 @@ fn of_searched(told: Searched<Answer>) -> Comes
 fn of_planned(alloc: Global, told: Planned) -> Result<Comes, AllocError>
     ensures { (h : Heard) (c : Command)
         → IfPlanned told (λ asks. (r : Reader) → Agrees r h → IsPlanOver r c asks)
-        → IfPlanLacks told (IsUnheard h) → ((q : Lack) → Wants h c q)
+        → IfPlanLacks told (IsUnheard h) → IfPlanLacks told (Wants h c)
         → IfRootless told (heard_root h.root ≡ None) → IfOk result (IsComing h c) }
 {
     match told {
