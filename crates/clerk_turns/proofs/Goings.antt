@@ -1,6 +1,6 @@
 -- What is known of what a command comes to, and tests.
-use Rattle.std.proofs.Common.{◌≡◌, ℕ, Bool, true, false, List, [], ◌∷◌, map, sym, subst}
-use Rattle.std.specs.Prelude.{Option, Some, None, IsSome, is_some, slice_get, Result, Ok, Err, IfOk}
+use Rattle.std.proofs.Common.{◌≡◌, ℕ, Bool, true, false, List, [], ◌∷◌, map, refl, sym, subst}
+use Rattle.std.specs.Prelude.{Option, Some, None, IsSome, IfSome, is_some, slice_get}
 use Rattle.cds_stamps.specs.declared.numbers.HouseNo.{HouseNo}
 use Rattle.clerk_lines.specs.declared.status.RootList.{RootList}
 use Rattle.cds_clerk.specs.Heards.{heard_root}
@@ -33,10 +33,14 @@ pub is_lacking : (o : Option ℕ) (There Lacking : Type 0) → is_some o ≡ fal
 is_lacking None There Lacking is its = its
 is_lacking (Some p) There Lacking is its = absurd (cc (is))
 
+pub if_some : {T : Type 0} {P Q : T → Type 0} (o : Option T) → ((t : T) → P t → Q t) → IfSome o P → IfSome o Q
+if_some (Some t) more h = more t h
+if_some None more h = h
+
 -- a command that heard where the root directory is knows it
 pub root_known : (latest : Option RootList) → IsSome (heard_root (root_in latest))
-root_known None = tt
-root_known (Some list) = tt
+root_known None = refl
+root_known (Some list) = refl
 
 -- ---- who is asked where the root directory is
 

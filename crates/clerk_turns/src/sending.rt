@@ -316,6 +316,15 @@ fn counted(alloc: Global, words: &[u8], count: usize) -> Result<Vec<u8>, AllocEr
     Ok(line)
 }
 
+// Says that no stamp is left, and how many lines were done.
+fn say_spent(alloc: Global, job: &Job) -> Result<Vec<u8>, AllocError>
+    ensures { IfOk result (λ text. text.items
+        ≡ last_said job.now (codes "refused StampsSpent " ++ decimal job.now.sending.done)) }
+{
+    let line = counted(alloc, b"refused StampsSpent ", job.sending.done)?;
+    say_last(alloc, job, &line)
+}
+
 impl Clerk {
     // Sends the first line that is not done, or says that all were done.
     fn send_next(&mut self, alloc: Global, job: Job, house: HouseNo) -> Result<Vec<u8>, AllocError>
@@ -359,10 +368,7 @@ impl Clerk {
         match fate {
             Fate::Done => say(alloc, job.number, last),
             Fate::Refused => say_last(alloc, &job, last),
-            Fate::Spent => {
-                let line = counted(alloc, b"refused StampsSpent ", job.sending.done)?;
-                say_last(alloc, &job, &line)
-            }
+            Fate::Spent => say_spent(alloc, &job),
             Fate::Again => self.plan_again(alloc, job, refusal_in(last)),
             Fate::Next => self.send_next(alloc, stepped(job), house),
         }

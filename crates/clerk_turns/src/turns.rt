@@ -1,6 +1,7 @@
 // What a clerk makes of each line that it reads.
 ghost use Rattle.std.specs.Prelude.{◌≡◌, true, [], None, IfOk, IsSome, map, slice_get};
 ghost use Rattle.clerk_lines.specs.ClerkTexts.{show_text};
+ghost use Rattle.cds_base.specs.Counts.{next_count};
 ghost use Rattle.cds_clerk.specs.Heards.{heard_root};
 ghost use Rattle.cell_script.specs.Words.{words_of};
 ghost use Rattle.clerk_turns.specs.Answers.{ArePlanned, AreWanted, IsAnswer};
@@ -113,6 +114,13 @@ fn show_line(alloc: Global, high: bool, lack: &Lack) -> Result<Vec<u8>, AllocErr
     let mut line = Vec::new(alloc);
     push_show(&mut line, high, lack.dir, &lack.name)?;
     Ok(line)
+}
+
+// The place after this one.
+fn next_place(place: usize) -> usize
+    ensures { result ≡ next_count place }
+{
+    place.saturating_add(1)
 }
 
 // Nothing is said.
@@ -391,6 +399,14 @@ impl Clerk {
         self.houses.get(place).copied()
     }
 
+    // Asks a house where the root directory is, beside others.
+    fn put_root(&mut self, alloc: Global, job: u64, house: &HouseNo) -> Result<Vec<u8>, AllocError>
+        ensures { IfOk result
+            (λ text. Puts job self.old (root_ask 0 house.now) text.items self.new) }
+    {
+        self.put(alloc, job, *house, STATUS, Topic::Root(0))
+    }
+
     // Asks houses where the root directory is.
     fn put_each(
         &mut self,
@@ -403,10 +419,17 @@ impl Clerk {
     {
         let mut text = Vec::new(alloc);
         for house in houses {
-            let asks = self.put(alloc, job, *house, STATUS, Topic::Root(0))?;
+            let asks = self.put_root(alloc, job, house)?;
             text.extend_from_slice(&asks)?;
         }
         Ok(text)
+    }
+
+    // The houses that are asked where the root directory is.
+    fn copied_houses(&self, alloc: Global) -> Result<Vec<HouseNo>, AllocError>
+        ensures { IfOk result (λ v. v.items ≡ self.now.houses.items) }
+    {
+        Vec::from_slice(alloc, &self.houses)
     }
 
     // Asks all houses where the root directory is, for a command, which waits.
@@ -414,7 +437,7 @@ impl Clerk {
         ensures { IfOk result (λ text.
             AsksEach self.old job (map (root_ask 0) self.old.houses.items) text.items self.new) }
     {
-        let houses = Vec::from_slice(alloc, &self.houses)?;
+        let houses = self.copied_houses(alloc)?;
         let text = self.put_each(alloc, job.number, &houses)?;
         self.join(job)?;
         Ok(text)
@@ -583,7 +606,7 @@ impl Clerk {
         if job.latest.is_some() {
             self.settle(alloc, job)
         } else {
-            self.ask_at(alloc, job, place.saturating_add(1))
+            self.ask_at(alloc, job, next_place(place))
         }
     }
 

@@ -1,7 +1,4 @@
-use Rattle.std.proofs.Common.{List, ℕ, ◌∙◌, map, subst}
-use Rattle.cds_stamps.specs.declared.numbers.HouseNo.{HouseNo}
-use Rattle.clerk_turns.specs.Asking.{PutsEach, root_ask}
 use Rattle.clerk_turns.proofs.clerk.Clerk.ask_each.Goals as goal
 
 pub returns : goal.returns
-returns c = (_, ?, c.in_ok-join.ensures)
+returns c = (_, rw (c.deref.ensures.value, c.in_ok-houses.ensures) at c.in_ok-text.ensures, c.in_ok-join.ensures)

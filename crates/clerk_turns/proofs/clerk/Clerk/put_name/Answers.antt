@@ -1,4 +1,4 @@
-use Rattle.std.proofs.Common.{List, ℕ, subst, sym}
+use Rattle.std.proofs.Common.{List, ℕ, subst, sym, ◌∙◌}
 use Rattle.resolver.proofs.PassLaws.{if_ok}
 use Rattle.clerk_turns.specs.Asking.{Ask, Puts}
 use Rattle.clerk_turns.specs.declared.clerk.Topic.TheVariants as topic

@@ -8,6 +8,9 @@ returns-in-Done c = rw c.in-Done.is (if_ok c.say.result (λ t is. (is, refl)) c.
 pub returns-in-Refused : goal.returns-in-Refused
 returns-in-Refused c = rw c.in-Refused.is (if_ok c.say_last.result (λ t is. (is, refl)) c.say_last.ensures)
 
+pub returns-in-Spent : goal.returns-in-Spent
+returns-in-Spent c = rw c.in-Spent.is (if_ok c.say_spent.result (λ t is. (is, refl)) c.say_spent.ensures)
+
 pub returns-in-Again : goal.returns-in-Again
 returns-in-Again c = rw c.in-Again.is (rw c.refusal_in.ensures at c.plan_again.ensures)
 
