@@ -1,0 +1,5 @@
+use Rattle.std.proofs.Common.{refl}
+use Rattle.clerk_turns.proofs.clerk.Clerk.send.Goals as goal
+
+pub returns : goal.returns
+returns c = rw (c.planned.ensures c.args.updates refl refl) at c.send_next.ensures
