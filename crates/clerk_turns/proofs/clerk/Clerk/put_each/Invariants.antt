@@ -1,7 +1,8 @@
-use Rattle.std.proofs.Common.{drop}
+use Rattle.std.proofs.Common.{drop, map}
 use Rattle.clerk_turns.proofs.RootAsks.{IsAsking}
+use Rattle.clerk_turns.specs.Asking.{root_ask}
 use Rattle.clerk_turns.proofs.clerk.Clerk.put_each.Given as goal
 
--- the houses up to this place were asked
-abbrev pub invariant-loop-place : goal.invariant-loop-place
-invariant-loop-place l = IsAsking l.fn.self l.job l.text.items l.self (drop l.place l.fn.self.houses.items) l.place
+-- those up to this one were asked
+abbrev pub invariant-loop-house : goal.invariant-loop-house
+invariant-loop-house l = IsAsking l.job l.fn.self (map (root_ask 0) l.houses) l.text.items l.self (map (root_ask 0) (drop l.house-index l.houses))

@@ -1,0 +1,24 @@
+use Rattle.std.proofs.Common.{sym, ◌∙◌, arith}
+use Rattle.std.specs.Prelude.{◌==◌}
+use Rattle.clerk_turns.specs.declared.clerk.Question.{Question}
+use Rattle.clerk_turns.proofs.Places.{position_within, there_at}
+use Rattle.clerk_turns.proofs.clerk.take_question.Goals as goal
+
+pub remove-requires : goal.remove-requires
+remove-requires c =
+    let within = position_within (λ (x : Question). x.number == c.args.number) c.args.questions.now.items c.in-Some.place (sym c.place_of_question.ensures ∙ c.in-Some.is) in
+    omega (arith, within, c.args.questions.now.ok.0)
+
+pub returns-in-Some-clause-some : goal.returns-in-Some-clause-some
+returns-in-Some-clause-some c = record {
+  place = c.in-Some.place;
+  first = sym c.place_of_question.ensures ∙ c.in-Some.is;
+  taken = record {
+    there = there_at c.args.questions.now.items c.in-Some.place c.remove.result
+        (position_within (λ (x : Question). x.number == c.args.number) c.args.questions.now.items c.in-Some.place (sym c.place_of_question.ensures ∙ c.in-Some.is)) c.remove.ensures.value;
+    out = c.remove.ensures.items;
+  };
+}
+
+pub returns-in-None-clause-none : goal.returns-in-None-clause-none
+returns-in-None-clause-none c = sym c.place_of_question.ensures ∙ c.in-None.is
