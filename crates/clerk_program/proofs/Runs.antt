@@ -1,5 +1,5 @@
 -- A run between two lines, and how it ends.
-use Rattle.std.proofs.Common.{◌≡◌, ◌≢◌, ℕ, ◌+◌, ◌<◌, ◌≤◌, List, [], ◌∷◌, ◌++◌, length, take, drop, inl, inr, refl, sym, ◌∙◌, ap, subst, append_assoc, append-nil, length-append, take-append-drop, length-take, arith}
+use Rattle.std.proofs.Common.{◌≡◌, ◌≢◌, ℕ, ◌+◌, ◌<◌, ◌≤◌, List, [], ◌∷◌, ◌++◌, length, take, drop, inl, inr, refl, sym, ◌∙◌, ap, subst, append_assoc, append-nil, length-append, take-append-drop, length-take, get_or, arith}
 use Rattle.std.specs.Prelude.{Option, Some, None, Result, Ok, Err}
 use Rattle.std.specs.Io.KnownBytes.{Consumes, Appends}
 use Rattle.cds_base.specs.Counts.{Rose}
@@ -11,6 +11,7 @@ use Rattle.cds_base.specs.declared.lines.TheConstants.{MOST_HELD}
 use Rattle.cds_base.specs.declared.lines.Lines.{Lines}
 use Rattle.cds_base.specs.declared.scan.LineFault.{LineFault}
 use Rattle.cds_base.specs.declared.scan.LineFault.TheVariants as fault
+use Rattle.cds_stamps.specs.declared.numbers.HouseNo.{HouseNo}
 use Rattle.cds_base.proofs.KnownOctets.{appends_more, appends_none, consumes_more, consumes_self}
 use Rattle.line_forms.specs.declared.endings.Status.{Status}
 use Rattle.line_forms.specs.declared.endings.Status.TheVariants.{Ok as AllRead, Usage, BadInput, ReadFault, WriteFault, OutOfMemory, JournalFull}
@@ -18,7 +19,7 @@ use Rattle.line_forms.specs.Endings.{side}
 use Rattle.line_forms.specs.Leaving.{text_of}
 use Rattle.clerk_turns.specs.declared.clerk.Clerk.{Clerk}
 use Rattle.clerk_turns.specs.Turns.{IsTurn}
-use Rattle.clerk_program.specs.ClerkRuns.{RunEnds, TakesOne, Talk, begins, goes_on}
+use Rattle.clerk_program.specs.ClerkRuns.{HousesEnd, IsNew, RunEnds, TakesOne, Talk, begins, goes_on}
 use Rattle.clerk_program.specs.LineTurns.{TakesLine, status_of}
 
 text_more : (lines : List (List ℕ)) (line : List ℕ) → text_of (lines ++ line ∷ []) ≡ text_of lines ++ (line ++ 10 ∷ [])
@@ -250,3 +251,9 @@ module _ (first at : Clerk) (lines lines' : Lines) (run : Run) (b : IsBetween fi
       faulty (fault.NoLineEnd number place) (λ is. absurd (cc (is))) next.answer.0 next.answer.1 cause same calm
   ends_at_fault (fault.TooManyLines number place) next cause same calm =
       faulty (fault.TooManyLines number place) (λ is. absurd (cc (is))) next.answer.0 next.answer.1 cause same calm
+
+-- a clerk of these houses, of which the first is the near one, worked so
+pub houses_end : (Unread Unwritten : Type 0) (houses : List HouseNo) → 1 ≤ length houses → (run : Run) (default : HouseNo) (status : Status) (first : Clerk)
+    → IsNew (get_or houses 0 default) (drop 1 houses) first → RunEnds first run status → HousesEnd houses run Unread Unwritten status
+houses_end Unread Unwritten [] some run default status first new worked = absurd (omega (arith, some))
+houses_end Unread Unwritten (near ∷ houses) some run default status first new worked = inr (first, new, worked)
