@@ -18,7 +18,6 @@ use Rattle.line_forms.specs.declared.endings.Status.TheVariants.{Ok as AllRead, 
 use Rattle.line_forms.specs.Endings.{side}
 use Rattle.line_forms.specs.Leaving.{text_of}
 use Rattle.clerk_turns.specs.declared.clerk.Clerk.{Clerk}
-use Rattle.clerk_turns.specs.Turns.{IsTurn}
 use Rattle.clerk_program.specs.ClerkRuns.{HousesEnd, IsNew, RunEnds, TakesOne, Talk, begins, goes_on}
 use Rattle.clerk_program.specs.LineTurns.{TakesLine, status_of}
 

@@ -5,7 +5,7 @@ use Rattle.cds_base.specs.Counts.{Rose}
 use Rattle.cds_base.specs.declared.scan.LineFault.{LineFault}
 use Rattle.cds_base.specs.declared.scan.LineFault.TheVariants as fault
 use Rattle.line_forms.specs.declared.endings.Status.{Status}
-use Rattle.line_forms.specs.declared.endings.Status.TheVariants.{Ok as AllRead, Usage, BadInput, ReadFault, WriteFault, OutOfMemory, JournalFull}
+use Rattle.line_forms.specs.declared.endings.Status.TheVariants.{BadInput, ReadFault, WriteFault, OutOfMemory}
 use Rattle.line_forms.specs.Endings.{Side}
 use Rattle.clerk_turns.specs.declared.clerk.Clerk.{Clerk}
 use Rattle.clerk_turns.specs.Turns.{IsTurn}
