@@ -49,6 +49,7 @@ filter_from {A} {B} f (x ∷ xs) y c = by_found (f x) refl (filter_from f xs y) 
   where
     later : ((z : A) × Contains xs z × (f z ≡ Some y)) → (z : A) × Contains (x ∷ xs) z × (f z ≡ Some y)
     later found = (found.0, Contains-tail x xs found.0 found.1, found.2)
+
     by_found : (o : Option B) → f x ≡ o → (Contains (filter_map f xs) y → (z : A) × Contains xs z × (f z ≡ Some y))
         → Contains (cons_option o (filter_map f xs)) y → (z : A) × Contains (x ∷ xs) z × (f z ≡ Some y)
     by_found None is on c = later (on c)

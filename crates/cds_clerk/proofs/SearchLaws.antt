@@ -70,6 +70,7 @@ Contains-filter_map {A} {B} f (z ∷ zs) x y c is = ⊎_elim first (λ rest. lat
   where
     first : z ≡ x → Contains (filter_map f (z ∷ zs)) y
     first same = subst (λ (o : Option B). Contains (cons_option o (filter_map f zs)) y) (sym (ap f same ∙ is)) (Contains-head y (filter_map f zs))
+
     later : (o : Option B) → Contains (filter_map f zs) y → Contains (cons_option o (filter_map f zs)) y
     later None found = found
     later (Some b) found = Contains-tail b (filter_map f zs) y found
@@ -111,11 +112,12 @@ lacks_same p q same =
 -- a question that is one of these is among them
 asked_among : (qs : List Lack) (q : Lack) → list_any (λ p. same_lack p q) qs ≡ true → Contains qs q
 asked_among [] q any = absurd (cc)
-asked_among (p ∷ ps) q any = by_test (same_lack p q) refl any
+asked_among (p ∷ ps) q any = by_test (same_lack p q) refl (asked_among ps q) any
   where
-    by_test : (t : Bool) → same_lack p q ≡ t → (t || list_any (λ o. same_lack o q) ps) ≡ true → Contains (p ∷ ps) q
-    by_test true same any = subst (Contains (p ∷ ps)) (lacks_same p q same) (Contains-head p ps)
-    by_test false same any = Contains-tail p ps q (asked_among ps q any)
+    by_test : (t : Bool) → same_lack p q ≡ t → (list_any (λ o. same_lack o q) ps ≡ true → Contains ps q) → (t || list_any (λ o. same_lack o q) ps) ≡ true
+        → Contains (p ∷ ps) q
+    by_test true same later any = subst (Contains (p ∷ ps)) (lacks_same p q same) (Contains-head p ps)
+    by_test false same later any = Contains-tail p ps q (later any)
 
 module _ (qs : List Lack) (q : Lack) where
   -- the others are still there
@@ -178,12 +180,14 @@ module _ (h : Heard) (wanted : Interface) where
       on_ahead : (n : List (List ℕ)) → Contains names n ⊎ Contains (names_of (least_reader h) wanted f) n → Contains names n ⊎ IsAhead h wanted end n
       on_ahead n (inl c) = inl c
       on_ahead n (inr c) = inr (record { entry = f; is = is; shown = shown; goes_on = c })
+
       new_one : (e : Found) → e ≡ f → IsKnown h wanted entries names' e
       new_one e same = inr (
         subst (IsShown h) (sym same) shown,
         λ n c. subst (λ (ns : Names). Contains ns n) (sym names_are) (Contains-append_right names (names_of (least_reader h) wanted f) n
             (subst (λ (x : Found). Contains (names_of (least_reader h) wanted x) n) same c)),
       )
+
       by_cases : (e : Found) → Contains entries e ⊎ Contains (f ∷ []) e → IsKnown h wanted entries names' e
       by_cases e (inl c) = inl c
       by_cases e (inr c) = new_one e (only_of f e c)
@@ -222,6 +226,7 @@ module _ (h : Heard) (wanted : Interface) where
         shown_by : (e : Found) → IsKnown h wanted entries names' e → IsShown h e
         shown_by e (inl c) = search.shown e c
         shown_by e (inr new) = new.0
+
         on_by : (e : Found) (n : List (List ℕ)) → Contains (names_of (least_reader h) wanted e) n → IsKnown h wanted entries names' e → IsFollowed h entries' names' lacks n
         on_by e n more (inl c) = followed n (search.goes_on e n c more)
         on_by e n more (inr new) = inl (new.1 n more)

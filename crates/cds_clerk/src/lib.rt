@@ -1,4 +1,6 @@
-//! A clerk: what it heard of houses, and what that says of names.
+//! A clerk: what it heard of houses for one command, and what that says of names, or what was not
+//! heard yet. It asks no house itself, and knows neither lines nor connections nor cells; nor does
+//! it know when a house answered.
 #![tactic(auto)]
 
 mod heard;

@@ -1,14 +1,17 @@
 // Plans: the updates that a command asks for by what was heard.
-ghost use Rattle.std.specs.Prelude.{◌≡◌, true, false, None, IfOk, option_copied};
+ghost use Rattle.std.specs.Prelude.{◌≡◌, true, false, Some, None, IfOk};
 ghost use Rattle.std.specs.Result.{result_map_both};
 ghost use Rattle.cds_stamps.specs.Outcomes.{Answers};
+ghost use Rattle.cell_names.specs.ChildPointers.{Pointer};
 ghost use Rattle.directory.specs.Updates.{change_of};
+ghost use Rattle.resolver.specs.PassWords.{first_walker};
 ghost use Rattle.resolver.specs.Readers.{Reader};
 ghost use Rattle.resolver.specs.Walks.{Ends};
 ghost use Rattle.resolver.specs.WalkEnds.{end_of};
 ghost use Rattle.ns_commands.specs.Asks.{Asks, changes_in};
-ghost use Rattle.cds_clerk.specs.Agreements.{Agrees};
+ghost use Rattle.cds_clerk.specs.Agreements.{Agrees, IsNeeded};
 ghost use Rattle.cds_clerk.specs.Heards.{IsUnheard, heard_root};
+ghost use Rattle.cds_clerk.specs.Inquirings.{IsAtName};
 ghost use Rattle.cds_clerk.specs.Readings.{IfFound, IsShown};
 ghost use Rattle.cds_clerk.specs.Plans.{IfMisses, IfPlanned, IfRootless, asks_of, change_named, is_creation, name_of, update_at, update_of};
 
@@ -20,7 +23,10 @@ use cds_stamps::{AllocOr, AttrName, DirId, HouseNo, SimpleName};
 use cell_names::FullName;
 use cell_script::{Note, StringBindings, Uuids};
 use directory::Update;
-use ns_commands::{Updates, add_element, add_member, delete_element, delete_member, export, refusal_of_walk, unexport};
+use ns_commands::{
+    Updates, add_element, add_member, delete_element, delete_member, export, refusal_of_walk,
+    unexport,
+};
 use resolver::laws::ends_are_seen;
 use resolver::{End, EntryReader};
 use script_answers::ScriptRefusal;
@@ -88,7 +94,14 @@ impl Plan {
     {
         match self {
             Plan::Export(name, interface, bindings, objects) => {
-                export(alloc, reader, name, interface, bindings.list(), objects.list())
+                export(
+                    alloc,
+                    reader,
+                    name,
+                    interface,
+                    bindings.list(),
+                    objects.list(),
+                )
             }
             Plan::Unexport(name, interface, objects) => {
                 unexport(alloc, reader, name, interface.as_ref(), objects.list())
@@ -134,11 +147,13 @@ fn plan_at(alloc: Global, heard: &Heard, plan: &Plan, end: &End) -> Result<Plann
 }
 
 /// The updates that a command asks for by what was heard. Each reader that agrees with what was
-/// heard has those, or the same refusal, whatever else it tells; and what lacks was not heard.
+/// heard has those, or the same refusal, whatever else it tells. What lacks was not heard, and the
+/// walk comes to a look-up of it.
 pub fn plan_of(alloc: Global, heard: &Heard, plan: &Plan) -> Result<Planned, AllocError>
     ensures done { IfOk result (λ x. IfPlanned x (λ asks. (r : Reader) → Agrees r heard.now
         → asks ≡ asks_of r plan.now)) }
     ensures asks { IfOk result (λ x. IfMisses x (IsUnheard heard.now)) }
+    ensures needs { IfOk result (λ x. IfMisses x (IsAtName heard.now (name_of plan.now))) }
     ensures root { IfOk result (λ x. IfRootless x (heard_root heard.now.root ≡ None)) }
 {
     ends_are_seen();
@@ -220,8 +235,9 @@ fn update_at(alloc: Global, end: &End, update: &NamedUpdate) -> Result<Planned, 
     }
 }
 
-/// The update of the entry of a full name by what was heard. Each reader that agrees with what was
-/// heard has it, or the same refusal, whatever else it tells; and what lacks was not heard.
+/// The update of the entry of a full name, the last component not followed, by what was heard. Each
+/// reader that agrees with what was heard has it, or the same refusal, whatever else it tells. What
+/// lacks was not heard, and the walk comes to a look-up of it.
 pub fn plan_update(
     alloc: Global,
     heard: &Heard,
@@ -231,6 +247,9 @@ pub fn plan_update(
     ensures done { IfOk result (λ x. IfPlanned x (λ asks. (r : Reader) → Agrees r heard.now
         → asks ≡ update_at update.now (end_of r false name.now))) }
     ensures asks { IfOk result (λ x. IfMisses x (IsUnheard heard.now)) }
+    ensures needs { IfOk result (λ x. IfMisses x (λ q. (root : Pointer)
+        → heard_root heard.now.root ≡ Some (Some root)
+        → IsNeeded heard.now false (first_walker root name.now) q)) }
     ensures root { IfOk result (λ x. IfRootless x (heard_root heard.now.root ≡ None)) }
 {
     match walk(alloc, heard, name, false)? {

@@ -178,7 +178,7 @@ fn begun(alloc: Global, first: &FullName) -> Result<Vec<FullName>, AllocError>
 
 /// Searches from a name on, by what was heard. A name whose walk lacks something is passed over, so
 /// that what lacks of others is found, too.
-#[tactic(auto, using(crate::proofs::SearchLaws::way_all, crate::proofs::SearchLaws::way_asks, crate::proofs::SearchLaws::way_closed, crate::proofs::SearchLaws::way_starts))]
+#[tactic(auto, using(crate::proofs::SearchLaws::way_all, crate::proofs::SearchLaws::way_asks, crate::proofs::SearchLaws::way_closed))]
 pub(crate) fn search(
     alloc: Global,
     heard: &Heard,

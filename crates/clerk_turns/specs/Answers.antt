@@ -17,7 +17,7 @@ use Rattle.cds_clerk.specs.Agreements.{Agrees, IsNeeded}
 use Rattle.cds_clerk.specs.Heards.{heard_root}
 use Rattle.cds_clerk.specs.Inquirings.{IsAtName}
 use Rattle.cds_clerk.specs.Links.{IsTargetRead}
-use Rattle.cds_clerk.specs.Plans.{asks_of, update_at}
+use Rattle.cds_clerk.specs.Plans.{asks_of, name_of, update_at}
 use Rattle.cds_clerk.specs.Readings.{values_read}
 use Rattle.cds_clerk.specs.Searches.{AreAsked, IsSought}
 use Rattle.clerk_turns.specs.declared.command.Command.{Command}
@@ -55,16 +55,20 @@ IsAnswer h c a = (r : Reader) → Agrees r h → IsAnswerOver r c a
 abbrev pub ArePlanned : Heard → Command → Updates → Type 0
 ArePlanned h c u = (r : Reader) → Agrees r h → IsPlanOver r c (Ok (changes_in u))
 
--- a command needs this to come to its answer; of one that changes an entry nothing is said
+-- the walk of a name needs this, the last link not followed
+abbrev pub IsAtLink : Heard → (name : List (List ℕ)) → Lack → Type 0
+IsAtLink h name q = (root : Pointer) → heard_root h.root ≡ Some (Some root)
+    → IsNeeded h false (first_walker root name) q
+
+-- a command needs this to come to its answer, or to its plan
 abbrev pub Wants : Heard → Command → Lack → Type 0
 Wants h (command.Read high name attr) q = IsAtName h name q
-Wants h (command.Readlink high name) q = (root : Pointer) → heard_root h.root ≡ Some (Some root)
-    → IsNeeded h false (first_walker root name) q
+Wants h (command.Readlink high name) q = IsAtLink h name q
 Wants h (command.Import high name wanted) q = IsSought h wanted.interface name q
-Wants h (command.Plan p) q = Unit {0}
-Wants h (command.Update name u) q = Unit {0}
+Wants h (command.Plan p) q = IsAtName h (name_of p) q
+Wants h (command.Update name u) q = IsAtLink h name q
 
--- these are asked for a command: there are some, each once; none was heard
+-- these are asked for a command: there are some, each once; none was heard, and each is needed
 abbrev pub AreWanted : Heard → Command → List Lack → Type 0
 AreWanted h c qs = AreAsked h (Wants h c) qs
 

@@ -6,6 +6,8 @@ ghost use Rattle.cds_clerk.specs.Heards.{IsUnheard, heard_root};
 ghost use Rattle.cds_clerk.specs.Plans.{IfMisses as IfPlanLacks, IfPlanned, IfRootless};
 ghost use Rattle.cds_clerk.specs.Readings.{IfSaid, IfUnknown, IfUnrooted};
 ghost use Rattle.cds_clerk.specs.Searches.{IfClosed, IfLost, IfMisses};
+ghost use Rattle.cds_clerk.specs.declared.heard.Heard.{Heard};
+ghost use Rattle.clerk_turns.specs.declared.command.Command.{Command};
 ghost use Rattle.clerk_turns.specs.Answers.{AreWanted, IsAnswer, IsComing, IsPlanOver, Wants};
 
 use crate::command::Command;
@@ -66,7 +68,7 @@ fn of_searched(told: Searched<Answer>) -> Comes
 fn of_planned(alloc: Global, told: Planned) -> Result<Comes, AllocError>
     ensures { (h : Heard) (c : Command)
         → IfPlanned told (λ asks. (r : Reader) → Agrees r h → IsPlanOver r c asks)
-        → IfPlanLacks told (IsUnheard h) → ((q : Lack) → Wants h c q)
+        → IfPlanLacks told (IsUnheard h) → IfPlanLacks told (Wants h c)
         → IfRootless told (heard_root h.root ≡ None) → IfOk result (IsComing h c) }
 {
     match told {

@@ -5,6 +5,7 @@ ghost use Rattle.std.specs.Option.{option_map};
 ghost use Rattle.directory.specs.Updates.{change_of};
 ghost use Rattle.clerk_lines.specs.ClerkTexts.{say_text};
 ghost use Rattle.clerk_lines.specs.Hearings.{word_of};
+ghost use Rattle.ns_commands.specs.declared.updates.Updates.{Updates};
 ghost use Rattle.clerk_turns.specs.Sendings.{IsUnsent, Sends, again, doubted, fate_of, fate_of_line, fate_of_update, front_text, in_doubt, last_said, next_line, planned, refusal_in, stepped, update_text, value_text};
 ghost use Rattle.clerk_turns.specs.Turns.{PlansAgain, StepComes, StepDown, StepTold, TriesAgain};
 

@@ -2,7 +2,6 @@
 ghost use Rattle.std.specs.Prelude.{◌≡◌, true, [], None, IfOk, IsSome, map, slice_get};
 ghost use Rattle.clerk_lines.specs.ClerkTexts.{show_text};
 ghost use Rattle.cds_clerk.specs.Heards.{heard_root};
-ghost use Rattle.ns_commands.specs.declared.updates.Updates.{Updates};
 ghost use Rattle.cell_script.specs.Words.{words_of};
 ghost use Rattle.clerk_turns.specs.Answers.{ArePlanned, AreWanted, IsAnswer};
 ghost use Rattle.clerk_turns.specs.Asking.{Asks, AsksEach, IsWithJob, Puts, PutsEach, name_ask, root_ask};

@@ -10,9 +10,14 @@ use Rattle.cds_clerk.specs.Heards.{IsUnheard, heard_root}
 use Rattle.cds_clerk.specs.Readings.{least_reader}
 use Rattle.cds_clerk.specs.Searches.{IsUnderWay}
 use Rattle.cds_clerk.proofs.HeardLaws.{ended_shown, if_ended, if_wants, least_agrees}
-use Rattle.cds_clerk.proofs.SearchLaws.{object_shown, way_ended, way_missed}
+use Rattle.cds_clerk.proofs.SearchLaws.{object_shown, way_ended, way_missed, way_starts}
 use Rattle.cds_clerk.proofs.searching.search.Goals as goal
 use Rattle.cds_clerk.proofs.searching.search.Goals.{in-Ended+in_ok-settle-in-Ended, in-Lacks+in_ok-miss-in-Lacks}
+
+pub steps-init : goal.steps-init
+steps-init c =
+    way_starts c.args.heard.now c.args.interface.now c.args.first.now c.new-entries.result.items c.in_ok-names.names.items c.new-lacks.result.items
+    c.new-entries.ensures.items c.in_ok-names.ensures c.new-lacks.ensures.items
 
 pub settle-requires : goal.settle-requires
 settle-requires c =
@@ -31,7 +36,7 @@ steps-preserved c =
     let names = c.pop.new.self.items in
     let lacks = c.steps.lacks.items in
     let way = subst (λ (ns : List (List (List ℕ))). IsUnderWay h wanted first entries ns lacks) c.in-Some.ensures.items c.steps.invariant in
-    elim c.match-branch-4.branch [
+    elim c.match-branch-3.branch [
       | in-Ended+in_ok-settle-in-Ended w ↦
           let walked = if_ended c.in_ok-end.field-0 w.in-Ended.end (λ e. (r : Reader) → Agrees r h → Ends r true name e) w.in-Ended.is c.in_ok-end.ensures.done in
           rw (w.entries-is, w.names-is, w.lacks-is)
@@ -41,7 +46,7 @@ steps-preserved c =
           let q = w.in-Lacks.lack in
           let unheard = if_wants c.in_ok-end.field-0 q (IsUnheard h) w.in-Lacks.is c.in_ok-end.ensures.asks in
           let needs = if_wants c.in_ok-end.field-0 q (λ (p : Lack). (root : Pointer) → heard_root h.root ≡ Some (Some root)
-              → IsNeeded h true (first_walker root name) p) w.in-Lacks.is c.in_ok-end.ensures.needs in
+          → IsNeeded h true (first_walker root name) p) w.in-Lacks.is c.in_ok-end.ensures.needs in
           rw (w.entries-is, w.names-is, w.lacks-is)
           (subst (λ (ls : List Lack). IsUnderWay h wanted first entries names ls) (sym w.in_ok-miss-in-Lacks.ensures)
           (way_missed h wanted first entries names name lacks way q unheard needs))

@@ -17,4 +17,4 @@ returns-in-LacksRoot c = λ h cmd done unheard wants rootless. rw c.in-LacksRoot
 pub returns-in_ok-alone-in-Lacks : goal.returns-in_ok-alone-in-Lacks
 returns-in_ok-alone-in-Lacks c = λ h cmd done unheard wants rootless.
     subst (AreWanted h cmd) (sym c.in_ok-alone-in-Lacks.ensures)
-    (one_asked h (Wants h cmd) c.in-Lacks.lack (rw c.in-Lacks.is at unheard) (wants c.in-Lacks.lack))
+    (one_asked h (Wants h cmd) c.in-Lacks.lack (rw c.in-Lacks.is at unheard) (rw c.in-Lacks.is at wants))
