@@ -1,6 +1,6 @@
 // The whole program over a source and a sink.
 ghost use Rattle.std.specs.Prelude.{◌≡◌, IfOk, map, string_bytes};
-ghost use Rattle.line_forms.specs.Runs.{run_of};
+ghost use Rattle.cds_base.specs.RunEnds.{run_of};
 ghost use Rattle.clerk_program.specs.ClerkRuns.{HousesEnd, IsNew, WordsEnd};
 ghost use Rattle.clerk_program.specs.ProgramWords.{houses_said};
 
@@ -27,7 +27,7 @@ fn run_with<S: Source, K: Sink>(
     sink: &mut K,
 ) -> Status
     ensures { HousesEnd houses.now
-        (run_of S.left S.faults K.written K.faults source.old source.new sink.old sink.new)
+        (run_of S.Source K.Sink source.old source.new sink.old sink.new)
         (source.new ≡ source.old) (sink.new ≡ sink.old) result }
 {
     match houses {
@@ -48,7 +48,7 @@ pub fn run<S: Source, K: Sink>(
     sink: &mut K,
 ) -> Status
     ensures { WordsEnd (houses_said (map string_bytes words.now))
-        (run_of S.left S.faults K.written K.faults source.old source.new sink.old sink.new)
+        (run_of S.Source K.Sink source.old source.new sink.old sink.new)
         (source.new ≡ source.old) (sink.new ≡ sink.old) result }
 {
     match houses_in(alloc, words) {

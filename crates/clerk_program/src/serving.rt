@@ -1,7 +1,8 @@
 // A clerk's lines: each is read, taken, and answered.
 ghost use Rattle.std.specs.Prelude.{◌≡◌};
 ghost use Rattle.cds_base.specs.Lines.{IsFresh};
-ghost use Rattle.line_forms.specs.Runs.{run_of};
+ghost use Rattle.cds_base.specs.RunEnds.{run_of};
+ghost use Rattle.line_forms.specs.Endings.{side_of};
 ghost use Rattle.clerk_program.specs.ClerkRuns.{RunEnds};
 ghost use Rattle.clerk_program.specs.LineTurns.{TakesLine, status_of};
 
@@ -17,8 +18,8 @@ fn take_line<K: Sink>(
     line: &[u8],
     sink: &mut K,
 ) -> Result<(), Status>
-    ensures { TakesLine clerk.old line.now clerk.new (K.written sink.old) (K.written sink.new)
-        (K.faults sink.old) (K.faults sink.new) result }
+    ensures { TakesLine clerk.old line.now clerk.new (side_of K.written K.faults sink.old)
+        (side_of K.written K.faults sink.new) result }
 {
     let Ok(text) = clerk.next(alloc, line) else {
         return Err(Status::OutOfMemory);
@@ -49,7 +50,7 @@ fn serve_lines<S: Source, K: Sink>(
 ) -> Status
     requires { IsFresh lines.old }
     ensures { RunEnds clerk.old
-        (run_of S.left S.faults K.written K.faults source.old source.new sink.old sink.new) result }
+        (run_of S.Source K.Sink source.old source.new sink.old sink.new) result }
 {
     'lines: loop {
         match lines.next(source) {
@@ -72,7 +73,7 @@ pub fn serve<S: Source, K: Sink>(
     sink: &mut K,
 ) -> Status
     ensures { RunEnds clerk
-        (run_of S.left S.faults K.written K.faults source.old source.new sink.old sink.new) result }
+        (run_of S.Source K.Sink source.old source.new sink.old sink.new) result }
 {
     match Lines::new(alloc) {
         Ok(mut lines) => serve_lines(alloc, &mut clerk, &mut lines, source, sink),

@@ -1,8 +1,8 @@
 // The words of the command line.
-ghost use Rattle.std.specs.Prelude.{◌≡◌, filter, map, string_bytes, IfOk};
+ghost use Rattle.std.specs.Prelude.{◌≡◌, map, string_bytes, IfOk};
 ghost use Rattle.std.specs.Option.{option_map};
 ghost use Rattle.cell_script.specs.Words.{house_of};
-ghost use Rattle.clerk_program.specs.ProgramWords.{houses_said, is_near, near_first};
+ghost use Rattle.clerk_program.specs.ProgramWords.{houses_said, near_first};
 
 use cds_stamps::HouseNo;
 use cell_script::number_up_to;
@@ -40,26 +40,15 @@ pub(crate) fn near_first(
 ) -> Result<Vec<HouseNo>, AllocError>
     ensures { IfOk result (λ v. v.items ≡ near_first near houses.now) }
 {
-    let mut first = those_that(alloc, near, houses, true)?;
-    let mut others = those_that(alloc, near, houses, false)?;
-    first.append(&mut others)?;
-    Ok(first)
-}
-
-// The houses that are the near one, or those that are not.
-fn those_that(
-    alloc: Global,
-    near: HouseNo,
-    houses: &[HouseNo],
-    are_near: bool,
-) -> Result<Vec<HouseNo>, AllocError>
-    ensures { IfOk result (λ v. v.items ≡ filter (is_near near are_near) houses.now) }
-{
-    let mut found = Vec::new(alloc);
+    let mut first = Vec::new(alloc);
+    let mut others = Vec::new(alloc);
     for house in houses {
-        if (house.0 == near.0) == are_near {
-            found.push(*house)?;
+        if house.0 == near.0 {
+            first.push(*house)?;
+        } else {
+            others.push(*house)?;
         }
     }
-    Ok(found)
+    first.append(&mut others)?;
+    Ok(first)
 }

@@ -2,9 +2,9 @@
 ghost use Rattle.std.specs.Prelude.{◌<◌, Some};
 
 use crate::scripts::{
-    IMAGES, IMAGES_VERDICT, INQUIRIES, INQUIRIES_ANSWERS, KEPT_READS, KEPT_READS_ANSWERS,
-    OLD_MASTER, OLD_MASTER_ANSWERS, PLAIN, PLAIN_ANSWERS, STOPPED_ADD, STOPPED_ADD_ANSWERS,
-    TROUBLE, TROUBLE_MENDED, USUAL_CELL, USUAL_CELL_ANSWERS,
+    HEARD, HEARD_ANSWERS, IMAGES, IMAGES_VERDICT, INQUIRIES, INQUIRIES_ANSWERS, KEPT_READS,
+    KEPT_READS_ANSWERS, OLD_MASTER, OLD_MASTER_ANSWERS, PLAIN, PLAIN_ANSWERS, STOPPED_ADD,
+    STOPPED_ADD_ANSWERS, TROUBLE, TROUBLE_MENDED, USUAL_CELL, USUAL_CELL_ANSWERS,
 };
 use cds_base::{Failed, MemSink, MemSource, Sink};
 use cds_stamps::DirId;
@@ -18,6 +18,9 @@ const ROOM: usize = 4096;
 
 // The form of `cdsmend`, which has a program of its own, for directory 1.
 const MEND: &str = "cdsmend 1";
+
+// The words of `cdsclerk`: the near house, and those that are asked where the root directory is.
+const CLERK: &str = "2 1 2 3";
 
 // The words of a form.
 fn words_of(alloc: Global, form: &str) -> Result<Vec<String>, AllocError> {
@@ -66,7 +69,7 @@ fn scripts_over_ends_that_fail(rt: HostRuntime) -> Result<(), Fail> {
 }
 
 // Forms, what they read, and what they write of it.
-static SCRIPTS: [(&str, &[u8], &[u8]); 8] = [
+static SCRIPTS: [(&str, &[u8], &[u8]); 9] = [
     ("run", PLAIN, PLAIN_ANSWERS),
     ("run", OLD_MASTER, OLD_MASTER_ANSWERS),
     ("run", USUAL_CELL, USUAL_CELL_ANSWERS),
@@ -75,6 +78,7 @@ static SCRIPTS: [(&str, &[u8], &[u8]); 8] = [
     ("inquire", INQUIRIES, INQUIRIES_ANSWERS),
     ("audit 1", IMAGES, IMAGES_VERDICT),
     (MEND, TROUBLE, TROUBLE_MENDED),
+    (CLERK, HEARD, HEARD_ANSWERS),
 ];
 
 // The most octets of a read or a write where each of them fails in turn.
@@ -91,6 +95,9 @@ fn end_of<K: Sink>(
         return Ok(mend_directory(alloc, DirId(1), Vec::new(alloc), source, sink));
     }
     let words = words_of(alloc, form)?;
+    if form == CLERK {
+        return Ok(clerk_program::run(alloc, &words, source, sink));
+    }
     Ok(run(alloc, &words, source, sink))
 }
 

@@ -238,3 +238,19 @@ pub const TROUBLE_MENDED: &[u8] = b"start 2\n\
     deliver 4\n\
     deliver 5\n\
     deliver 6\n";
+
+// A clerk that reads a value at the house that is near, a command that is none, and a house that
+// nobody asked.
+pub const HEARD: &[u8] = b"do 1 read low /.:/a A\n\
+    hear 1 ok epoch 1 allupto none skulk none entries 0 members 1:1:m 2:1:r\n\
+    hear 2 object\n\
+    hear 2 attr A\n\
+    hear 2 value 00\n\
+    hear 2 end\n\
+    do 2 hop\n\
+    down 9\n";
+
+pub const HEARD_ANSWERS: &[u8] = b"ask 1 1 2 status 1\n\
+    ask 2 1 2 show low 1 a\n\
+    say 1 ok 1 00\n\
+    say 2 fault UnknownCommand 1\n";
