@@ -35,18 +35,21 @@ use Rattle.server_entries.specs.Exports.{export_changes, export_fault, object_at
 use Rattle.ns_groups.specs.Groups as groups_of
 use Rattle.ns_profiles.specs.Profiles as profiles_of
 use Rattle.ns_commands.specs.Imported.{bindings_told, import_answer}
-use Rattle.ns_import.specs.Imports.{bindings_at, edges, imports_from, names_of, object_at, object_walked, same_entry}
+use Rattle.inquire_forms.specs.Inquired.{batches_listed, elements_in, entry_in, in_batches, members_in, of_object}
+use Rattle.ns_import.specs.Imports.{bindings_at, edges, import_list, imports_from, names_of, object_at, object_walked, same_entry}
 use Rattle.ns_import.specs.Orders.{order}
 use Rattle.script_answers.specs.declared.answer.Answer.{Answer}
 use Rattle.script_answers.specs.declared.answer.Answer.TheVariants as answer
 use Rattle.script_answers.specs.declared.answer.ScriptRefusal.TheVariants as why
 use Rattle.script_replay.specs.Replies as reply
 use Rattle.cds_clerk.specs.declared.heard.Heard.{Heard}
-use Rattle.cds_clerk.specs.declared.heard.Root.{Root}
+use Rattle.cds_clerk.specs.declared.inquiring.Listing.{Listing}
+use Rattle.cds_clerk.specs.declared.inquiring.Listing.TheVariants as listing
 use Rattle.cds_clerk.specs.declared.planning.Plan.{Plan}
 use Rattle.cds_clerk.specs.declared.planning.Plan.TheVariants as plan
 use Rattle.cds_clerk.specs.Agreements.{Agrees}
 use Rattle.cds_clerk.specs.Heards.{heard_root}
+use Rattle.cds_clerk.specs.Inquirings.{inquiry_answer}
 use Rattle.cds_clerk.specs.Links.{IsTargetOf, IsTargetRead, target_seen}
 use Rattle.cds_clerk.specs.Plans.{asks_of}
 use Rattle.cds_clerk.specs.Readings.{values_read}
@@ -57,11 +60,11 @@ use Rattle.clerk_laws.proofs.CellSights.{agrees_from}
 -- ---- a root directory that no house has
 
 -- a reader that finds no root directory
-nowhere : Reader → Reader
-abbrev nowhere r = record { root = None; sees = r.sees; values = r.values }
+abbrev nowhere : Reader → Reader
+nowhere r = record { root = None; sees = r.sees; values = r.values }
 
 -- where each walk ends then
-end_nowhere : List (List ℕ) → End
+abbrev end_nowhere : List (List ℕ) → End
 end_nowhere [] = ends.Refused refusal.RootName
 end_nowhere (c ∷ rest) = ends.Refused (refusal.Unreachable (record { 0 = root_dir }))
 
@@ -71,34 +74,37 @@ ends_nowhere r last (c ∷ rest) = stops refl
 
 module _ (views : Views) (prefer : Option ℕ) (high : Bool) (gone : (x : ℕ) → views root_dir x ≡ None) where
   none_answers : (x : ℕ) → answer_of_house views high root_dir x ≡ None
-  none_answers x = rw (gone x) refl
+  none_answers x = ap (option_and_then (answers_with high x)) (gone x)
 
   none_first : (xs : List ℕ) → first_some (answer_of_house views high root_dir) xs ≡ None
   none_first [] = refl
-  none_first (x ∷ xs) = rw (none_answers x) (none_first xs)
+  none_first (x ∷ xs) =
+      ap (λ (o : Option Asked). option_or o (first_some (answer_of_house views high root_dir) xs)) (none_answers x) ∙ none_first xs
 
   module _ (p : Pointer) (is : p.dir ≡ root_dir) where
-    r : Reader
-    abbrev r = reader_of (Some p) views prefer high
+    abbrev r : Reader
+    r = reader_of (Some p) views prefer high
 
     unreached : (n : List ℕ) → r.sees p n ≡ Unreachable
-    unreached n = ap (sight_at n) (rw is (none_first (in_turn prefer high (p.master ∷ p.others))))
+    unreached n =
+        ap (λ (d : ℕ). sight_at n (first_some (answer_of_house views high d) (in_turn prefer high (p.master ∷ p.others)))) is
+        ∙ ap (sight_at n) (none_first (in_turn prefer high (p.master ∷ p.others)))
 
-    refused : Step
-    abbrev refused = Stops (ends.Refused (refusal.Unreachable (record { 0 = p.dir })))
+    abbrev refused : ℕ → Step
+    refused d = Stops (ends.Refused (refusal.Unreachable (record { 0 = d })))
 
-    last_stops : (last : Bool) (w : Walker) (c : List ℕ) (s : Sight) → s ≡ Unreachable → at_last r last w p.dir c s ≡ refused
-    last_stops last w c s seen = rw seen refl
+    last_stops : (last : Bool) (w : Walker) (c : List ℕ) (s : Sight) → s ≡ Unreachable → at_last r last w p.dir c s ≡ refused p.dir
+    last_stops last w c s seen = ap (at_last r last w p.dir c) seen
 
-    inner_stops : (w : Walker) (rest : List (List ℕ)) (s : Sight) → s ≡ Unreachable → at_inner r w p.dir rest s ≡ refused
-    inner_stops w rest s seen = rw seen refl
+    inner_stops : (w : Walker) (rest : List (List ℕ)) (s : Sight) → s ≡ Unreachable → at_inner r w p.dir rest s ≡ refused p.dir
+    inner_stops w rest s seen = ap (at_inner r w p.dir rest) seen
 
     ends_unreached : (last : Bool) (name : List (List ℕ)) → Ends r last name (end_nowhere name)
     ends_unreached last [] = stops refl
     ends_unreached last (c ∷ []) =
-        stops (last_stops last (start r (c ∷ [])) c (r.sees p c) (unreached c) ∙ ap (λ d. Stops (ends.Refused (refusal.Unreachable (record { 0 = d })))) is)
+        stops (last_stops last (start r (c ∷ [])) c (r.sees p c) (unreached c) ∙ ap refused is)
     ends_unreached last (c ∷ d ∷ rest) =
-        stops (inner_stops (start r (c ∷ d ∷ rest)) (d ∷ rest) (r.sees p c) (unreached c) ∙ ap (λ d. Stops (ends.Refused (refusal.Unreachable (record { 0 = d })))) is)
+        stops (inner_stops (start r (c ∷ d ∷ rest)) (d ∷ rest) (r.sees p c) (unreached c) ∙ ap refused is)
 
     same_ends : (last : Bool) (name : List (List ℕ)) → end_of (nowhere r) last name ≡ end_of r last name
     same_ends last name =
@@ -108,13 +114,13 @@ module _ (views : Views) (prefer : Option ℕ) (high : Bool) (gone : (x : ℕ) �
 -- ---- what holds over each reader that agrees
 
 -- each walk ends likewise without a root directory
-AreAlike : Reader → Type 0
-abbrev AreAlike r = (last : Bool) (name : List (List ℕ)) → end_of (nowhere r) last name ≡ end_of r last name
+abbrev AreAlike : Reader → Type 0
+AreAlike r = (last : Bool) (name : List (List ℕ)) → end_of (nowhere r) last name ≡ end_of r last name
 
 module _ (c : Cell) (prefer : Option ℕ) (high : Bool) (h : Heard) (so : AreShownIn c high h)
     (near : option_map (λ x. x.0) h.near ≡ (if high then None else prefer)) where
-  told : Reader
-  abbrev told = program_reader c prefer high
+  abbrev told : Reader
+  told = program_reader c prefer high
 
   alike : (ls : List Listing) → ((x : ℕ) → told_views c root_dir x ≡ None) → AreAlike (reader_of (first_pointer ls) (told_views c) prefer high)
   alike [] gone last name = refl
@@ -138,7 +144,7 @@ module _ (c : Cell) (prefer : Option ℕ) (high : Bool) (h : Heard) (so : AreSho
 
 pub read_moves : (attr : List ℕ) (name : List (List ℕ)) (a : Answer) (r : Reader) → AreAlike r
     → a ≡ values_read (nowhere r) attr (walk_end (nowhere r) true name) → a ≡ values_read r attr (walk_end r true name)
-read_moves attr name a r same is = is ∙ by_found (walk_end (nowhere r) true name) ∙ ap (λ e. values_read r attr (found_of e)) (same true name)
+read_moves attr name a r same is = is ∙ by_found (walk_end (nowhere r) true name) ∙ ap (λ (e : End). values_read r attr (found_of e)) (same true name)
   where
     by_found : (o : Result Found Refusal) → values_read (nowhere r) attr o ≡ values_read r attr o
     by_found (Ok f) = refl
@@ -152,7 +158,7 @@ read_alike r attr (Err why) = refl
 
 pub link_moves : (name : List (List ℕ)) (a : Answer) (r : Reader) → AreAlike r
     → IsTargetRead (nowhere r) (walk_end (nowhere r) false name) a → IsTargetRead r (walk_end r false name) a
-link_moves name a r same is = subst (λ e. IsTargetRead r (found_of e) a) (same false name) (by_found (walk_end (nowhere r) false name) is)
+link_moves name a r same is = subst (λ (e : End). IsTargetRead r (found_of e) a) (same false name) (by_found (walk_end (nowhere r) false name) is)
   where
     by_found : (o : Result Found Refusal) → IsTargetRead (nowhere r) o a → IsTargetRead r o a
     by_found (Ok f) is = record { at = is.at; dir = is.dir; seen = is.seen; is = is.is }
@@ -166,9 +172,9 @@ seen_kind x y k l is = ap (λ (o : Option (ℕ × Kind)). option_map_or (λ q. q
 
 -- an entry is seen at this house, and what is seen of where it leads is what its values say
 record IsLedTo (x : ℕ) (k : Kind) (lead : Option (List ℕ)) (says : Answer) (y : ℕ) (l : Kind) : Type 0 where
-  pub house : x ≡ y
-  pub kind : k ≡ l
-  pub says : target_seen (led_sight k x lead) ≡ says
+  at : x ≡ y
+  is : k ≡ l
+  says : target_seen (led_sight k x lead) ≡ says
 
 module _ (x y : ℕ) (l : Kind) where
   link_says : (ts : List (List ℕ)) → entry_seen (led_sight kind.Link x (only_one ts)) ≡ Some (y, l)
@@ -178,7 +184,7 @@ module _ (x y : ℕ) (l : Kind) where
     where
       by_full : (t : Bool) → is_full_name v ≡ t → entry_seen (if t then Link x (components_of v) else Absent x) ≡ Some (y, l)
           → IsLedTo x kind.Link (Some v) (answer.Target (components_of v)) y l
-      by_full true full is = record { house = seen_house x y kind.Link l is; kind = seen_kind x y kind.Link l is; says = rw full refl }
+      by_full true full is = record { at = seen_house x y kind.Link l is; is = seen_kind x y kind.Link l is; says = ap (λ (t : Bool). target_seen (if t then Link x (components_of v) else Absent x)) full }
       by_full false full is = absurd (cc)
   link_says (v ∷ w ∷ ts) is = absurd (cc)
 
@@ -190,17 +196,17 @@ module _ (x y : ℕ) (l : Kind) where
       by_pointer : (o : Option Pointer) → pointer_of v ≡ o → entry_seen (child_sight x o) ≡ Some (y, l)
           → IsLedTo x kind.Child (Some v) (answer.Refused why.NotLink) y l
       by_pointer None at is = absurd (cc)
-      by_pointer (Some p) at is = record { house = seen_house x y kind.Child l is; kind = seen_kind x y kind.Child l is; says = rw at refl }
+      by_pointer (Some p) at is = record { at = seen_house x y kind.Child l is; is = seen_kind x y kind.Child l is; says = ap (λ (o : Option Pointer). target_seen (child_sight x o)) at }
 
   entry_says : (b : Stamp) (k : Kind) (values : List ℕ → List (List ℕ)) → let e : Shown = record { birth = b; kind = k; values = values } in
       entry_seen (led_sight k x (lead_of e)) ≡ Some (y, l) → IsLedTo x k (lead_of e) (reply.target_of k (values link_target)) y l
-  entry_says b kind.Object values is = record { house = seen_house x y kind.Object l is; kind = seen_kind x y kind.Object l is; says = refl }
+  entry_says b kind.Object values is = record { at = seen_house x y kind.Object l is; is = seen_kind x y kind.Object l is; says = refl }
   entry_says b kind.Link values is = link_says (targets (values link_target)) is
   entry_says b kind.Child values is = child_says (only_one (pointers (values replicas))) is
 
 module _ (root : Option Pointer) (views : Views) (prefer : Option ℕ) (high : Bool) where
-  reader : Reader
-  abbrev reader = reader_of root views prefer high
+  abbrev reader : Reader
+  reader = reader_of root views prefer high
 
   -- the house that is asked shows what it answers
   asked_shows : (d x : ℕ) (a : Asked) → answer_of_house views high d x ≡ Some a → views d a.house ≡ Some a.view
@@ -224,8 +230,8 @@ module _ (root : Option Pointer) (views : Views) (prefer : Option ℕ) (high : B
       by_one (Some b) there is = asked_shows d x a (there ∙ is)
 
   -- the answer where an entry leads is that of the values that its house shows
-  IsTold : Found → Answer → Type 0
-  abbrev IsTold f a = a ≡ reply.target_of f.kind (values_at f link_target (views f.dir.0 f.house.0))
+  abbrev IsTold : Found → Answer → Type 0
+  IsTold f a = a ≡ reply.target_of f.kind (values_at f link_target (views f.dir.0 f.house.0))
 
   told_shown : (f : Found) (a : Answer) (k : Asked) → views f.dir.0 k.house ≡ Some k.view → (o : Option Shown) → k.view.shows f.name ≡ o
       → entry_seen (shown_sight k.house o) ≡ Some (f.house.0, f.kind) → a ≡ target_seen (shown_sight k.house o) → IsTold f a
@@ -233,16 +239,16 @@ module _ (root : Option Pointer) (views : Views) (prefer : Option ℕ) (high : B
   told_shown f a k there (Some e) shows seen says =
       let so = entry_says k.house f.house.0 f.kind e.birth e.kind e.values seen in
       let values : values_at f link_target (views f.dir.0 f.house.0) ≡ e.values link_target =
-      ap (λ x. values_at f link_target (views f.dir.0 x)) (sym so.house)
+      ap (λ (x : ℕ). values_at f link_target (views f.dir.0 x)) (sym so.at)
       ∙ ap (values_at f link_target) there
       ∙ ap (values_of link_target) shows in
-      says ∙ so.says ∙ ap (λ l. reply.target_of l (e.values link_target)) so.kind ∙ ap (reply.target_of f.kind) (sym values)
+      says ∙ so.says ∙ ap (λ (l : Kind). reply.target_of l (e.values link_target)) so.is ∙ ap (reply.target_of f.kind) (sym values)
 
   told_asked : (f : Found) (a : Answer) (d : ℕ) (xs : List ℕ) → d ≡ f.dir.0 → (o : Option Asked) → first_some (answer_of_house views high d) xs ≡ o
       → entry_seen (sight_at f.name o) ≡ Some (f.house.0, f.kind) → a ≡ target_seen (sight_at f.name o) → IsTold f a
   told_asked f a d xs is None first seen says = absurd (cc)
   told_asked f a d xs is (Some k) first seen says =
-      told_shown f a k (ap (λ d. views d k.house) (sym is) ∙ first_shows d xs k first) (k.view.shows f.name) refl seen says
+      told_shown f a k (ap (λ (d : ℕ). views d k.house) (sym is) ∙ first_shows d xs k first) (k.view.shows f.name) refl seen says
 
   target_so : (f : Found) (a : Answer) → IsTargetOf reader f a → IsTold f a
   target_so f a is =
@@ -255,15 +261,30 @@ module _ (root : Option Pointer) (views : Views) (prefer : Option ℕ) (high : B
 
 -- ---- imports
 
-pub import_moves : (objects : List Found) (wanted : Wanted) (name : List (List ℕ)) (r : Reader) → AreAlike r
-    → import_answer (nowhere r) objects wanted name ≡ import_answer r objects wanted name
-import_moves objects wanted name r same i =
+list_moves : (objects : List Found) (wanted : Wanted) (name : List (List ℕ)) (r : Reader) → AreAlike r
+    → import_list (nowhere r) objects wanted name ≡ import_list r objects wanted name
+list_moves objects wanted name r same i =
     let at : object_at (nowhere r) ≡ object_at r = λ i n. object_walked (found_of (same true n i)) in
     let goes_on : edges (nowhere r) wanted.interface ≡ edges r wanted.interface =
     λ i e. filter_map (λ n. result_ok (at i n)) (names_of r wanted.interface e) in
     let bindings : imports_from (nowhere r) objects wanted ≡ imports_from r objects wanted =
     λ i start. flat_map (bindings_at r wanted) (order same_entry (goes_on i) (length objects) start) in
-    bindings_told (result_map_both (bindings i) (λ fault. fault) (at i name))
+    result_map_both (bindings i) (λ fault. fault) (at i name)
+
+pub import_moves : (objects : List Found) (wanted : Wanted) (name : List (List ℕ)) (r : Reader) → AreAlike r
+    → import_answer (nowhere r) objects wanted name ≡ import_answer r objects wanted name
+import_moves objects wanted name r same = ap bindings_told (list_moves objects wanted name r same)
+
+pub batches_move : (objects : List Found) (wanted : Wanted) (most : ℕ) (name : List (List ℕ)) (r : Reader) → AreAlike r
+    → batches_listed (nowhere r) objects wanted most name ≡ batches_listed r objects wanted most name
+batches_move objects wanted most name r same = ap (in_batches most) (list_moves objects wanted name r same)
+
+-- ---- inquiries
+
+pub inquiry_moves : (name : List (List ℕ)) (l : Listing) (r : Reader) → AreAlike r → inquiry_answer (nowhere r) name l ≡ inquiry_answer r name l
+inquiry_moves name listing.Members r same i = of_object (object_in (found_of (same true name i))) (members_in r)
+inquiry_moves name listing.Entry r same i = of_object (object_in (found_of (same true name i))) (entry_in r)
+inquiry_moves name (listing.Elements asked) r same i = of_object (object_in (found_of (same true name i))) (elements_in r asked)
 
 -- ---- plans
 

@@ -4,6 +4,7 @@ use Rattle.std.specs.FinMap.{get}
 use Rattle.std.specs.Option.{option_and_then, option_map}
 use Rattle.cds_stamps.specs.Numbers.{root_dir}
 use Rattle.cds_stamps.specs.declared.numbers.DirId.{DirId}
+use Rattle.cds_stamps.specs.declared.numbers.HouseNo.{HouseNo}
 use Rattle.cell_names.specs.ChildPointers.{Pointer}
 use Rattle.cell_model.specs.Cells as model
 use Rattle.house_directory.specs.declared.states.DirState.{DirState}
@@ -14,8 +15,12 @@ use Rattle.cds_cell.specs.ModelCells.{Stands, house_of}
 use Rattle.cds_cell.specs.Telling.{first_pointer, told_views}
 use Rattle.cell_script.specs.declared.command.Question.{Question}
 use Rattle.cell_script.specs.declared.command.Question.TheVariants as question
+use Rattle.inquire_forms.specs.declared.inquire_line.InquireLine.{InquireLine}
+use Rattle.inquire_forms.specs.declared.inquire_line.InquireLine.TheVariants as inquire
 use Rattle.clerk_lines.specs.declared.hearing.Told.{Told}
 use Rattle.cds_clerk.specs.declared.heard.Heard.{Heard}
+use Rattle.cds_clerk.specs.declared.inquiring.Listing.{Listing}
+use Rattle.cds_clerk.specs.declared.inquiring.Listing.TheVariants as listing
 use Rattle.cds_clerk.specs.declared.planning.Plan.{Plan}
 use Rattle.cds_clerk.specs.declared.planning.Plan.TheVariants as plan
 use Rattle.cds_clerk.specs.Heards.{heard_root, told_of}
@@ -57,6 +62,13 @@ pub record IsHeardIn (g : model.Cell) (prefer : Option ℕ) (high : Bool) (h : H
   pub near : option_map (λ x. x.0) h.near ≡ (if high then None else prefer)
 
 -- ---- commands of scripts
+
+-- the line that makes this inquiry at a house
+abbrev pub inquiry_of : (house : HouseNo) → (high : Bool) → (name : List (List ℕ)) → Listing
+    → InquireLine
+inquiry_of house high name listing.Members = inquire.Grouplist house high name
+inquiry_of house high name listing.Entry = inquire.Entrylist house high name
+inquiry_of house high name (listing.Elements asked) = inquire.Proflist house high name asked
 
 -- the line of a script that is this command of a clerk
 abbrev pub line_of : Plan → Question

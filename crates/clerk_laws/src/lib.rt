@@ -8,14 +8,19 @@ ghost use Rattle.cell_model.specs.Sets.{has};
 ghost use Rattle.cell_script.specs.declared.command.Question.TheVariants as question;
 ghost use Rattle.cell_script.specs.declared.command.ScriptLine.TheVariants as line;
 ghost use Rattle.cds_clerk.specs.Agreements.{Agrees};
+ghost use Rattle.cds_clerk.specs.Inquirings.{inquiry_answer};
 ghost use Rattle.cds_clerk.specs.Links.{IsTargetRead};
 ghost use Rattle.cds_clerk.specs.Plans.{asks_of};
 ghost use Rattle.cds_clerk.specs.Readings.{values_read};
 ghost use Rattle.cds_clerk.specs.declared.heard.Heard.{Heard};
+ghost use Rattle.cds_clerk.specs.declared.inquiring.Listing.{Listing};
 ghost use Rattle.cds_clerk.specs.declared.planning.Plan.{Plan};
 ghost use Rattle.clerk_lines.specs.declared.hearing.Hearing.TheVariants.{Begun};
 ghost use Rattle.clerk_lines.specs.declared.hearing.Told.{Told};
 ghost use Rattle.clerk_lines.specs.Hearings.{told_by};
+ghost use Rattle.inquire_forms.specs.Inquired.{Inquired, batches_listed};
+ghost use Rattle.inquire_forms.specs.declared.inquire_line.InquireLine.TheVariants as inquire;
+ghost use Rattle.inquire_replay.specs.Inquiring.{inquiry_reply};
 ghost use Rattle.ns_commands.specs.Asks.{Asks};
 ghost use Rattle.ns_commands.specs.Imported.{import_answer};
 ghost use Rattle.resolver.specs.Readers.{Reader, ShowsOnly};
@@ -27,7 +32,7 @@ ghost use Rattle.tower_codec.specs.declared.rpc.Interface.{Interface};
 ghost use Rattle.house_directory.specs.declared.states.DirState.{DirState};
 ghost use Rattle.house_turns.specs.Showings.{show_said};
 ghost use Rattle.clerk_laws.specs.Faces.{IsHeardOf, IsSayableTo, shown_to};
-ghost use Rattle.clerk_laws.specs.Cells.{IsHeardIn, line_of};
+ghost use Rattle.clerk_laws.specs.Cells.{IsHeardIn, inquiry_of, line_of};
 
 use cds_cell::laws::cells_tell_the_model;
 
@@ -66,6 +71,25 @@ pub fn clerks_answer_as_cells()
     ensures plans { (g : Cell) (h : Heard) → IsHeardIn g None true h
         → (p : Plan) (asks : Asks) → ((r : Reader) → Agrees r h → asks ≡ asks_of r p)
         → said_of g (line.Question (line_of p)) ≡ does g asks }
+{
+    cells_tell_the_model();
+}
+
+/// Likewise its answer to an inquiry is the reply of `inquire` there: to one of the entry of a
+/// name, and to one of bindings in batches.
+pub fn inquiries_answer_as_cells()
+    ensures lists { (g : Cell) (x : HouseNo) (high : Bool) (h : Heard)
+        → IsHeardIn g (Some x.0) high h → has x.0 g.made ≡ true
+        → (name : List (List ℕ)) (l : Listing) (a : Inquired)
+        → ((r : Reader) → Agrees r h → a ≡ inquiry_answer r name l)
+        → inquiry_reply g (inquiry_of x high name l) ≡ Some a }
+    ensures lookups { (g : Cell) (x : HouseNo) (high : Bool) (h : Heard)
+        → IsHeardIn g (Some x.0) high h → has x.0 g.made ≡ true
+        → (name : List (List ℕ)) (interface : Interface) (object : List ℕ) (tcp udp : Bool)
+        (most : ℕ) (a : Inquired)
+        → ((r : Reader) (objects : List Found) → Agrees r h → ShowsOnly r objects
+        → a ≡ batches_listed r objects (wanted_by interface object tcp udp) most name)
+        → inquiry_reply g (inquire.Lookup x high name interface object tcp udp most) ≡ Some a }
 {
     cells_tell_the_model();
 }
