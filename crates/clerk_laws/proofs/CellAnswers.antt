@@ -24,7 +24,7 @@ use Rattle.resolver.specs.SeenEnds.{entry_seen}
 use Rattle.resolver.specs.Walks.{Walker, Step, Stops, Ends, at_last, at_inner, found_of, place_of, start, step, stops}
 use Rattle.resolver.specs.WalkEnds.{end_of, walk_end}
 use Rattle.cds_cell.specs.declared.cell.Cell.{Cell}
-use Rattle.cds_cell.specs.declared.console.Listing.{Listing}
+use Rattle.cds_cell.specs.declared.console.Listing as console
 use Rattle.cds_cell.specs.Asking.{Asked, View, Views, answer_of_house, answers_with, house_to_ask, in_turn}
 use Rattle.cds_cell.specs.Readings.{led_sight, link_sight, child_sight, pointer_to, reader_of, shown_sight, sight_at, values_at, values_of}
 use Rattle.cds_cell.specs.Telling.{first_pointer, program_reader, told_views}
@@ -122,7 +122,7 @@ module _ (c : Cell) (prefer : Option ℕ) (high : Bool) (h : Heard) (so : AreSho
   abbrev told : Reader
   told = program_reader c prefer high
 
-  alike : (ls : List Listing) → ((x : ℕ) → told_views c root_dir x ≡ None) → AreAlike (reader_of (first_pointer ls) (told_views c) prefer high)
+  alike : (ls : List console.Listing) → ((x : ℕ) → told_views c root_dir x ≡ None) → AreAlike (reader_of (first_pointer ls) (told_views c) prefer high)
   alike [] gone last name = refl
   alike (l ∷ ls) gone last name = same_ends (told_views c) prefer high gone (pointer_to root_dir (members_of l.members)) refl last name
 
@@ -171,10 +171,10 @@ seen_kind : (x y : ℕ) (k l : Kind) → ◌≡◌ {A = Option (ℕ × Kind)} (S
 seen_kind x y k l is = ap (λ (o : Option (ℕ × Kind)). option_map_or (λ q. q.1) o k) is
 
 -- an entry is seen at this house, and what is seen of where it leads is what its values say
-record IsLedTo (x : ℕ) (k : Kind) (lead : Option (List ℕ)) (says : Answer) (y : ℕ) (l : Kind) : Type 0 where
+record IsLedTo (x : ℕ) (k : Kind) (lead : Option (List ℕ)) (told : Answer) (y : ℕ) (l : Kind) : Type 0 where
   at : x ≡ y
   is : k ≡ l
-  says : target_seen (led_sight k x lead) ≡ says
+  says : target_seen (led_sight k x lead) ≡ told
 
 module _ (x y : ℕ) (l : Kind) where
   link_says : (ts : List (List ℕ)) → entry_seen (led_sight kind.Link x (only_one ts)) ≡ Some (y, l)
@@ -222,12 +222,13 @@ module _ (root : Option Pointer) (views : Views) (prefer : Option ℕ) (high : B
 
   first_shows : (d : ℕ) (xs : List ℕ) (a : Asked) → first_some (answer_of_house views high d) xs ≡ Some a → views d a.house ≡ Some a.view
   first_shows d [] a is = absurd (cc)
-  first_shows d (x ∷ xs) a is = by_one (answer_of_house views high d x) refl is
+  first_shows d (x ∷ xs) a is = by_one (answer_of_house views high d x) refl (first_shows d xs a) is
     where
-      by_one : (o : Option Asked) → answer_of_house views high d x ≡ o → option_or o (first_some (answer_of_house views high d) xs) ≡ Some a
-          → views d a.house ≡ Some a.view
-      by_one None there is = first_shows d xs a is
-      by_one (Some b) there is = asked_shows d x a (there ∙ is)
+      by_one : (o : Option Asked) → answer_of_house views high d x ≡ o
+          → (first_some (answer_of_house views high d) xs ≡ Some a → views d a.house ≡ Some a.view)
+          → option_or o (first_some (answer_of_house views high d) xs) ≡ Some a → views d a.house ≡ Some a.view
+      by_one None there later is = later is
+      by_one (Some b) there later is = asked_shows d x a (there ∙ is)
 
   -- the answer where an entry leads is that of the values that its house shows
   abbrev IsTold : Found → Answer → Type 0

@@ -152,7 +152,7 @@ answered : (high : Bool) (x : ℕ) (name : List ℕ) (w : Option View) (o : Opti
     → IsTold high x name o w → IsHeardOf o t → IsAnswered high x name w t
 answered high x name w None t is heard = subst (IsAnswered high x name w) (sym heard) (passes is)
 answered high x name w (Some None) t is heard = subst (IsAnswered high x name w) (sym heard) (absent is)
-answered high x name w (Some (Some e)) t is heard = subst (IsAnswered high x name w) (sym heard.1.0) (shows e heard.0 heard.1.1 is)
+answered high x name w (Some (Some e)) t is heard = subst (IsAnswered high x name w) (sym heard.1) (shows e heard.0 heard.2 is)
 
 module _ (c : Cell) (high : Bool) (h : Heard) (so : AreShownIn c high h) where
   abbrev views : Views
@@ -181,7 +181,7 @@ module _ (c : Cell) (high : Bool) (h : Heard) (so : AreShownIn c high h) where
         by_told told.Absent (absent a) seen =
             let same : Absent x ≡ s = cc in
             ap (λ (o : Option Asked). sight_at name (option_or o rest)) a.answers ∙ ap (shown_sight x) a.shown ∙ same
-        by_told (told.Shows e) (shows cell e face a) seen =
+        by_told (told.Shows e) (shows cell _ face a) seen =
             let same : lead_sight x e.lead ≡ s = cc in
             ap (λ (o : Option Asked). sight_at name (option_or o rest)) a.answers
             ∙ ap (shown_sight x) a.shown
@@ -244,7 +244,7 @@ module _ (c : Cell) (high : Bool) (h : Heard) (so : AreShownIn c high h) where
       by_told told.Absent (absent a) is =
           let same : [] ≡ vs = cc in
           ap (values_at f attr) a.views ∙ ap (values_of attr) a.shown ∙ same
-      by_told (told.Shows e) (shows cell e face a) is =
+      by_told (told.Shows e) (shows cell _ face a) is =
           let same : attr_values attr e.attrs ≡ vs = cc in
           ap (values_at f attr) a.views ∙ ap (values_of attr) a.shown ∙ sym (face.values attr) ∙ same
 
