@@ -19,17 +19,16 @@ use Rattle.resolver.specs.declared.refusal.Refusal.TheVariants as refusal
 use Rattle.resolver.specs.declared.seen.Found.{Found}
 use Rattle.resolver.specs.declared.walk.End.{End}
 use Rattle.resolver.specs.declared.walk.End.TheVariants as ends
-use Rattle.resolver.specs.Readers.{Reader, ShowsOnly, Sight, Unreachable, Absent, Object, Link, Child}
+use Rattle.resolver.specs.Readers.{Reader, Sight, Unreachable, Absent, Object, Link, Child}
 use Rattle.resolver.specs.SeenEnds.{entry_seen}
-use Rattle.resolver.specs.Walks.{Walker, Step, Stops, Ends, at_last, at_inner, found_of, place_of, start, step, stops}
+use Rattle.resolver.specs.Walks.{Walker, Step, Stops, Ends, at_last, at_inner, found_of, place_of, start, stops}
 use Rattle.resolver.specs.WalkEnds.{end_of, walk_end}
 use Rattle.cds_cell.specs.declared.cell.Cell.{Cell}
 use Rattle.cds_cell.specs.declared.console.Listing as console
-use Rattle.cds_cell.specs.Asking.{Asked, View, Views, answer_of_house, answers_with, house_to_ask, in_turn}
-use Rattle.cds_cell.specs.Readings.{led_sight, link_sight, child_sight, pointer_to, reader_of, shown_sight, sight_at, values_at, values_of}
+use Rattle.cds_cell.specs.Asking.{Asked, View, Views, answer_of_house, answers_with, in_turn}
+use Rattle.cds_cell.specs.Readings.{led_sight, child_sight, pointer_to, reader_of, shown_sight, sight_at, values_at, values_of}
 use Rattle.cds_cell.specs.Telling.{first_pointer, program_reader, told_views}
 use Rattle.server_entries.specs.declared.client.Wanted.{Wanted}
-use Rattle.tower_codec.specs.declared.rpc.Interface.{Interface}
 use Rattle.ns_commands.specs.Asks.{changes_unless, deleted_from, fills, object_in, of_entry, place_to_fill, refusal_of_export, refusal_of_group, refusal_of_profile, unless, unless_none}
 use Rattle.server_entries.specs.Exports.{export_changes, export_fault, object_attribute, tower_attribute, unexport_changes}
 use Rattle.ns_groups.specs.Groups as groups_of
@@ -54,7 +53,7 @@ use Rattle.cds_clerk.specs.Links.{IsTargetOf, IsTargetRead, target_seen}
 use Rattle.cds_clerk.specs.Plans.{asks_of}
 use Rattle.cds_clerk.specs.Readings.{values_read}
 use Rattle.cds_clerk.proofs.HeardLaws.{end_is}
-use Rattle.clerk_laws.specs.Cells.{AreShownIn, IsRootIn}
+use Rattle.clerk_laws.specs.Cells.{AreShownIn}
 use Rattle.clerk_laws.proofs.CellSights.{agrees_from}
 
 -- ---- a root directory that no house has

@@ -1,15 +1,13 @@
 -- What a cell tells a reader is what its houses show to a clerk.
 use Rattle.std.proofs.Common.{◌≡◌, ℕ, Bool, true, false, List, [], ◌∷◌, refl, sym, ap, subst, ◌∙◌, arith}
 use Rattle.std.proofs.lemmas.Bool.Decides.{nat_tests}
-use Rattle.std.specs.Prelude.{Option, Some, None, IfSome, is_some, is_none, not, ◌&&◌, ◌||◌, ◌==◌, if◌then◌else◌, filter}
+use Rattle.std.specs.Prelude.{Option, Some, None, IfSome, is_some, is_none, not, ◌&&◌, ◌||◌, ◌==◌, if◌then◌else◌}
 use Rattle.std.specs.FinMap.{get}
 use Rattle.std.specs.List.{AllByRecursion, list_any}
 use Rattle.std.specs.Option.{option_and_then, option_map, option_or}
-use Rattle.attr_sets.specs.AttributeCells.{cell_values}
 use Rattle.cds_stamps.specs.Firsts.{first_some}
 use Rattle.cds_stamps.specs.Members.{master_of, members_of}
 use Rattle.cds_stamps.specs.declared.stamp.Stamp.{Stamp}
-use Rattle.cds_stamps.specs.declared.numbers.DirId.{DirId}
 use Rattle.cell_model.specs.Sets.{has}
 use Rattle.cell_names.specs.ChildPointers.{Pointer, pointer_of}
 use Rattle.cell_names.specs.FullNames.{components_of, is_full_name}
@@ -22,7 +20,7 @@ use Rattle.house_directory.specs.declared.states.DirState.{DirState}
 use Rattle.house_directory.specs.declared.states.DirState.TheVariants as state
 use Rattle.house_directory.specs.declared.states.Held.{Held}
 use Rattle.resolver.specs.declared.seen.Found.{Found}
-use Rattle.resolver.specs.Readers.{Reader, Sight, Unreachable, Absent, Object, Link, Child}
+use Rattle.resolver.specs.Readers.{Sight, Unreachable, Absent, Object, Link, Child}
 use Rattle.cds_cell.specs.declared.cell.Cell.{Cell}
 use Rattle.cds_cell.specs.declared.house.CellHouse.{CellHouse}
 use Rattle.cds_cell.specs.declared.house.HouseState.{HouseState}
@@ -30,14 +28,13 @@ use Rattle.cds_cell.specs.declared.house.HouseState.TheVariants as kept
 use Rattle.cds_cell.specs.Asking.{Asked, View, Views, answer_of_house, answers_with, house_to_ask, in_turn, preferred_first}
 use Rattle.cds_cell.specs.ModelCells.{house_of}
 use Rattle.cds_cell.specs.Readings.{child_sight, led_sight, reader_of, shown_sight, sight_at, values_at, values_of}
-use Rattle.cds_cell.specs.Telling.{dir_view, first_pointer, held_view, program_reader, state_view, told_views}
+use Rattle.cds_cell.specs.Telling.{dir_view, held_view, state_view, told_views}
 use Rattle.clerk_lines.specs.declared.hearing.Told.{Told}
 use Rattle.clerk_lines.specs.declared.hearing.Told.TheVariants as told
 use Rattle.clerk_lines.specs.declared.shown.Lead.{Lead}
 use Rattle.clerk_lines.specs.declared.shown.Lead.TheVariants as lead
 use Rattle.clerk_lines.specs.declared.shown.ShownEntry.{ShownEntry}
 use Rattle.clerk_lines.specs.ShownEntries.{attr_values}
-use Rattle.cds_clerk.specs.declared.heard.Answered.{Answered}
 use Rattle.cds_clerk.specs.declared.heard.Heard.{Heard}
 use Rattle.cds_clerk.specs.Agreements.{Agrees}
 use Rattle.cds_clerk.specs.Heards.{heard_root, heard_sight, heard_values, lead_sight, near_of, seen_among, seen_by, seen_first, told_of, values_told}
