@@ -53,7 +53,7 @@ use Rattle.cds_clerk.specs.Links.{IsTargetOf, IsTargetRead, target_seen}
 use Rattle.cds_clerk.specs.Plans.{asks_of}
 use Rattle.cds_clerk.specs.Readings.{values_read}
 use Rattle.cds_clerk.proofs.HeardLaws.{end_is}
-use Rattle.clerk_laws.specs.Cells.{AreShownIn}
+use Rattle.clerk_laws.specs.HeardCells.{AreShownIn}
 use Rattle.clerk_laws.proofs.CellSights.{agrees_from}
 
 -- ---- a root directory that no house has

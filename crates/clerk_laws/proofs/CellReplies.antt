@@ -33,7 +33,7 @@ use Rattle.cds_clerk.specs.Inquirings.{inquiry_answer}
 use Rattle.cds_clerk.specs.Links.{IsTargetRead}
 use Rattle.cds_clerk.specs.Plans.{asks_of}
 use Rattle.cds_clerk.specs.Readings.{values_read}
-use Rattle.clerk_laws.specs.Cells.{IsHeardIn, inquiry_of, line_of}
+use Rattle.clerk_laws.specs.HeardCells.{IsHeardIn, inquiry_of, line_of}
 use Rattle.clerk_laws.proofs.CellAnswers.{batches_move, import_moves, inquiry_moves, link_alike, link_moves, over_cell, plan_moves, read_alike, read_moves}
 
 -- a house of the cell is answered

@@ -39,7 +39,7 @@ use Rattle.cds_clerk.specs.declared.heard.Heard.{Heard}
 use Rattle.cds_clerk.specs.Agreements.{Agrees}
 use Rattle.cds_clerk.specs.Heards.{heard_root, heard_sight, heard_values, lead_sight, near_of, seen_among, seen_by, seen_first, told_of, values_told}
 use Rattle.clerk_laws.specs.Faces.{IsFace, IsHeardOf, child_at, lead_at, live, shown_to}
-use Rattle.clerk_laws.specs.Cells.{AreShownIn, had_at, had_by}
+use Rattle.clerk_laws.specs.HeardCells.{AreShownIn, had_at, had_by}
 use Rattle.clerk_laws.proofs.FaceLeads.{all_pass}
 
 -- ---- where an entry leads

@@ -1,2 +1,2 @@
 pub mod Faces
-pub mod Cells
+pub mod HeardCells

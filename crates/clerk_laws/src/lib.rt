@@ -32,7 +32,7 @@ ghost use Rattle.tower_codec.specs.declared.rpc.Interface.{Interface};
 ghost use Rattle.house_directory.specs.declared.states.DirState.{DirState};
 ghost use Rattle.house_turns.specs.Showings.{show_said};
 ghost use Rattle.clerk_laws.specs.Faces.{IsHeardOf, IsSayableTo, shown_to};
-ghost use Rattle.clerk_laws.specs.Cells.{IsHeardIn, inquiry_of, line_of};
+ghost use Rattle.clerk_laws.specs.HeardCells.{IsHeardIn, inquiry_of, line_of};
 
 use cds_cell::laws::cells_tell_the_model;
 

@@ -45,8 +45,8 @@ abbrev pub IsRootIn : Cell → Option Pointer → Type 0
 IsRootIn c None = (house : ℕ) → told_views c root_dir house ≡ None
 IsRootIn c (Some p) = first_pointer c.directories.items ≡ Some p
 
--- all that was heard is what the houses of the cell show to those who ask so: a house is passed over
--- exactly if it is down, or holds no replica, or at `high` is not the master
+-- all that was heard is what the houses of the cell show to those who ask so: a house is passed
+-- over exactly if it is down, or holds no replica, or at `high` is not the master
 pub record AreShownIn (c : Cell) (high : Bool) (h : Heard) : Type 0 where
   pub root : (p : Option Pointer) → heard_root h.root ≡ Some p → IsRootIn c p
   pub told : (dir house : ℕ) (name : List ℕ) (t : Told)
