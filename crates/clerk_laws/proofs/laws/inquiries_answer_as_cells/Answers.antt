@@ -1,6 +1,6 @@
 use Rattle.script_replay.specs.Replies.{wanted_by}
 use Rattle.clerk_laws.proofs.CellReplies.{batches_so, lists_so}
-use Rattle.clerk_laws.proofs.inquiries_answer_as_cells.Goals as goal
+use Rattle.clerk_laws.proofs.laws.inquiries_answer_as_cells.Goals as goal
 
 pub returns-clause-lists : goal.returns-clause-lists
 returns-clause-lists c = lists_so c.cells_tell_the_model.ensures

@@ -1,6 +1,6 @@
 use Rattle.script_replay.specs.Replies.{wanted_by}
 use Rattle.clerk_laws.proofs.CellReplies.{imports_so, links_so, plans_so, reads_so}
-use Rattle.clerk_laws.proofs.clerks_answer_as_cells.Goals as goal
+use Rattle.clerk_laws.proofs.laws.clerks_answer_as_cells.Goals as goal
 
 pub returns-clause-reads : goal.returns-clause-reads
 returns-clause-reads c = reads_so c.cells_tell_the_model.ensures
