@@ -21,7 +21,7 @@ use Rattle.clerk_laws.specs.Faces.{IsSayableLed, child_at, lead_at}
 
 -- ---- the one readable value
 
-all_pass : (p : List ℕ → Bool) (xs : List (List ℕ)) → AllByRecursion (λ v. p v ≡ true) (filter p xs)
+pub all_pass : (p : List ℕ → Bool) (xs : List (List ℕ)) → AllByRecursion (λ v. p v ≡ true) (filter p xs)
 all_pass p [] = tt
 all_pass p (x ∷ xs) = by_test (p x) refl (all_pass p xs)
   where
