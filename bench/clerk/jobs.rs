@@ -225,7 +225,8 @@ impl<W: Write> Clerk<W> {
         match topic {
             Topic::Root(rest) => {
                 let line = if whole { lines.first() } else { lines.last() };
-                self.hear_root(at, line.filter(|_| is_reached).and_then(|line| answered::root(line)), rest);
+                let read = if whole { answered::root_of_dump } else { answered::root };
+                self.hear_root(at, line.filter(|_| is_reached).and_then(|line| read(line)), rest);
             }
             Topic::Look(look) => {
                 if is_reached && whole {

@@ -20,7 +20,7 @@ ROOT = "ok epoch 1 allupto none skulk none entries 0 members 1:1:m 2:1:r"
 
 
 def group(*members: str) -> list[str]:
-    return ["object", "attr RPC_Group", *(f"value {member.encode().hex()}" for member in members), "end"]
+    return ["object", "attr RPC_Group", *(f"value {member.encode().hex()}" for member in sorted(members)), "end"]
 
 
 class Ask(NamedTuple):
