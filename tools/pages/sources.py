@@ -264,6 +264,7 @@ def reached() -> set[Function]:
         ("house_program", "run"),
         ("cdshouse", "main"),
         ("cdsexplain", "main"),
+        ("cdsclerk", "main"),
         ("cds_c", "cds_run"),
         ("cds_c", "cds_abi"),
     )

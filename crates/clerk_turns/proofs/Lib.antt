@@ -1,3 +1,5 @@
 pub mod Texts
 pub mod RootAsks
 pub mod Goings
+pub mod Places
+pub mod Outcomes

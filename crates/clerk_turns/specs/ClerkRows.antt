@@ -2,8 +2,12 @@
 use Rattle.std.specs.Prelude.{ℕ, List, [], ◌∷◌, Err, Result, codes}
 use Rattle.cell_script.specs.declared.fault.ParseFault.{ParseFault}
 use Rattle.cell_script.specs.declared.fault.ParseFault.TheVariants.{UnknownCommand}
-use Rattle.cell_script.specs.WordForms.{Form, Confidence, FullName, AttrName, Builds, Words}
+use Rattle.cell_script.specs.WordForms.{Form, Confidence, FullName, AttrName, Value, Interface, ElementInterface, InterfaceOrNone, Bindings, Objects, Object, Protocols, Priority, Note, Builds, Words, followed_by}
 use Rattle.cell_script.specs.CommandRows.{RowOf, said_among, no_command}
+use Rattle.cds_clerk.specs.declared.planning.NamedUpdate.{NamedUpdate}
+use Rattle.cds_clerk.specs.declared.planning.NamedUpdate.TheVariants as update
+use Rattle.cds_clerk.specs.declared.planning.Plan.{Plan}
+use Rattle.cds_clerk.specs.declared.planning.Plan.TheVariants as plan
 use Rattle.clerk_turns.specs.declared.command.Command.{Command}
 use Rattle.clerk_turns.specs.declared.command.Command.TheVariants as command
 
@@ -11,16 +15,63 @@ use Rattle.clerk_turns.specs.declared.command.Command.TheVariants as command
 abbrev pub row : List ℕ → (forms : List Form) → Builds forms Command → RowOf Command
 row word forms build = record { word = word; forms = forms; says = build }
 
--- the commands
-abbrev pub rows : List (RowOf Command)
-rows =
+-- the questions
+abbrev pub question_rows : List (RowOf Command)
+question_rows =
     row (codes "read") (Confidence ∷ FullName ∷ AttrName ∷ []) command.Read
     ∷ row (codes "readlink") (Confidence ∷ FullName ∷ []) command.Readlink
+    ∷ row (codes "import") (Confidence ∷ FullName ∷ Interface ∷ Object ∷ Protocols ∷ [])
+    (λ c n i o p. command.Import c n (record { interface = i; object = o; tcp = p.0; udp = p.1 }))
     ∷ []
 
--- what the words after a first word say
+-- a command of the name service that changes an entry
+abbrev pub plans : List ℕ → (forms : List Form) → Builds forms Plan → RowOf Command
+plans word forms build = row word forms (followed_by command.Plan forms build)
+
+-- these commands
+abbrev pub plan_rows : List (RowOf Command)
+plan_rows =
+    plans (codes "export") (FullName ∷ Interface ∷ Bindings ∷ Objects ∷ []) plan.Export
+    ∷ plans (codes "unexport") (FullName ∷ InterfaceOrNone ∷ Objects ∷ []) plan.Unexport
+    ∷ plans (codes "groupadd") (FullName ∷ FullName ∷ []) plan.Groupadd
+    ∷ plans (codes "groupdel") (FullName ∷ FullName ∷ []) plan.Groupdel
+    ∷ plans (codes "profadd") (FullName ∷ ElementInterface ∷ FullName ∷ Priority ∷ Note ∷ []) plan.Profadd
+    ∷ plans (codes "profdel") (FullName ∷ ElementInterface ∷ FullName ∷ []) plan.Profdel
+    ∷ []
+
+-- an update by a full name: the name, and then what the update is of
+abbrev pub updates : List ℕ → (forms : List Form) → Builds forms NamedUpdate → RowOf Command
+updates word forms build = row word (FullName ∷ forms) (λ n. followed_by (command.Update n) forms build)
+
+-- the updates that make and delete entries
+abbrev pub entry_rows : List (RowOf Command)
+entry_rows =
+    updates (codes "create") [] update.Create
+    ∷ updates (codes "link") (FullName ∷ []) update.Link
+    ∷ updates (codes "delete") [] update.Delete
+    ∷ []
+
+-- the changes of an entry's values
+abbrev pub value_rows : List (RowOf Command)
+value_rows =
+    updates (codes "add") (AttrName ∷ Value ∷ []) update.Add
+    ∷ updates (codes "remove") (AttrName ∷ Value ∷ []) update.Remove
+    ∷ updates (codes "put") (AttrName ∷ Value ∷ []) update.Put
+    ∷ updates (codes "clear") (AttrName ∷ []) update.Clear
+    ∷ []
+
+-- what the words after a first word say, by the rows of one kind after those of another
+unfoldable pub said_of_value : List ℕ → Words → Result Command ParseFault
+said_of_value word s = said_among value_rows no_command word s
+
+unfoldable pub said_of_update : List ℕ → Words → Result Command ParseFault
+said_of_update word s = said_among entry_rows (said_of_value word s) word s
+
+unfoldable pub said_of_plan : List ℕ → Words → Result Command ParseFault
+said_of_plan word s = said_among plan_rows (said_of_update word s) word s
+
 unfoldable pub said_by : List ℕ → Words → Result Command ParseFault
-said_by word s = said_among rows no_command word s
+said_by word s = said_among question_rows (said_of_plan word s) word s
 
 -- what the words of a command say
 unfoldable pub command_said : List (List ℕ) → Result Command ParseFault

@@ -1,17 +1,17 @@
 // A clerk: the commands that are under way, and what houses are asked for them.
-ghost use Rattle.std.specs.Prelude.{◌≡◌, [], ◌<◌, None, IfNone, IfSome, length, slice_get};
-ghost use Rattle.clerk_turns.specs.Clerks.{IsJobTaken, IsQuestionTaken, TakesJob, TakesQuestion, waits_for};
+ghost use Rattle.std.specs.Prelude.{◌≡◌, [], None, IfNone, IfSome, is_some};
+ghost use Rattle.clerk_turns.specs.Clerks.{IsJobTaken, IsQuestionTaken, TakesJob, TakesQuestion, job_place, question_place, waits_for};
 
 use crate::command::Command;
 use cds_clerk::{Heard, Lack};
 use cds_stamps::{DirId, HouseNo};
-use directory::Update;
 use cell_names::ChildPointer;
 use clerk_lines::{Hearing, RootList};
+use directory::Update;
 use std::alloc::Global;
 
-/// A command that is under way: its number, what was heard for it, and of the lists of the root
-/// directory that were heard the latest.
+/// A command that is under way: its number, what was heard for it, of the lists of the root directory
+/// that were heard the latest, and the lines of its plan.
 #[derive(Drop)]
 pub struct Job {
     pub number: u64,
@@ -21,14 +21,14 @@ pub struct Job {
     pub sending: Sending,
 }
 
-/// How far the lines of a plan are: those that were done, and those that are left; how often it was
-/// worked out; and whether a line was sent of which nobody knows whether it was done.
+/// The lines of a plan: how many were done, the updates, and the directory; how often it was worked
+/// out; and whether a line was sent of which nobody knows whether it was done.
 #[derive(Drop)]
 pub struct Sending {
-    pub done: u64,
-    pub left: Vec<Update>,
+    pub done: usize,
+    pub list: Vec<Update>,
     pub dir: DirId,
-    pub tries: u32,
+    pub tries: u64,
     pub doubt: bool,
 }
 
@@ -40,7 +40,7 @@ pub enum Topic {
     Root(usize),
     /// What shows of a name, and what was heard of the answer.
     Show(Lack, Hearing),
-    /// The first line that is left of a plan.
+    /// To make an update: the first line of a plan that is not done.
     Step(HouseNo),
 }
 
@@ -72,6 +72,7 @@ impl Clerk {
         ensures near { result.near ≡ near }
         ensures houses { result.houses ≡ houses }
         ensures root { result.root ≡ None }
+        ensures asked { result.asked ≡ 0 }
         ensures jobs { result.jobs.items ≡ [] }
         ensures questions { result.questions.items ≡ [] }
     {
@@ -86,65 +87,67 @@ impl Clerk {
     }
 }
 
-// Where the question of this number is.
+// Where the first question of this number is.
 fn place_of_question(questions: &[Question], number: u64) -> Option<usize>
-    ensures within { IfSome result (λ i. i < length questions.now) }
-    ensures is { IfSome result (λ i. IfSome (slice_get questions.now i) (λ q. q.number ≡ number)) }
+    ensures { result ≡ question_place number questions.now }
 {
-    for (i, question) in questions.iter().enumerate() {
-        if question.number == number {
-            return Some(i);
-        }
-    }
-    None
+    questions
+        .iter()
+        .position(|question| question.number == number)
 }
 
-// Takes a question out by its number.
+// Takes the first question of this number out.
 fn take_question(questions: &mut Vec<Question>, number: u64) -> Option<Question>
-    ensures some { IfSome result (λ q. IsQuestionTaken number questions.old.items q questions.new.items) }
-    ensures none { IfNone result (questions.new ≡ questions.old) }
+    ensures some { IfSome result
+        (λ q. IsQuestionTaken number questions.old.items q questions.new.items) }
+    ensures none { IfNone result (question_place number questions.old.items ≡ None) }
+    ensures stays { IfNone result (questions.new ≡ questions.old) }
 {
     let place = place_of_question(questions, number)?;
     Some(questions.remove(place))
 }
 
-// Where the command of this number is.
+// Where the first command of this number is.
 fn place_of_job(jobs: &[Job], number: u64) -> Option<usize>
-    ensures within { IfSome result (λ i. i < length jobs.now) }
-    ensures is { IfSome result (λ i. IfSome (slice_get jobs.now i) (λ j. j.number ≡ number)) }
+    ensures { result ≡ job_place number jobs.now }
 {
-    for (i, job) in jobs.iter().enumerate() {
-        if job.number == number {
-            return Some(i);
-        }
-    }
-    None
+    jobs.iter().position(|job| job.number == number)
 }
 
-// Takes a command out by its number.
+// Takes the first command of this number out.
 fn take_job(jobs: &mut Vec<Job>, number: u64) -> Option<Job>
     ensures some { IfSome result (λ j. IsJobTaken number jobs.old.items j jobs.new.items) }
-    ensures none { IfNone result (jobs.new ≡ jobs.old) }
+    ensures none { IfNone result (job_place number jobs.old.items ≡ None) }
+    ensures stays { IfNone result (jobs.new ≡ jobs.old) }
 {
     let place = place_of_job(jobs, number)?;
     Some(jobs.remove(place))
 }
 
 impl Clerk {
-    /// Takes a question out by its number.
+    /// Takes the first question of this number out.
     pub(crate) fn take_question(&mut self, number: u64) -> Option<Question>
         ensures some { IfSome result (λ q. TakesQuestion number self.old q self.new) }
-        ensures none { IfNone result (self.new ≡ self.old) }
+        ensures none { IfNone result (question_place number self.old.questions.items ≡ None) }
+        ensures stays { IfNone result (self.new ≡ self.old) }
     {
         take_question(&mut self.questions, number)
     }
 
-    /// Takes a command out by its number.
+    /// Takes the first command of this number out.
     pub(crate) fn take_job(&mut self, number: u64) -> Option<Job>
         ensures some { IfSome result (λ j. TakesJob number self.old j self.new) }
-        ensures none { IfNone result (self.new ≡ self.old) }
+        ensures none { IfNone result (job_place number self.old.jobs.items ≡ None) }
+        ensures stays { IfNone result (self.new ≡ self.old) }
     {
         take_job(&mut self.jobs, number)
+    }
+
+    /// Whether a command of this number is under way.
+    pub(crate) fn has_job(&self, number: u64) -> bool
+        ensures { result ≡ is_some (job_place number self.now.jobs.items) }
+    {
+        place_of_job(&self.jobs, number).is_some()
     }
 }
 

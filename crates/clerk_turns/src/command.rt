@@ -2,13 +2,14 @@
 ghost use Rattle.std.specs.Prelude.{◌≡◌, codes};
 ghost use Rattle.cds_stamps.specs.Outcomes.{Answers};
 ghost use Rattle.cell_script.specs.Words.{words_of};
-ghost use Rattle.clerk_turns.specs.ClerkRows.{command_said, said_by};
-ghost use Rattle.clerk_turns.specs.Commands.{is_high};
+ghost use Rattle.clerk_turns.specs.ClerkRows.{command_said, said_by, said_of_plan, said_of_update, said_of_value};
+ghost use Rattle.clerk_turns.specs.Commands.{is_high, is_update, may_repeat};
 
 use cds_clerk::{NamedUpdate, Plan};
 use cds_stamps::{AllocOr, AttrName};
 use cell_names::FullName;
 use cell_script::{ParseFault, Parsed, Words};
+use server_entries::Wanted;
 use std::alloc::Global;
 
 /// A command. Its fields are in the order of its words; a `bool` is the confidence, true for high.
@@ -16,6 +17,7 @@ use std::alloc::Global;
 pub enum Command {
     Read(bool, FullName, AttrName),
     Readlink(bool, FullName),
+    Import(bool, FullName, Wanted),
     Plan(Plan),
     Update(FullName, NamedUpdate),
 }
@@ -28,7 +30,31 @@ impl Command {
         match self {
             Command::Read(high, _, _) => *high,
             Command::Readlink(high, _) => *high,
+            Command::Import(high, _, _) => *high,
             Command::Plan(_) | Command::Update(_, _) => true,
+        }
+    }
+
+    /// Whether it is one update, whose answer is that of its house.
+    pub(crate) fn is_update(&self) -> bool
+        ensures { result ≡ is_update self.now }
+    {
+        match self {
+            Command::Update(_, _) => true,
+            _ => false,
+        }
+    }
+
+    /// Whether its lines may be sent again if nobody knows whether they were done: so a second one
+    /// takes away nothing that another client gave.
+    pub(crate) fn may_repeat(&self) -> bool
+        ensures { result ≡ may_repeat self.now }
+    {
+        match self {
+            Command::Update(_, NamedUpdate::Delete) => false,
+            Command::Update(_, NamedUpdate::Put(_, _)) => false,
+            Command::Update(_, NamedUpdate::Clear(_)) => false,
+            _ => true,
         }
     }
 }
@@ -56,96 +82,10 @@ fn said_by(alloc: Global, word: &[u8], words: &mut Words<'_>) -> Parsed<Command>
     if word == b"readlink".as_slice() {
         return readlink(alloc, words);
     }
-    plans(alloc, word, words)
-}
-
-// A command of the name service that changes an entry.
-fn plans(alloc: Global, word: &[u8], words: &mut Words<'_>) -> Parsed<Command> {
-    if word == b"export".as_slice() {
-        words.exactly(4)?;
-        return Ok(Command::Plan(Plan::Export(
-            words.full_name(alloc)?,
-            words.interface()?,
-            words.bindings(alloc)?,
-            words.objects(alloc)?,
-        )));
+    if word == b"import".as_slice() {
+        return import(alloc, words);
     }
-    if word == b"unexport".as_slice() {
-        words.exactly(3)?;
-        return Ok(Command::Plan(Plan::Unexport(
-            words.full_name(alloc)?,
-            words.interface_or_none()?,
-            words.objects(alloc)?,
-        )));
-    }
-    if word == b"groupadd".as_slice() {
-        words.exactly(2)?;
-        return Ok(Command::Plan(Plan::Groupadd(words.full_name(alloc)?, words.full_name(alloc)?)));
-    }
-    if word == b"groupdel".as_slice() {
-        words.exactly(2)?;
-        return Ok(Command::Plan(Plan::Groupdel(words.full_name(alloc)?, words.full_name(alloc)?)));
-    }
-    if word == b"profadd".as_slice() {
-        words.exactly(5)?;
-        return Ok(Command::Plan(Plan::Profadd(
-            words.full_name(alloc)?,
-            words.element_interface()?,
-            words.full_name(alloc)?,
-            words.priority()?,
-            words.note(alloc)?,
-        )));
-    }
-    if word == b"profdel".as_slice() {
-        words.exactly(3)?;
-        return Ok(Command::Plan(Plan::Profdel(
-            words.full_name(alloc)?,
-            words.element_interface()?,
-            words.full_name(alloc)?,
-        )));
-    }
-    updates(alloc, word, words)
-}
-
-// An update by a full name.
-fn updates(alloc: Global, word: &[u8], words: &mut Words<'_>) -> Parsed<Command> {
-    if word == b"create".as_slice() {
-        words.exactly(1)?;
-        return Ok(Command::Update(words.full_name(alloc)?, NamedUpdate::Create));
-    }
-    if word == b"delete".as_slice() {
-        words.exactly(1)?;
-        return Ok(Command::Update(words.full_name(alloc)?, NamedUpdate::Delete));
-    }
-    if word == b"link".as_slice() {
-        words.exactly(2)?;
-        let name = words.full_name(alloc)?;
-        return Ok(Command::Update(name, NamedUpdate::Link(words.full_name(alloc)?)));
-    }
-    if word == b"clear".as_slice() {
-        words.exactly(2)?;
-        let name = words.full_name(alloc)?;
-        return Ok(Command::Update(name, NamedUpdate::Clear(words.attr_name(alloc)?)));
-    }
-    changes(alloc, word, words)
-}
-
-// A change of a value by a full name.
-fn changes(alloc: Global, word: &[u8], words: &mut Words<'_>) -> Parsed<Command> {
-    if word != b"add".as_slice() && word != b"remove".as_slice() && word != b"put".as_slice() {
-        return Err(AllocOr::Fault(ParseFault::UnknownCommand(1)));
-    }
-    words.exactly(3)?;
-    let name = words.full_name(alloc)?;
-    let attr = words.attr_name(alloc)?;
-    let value = words.value(alloc)?;
-    if word == b"add".as_slice() {
-        return Ok(Command::Update(name, NamedUpdate::Add(attr, value)));
-    }
-    if word == b"remove".as_slice() {
-        return Ok(Command::Update(name, NamedUpdate::Remove(attr, value)));
-    }
-    Ok(Command::Update(name, NamedUpdate::Put(attr, value)))
+    said_of_plan(alloc, word, words)
 }
 
 #[tactic(auto, unfolding(crate::specs::ClerkRows::said_by))]
@@ -153,7 +93,11 @@ fn read(alloc: Global, words: &mut Words<'_>) -> Parsed<Command>
     ensures { Answers result (said_by (codes "read") words.old) }
 {
     words.exactly(3)?;
-    Ok(Command::Read(words.confidence()?, words.full_name(alloc)?, words.attr_name(alloc)?))
+    Ok(Command::Read(
+        words.confidence()?,
+        words.full_name(alloc)?,
+        words.attr_name(alloc)?,
+    ))
 }
 
 #[tactic(auto, unfolding(crate::specs::ClerkRows::said_by))]
@@ -162,4 +106,226 @@ fn readlink(alloc: Global, words: &mut Words<'_>) -> Parsed<Command>
 {
     words.exactly(2)?;
     Ok(Command::Readlink(words.confidence()?, words.full_name(alloc)?))
+}
+
+#[tactic(auto, unfolding(crate::specs::ClerkRows::said_by))]
+fn import(alloc: Global, words: &mut Words<'_>) -> Parsed<Command>
+    ensures { Answers result (said_by (codes "import") words.old) }
+{
+    words.exactly(5)?;
+    let high = words.confidence()?;
+    let name = words.full_name(alloc)?;
+    let interface = words.interface()?;
+    let object = words.object()?;
+    let (tcp, udp) = words.protocols()?;
+    Ok(Command::Import(
+        high,
+        name,
+        Wanted {
+            interface,
+            object,
+            tcp,
+            udp,
+        },
+    ))
+}
+
+// What they say if the command changes what servers export, or a group, or a profile; or of a later
+// kind.
+#[tactic(auto, unfolding(crate::specs::ClerkRows::said_of_plan))]
+fn said_of_plan(alloc: Global, word: &[u8], words: &mut Words<'_>) -> Parsed<Command>
+    ensures { Answers result (said_of_plan word.now words.old) }
+{
+    if word == b"export".as_slice() {
+        return export(alloc, words);
+    }
+    if word == b"unexport".as_slice() {
+        return unexport(alloc, words);
+    }
+    if word == b"groupadd".as_slice() {
+        return groupadd(alloc, words);
+    }
+    if word == b"groupdel".as_slice() {
+        return groupdel(alloc, words);
+    }
+    if word == b"profadd".as_slice() {
+        return profadd(alloc, words);
+    }
+    if word == b"profdel".as_slice() {
+        return profdel(alloc, words);
+    }
+    said_of_update(alloc, word, words)
+}
+
+#[tactic(auto, unfolding(crate::specs::ClerkRows::said_of_plan))]
+fn export(alloc: Global, words: &mut Words<'_>) -> Parsed<Command>
+    ensures { Answers result (said_of_plan (codes "export") words.old) }
+{
+    words.exactly(4)?;
+    Ok(Command::Plan(Plan::Export(
+        words.full_name(alloc)?,
+        words.interface()?,
+        words.bindings(alloc)?,
+        words.objects(alloc)?,
+    )))
+}
+
+#[tactic(auto, unfolding(crate::specs::ClerkRows::said_of_plan))]
+fn unexport(alloc: Global, words: &mut Words<'_>) -> Parsed<Command>
+    ensures { Answers result (said_of_plan (codes "unexport") words.old) }
+{
+    words.exactly(3)?;
+    Ok(Command::Plan(Plan::Unexport(
+        words.full_name(alloc)?,
+        words.interface_or_none()?,
+        words.objects(alloc)?,
+    )))
+}
+
+#[tactic(auto, unfolding(crate::specs::ClerkRows::said_of_plan))]
+fn groupadd(alloc: Global, words: &mut Words<'_>) -> Parsed<Command>
+    ensures { Answers result (said_of_plan (codes "groupadd") words.old) }
+{
+    words.exactly(2)?;
+    Ok(Command::Plan(Plan::Groupadd(words.full_name(alloc)?, words.full_name(alloc)?)))
+}
+
+#[tactic(auto, unfolding(crate::specs::ClerkRows::said_of_plan))]
+fn groupdel(alloc: Global, words: &mut Words<'_>) -> Parsed<Command>
+    ensures { Answers result (said_of_plan (codes "groupdel") words.old) }
+{
+    words.exactly(2)?;
+    Ok(Command::Plan(Plan::Groupdel(words.full_name(alloc)?, words.full_name(alloc)?)))
+}
+
+#[tactic(auto, unfolding(crate::specs::ClerkRows::said_of_plan))]
+fn profadd(alloc: Global, words: &mut Words<'_>) -> Parsed<Command>
+    ensures { Answers result (said_of_plan (codes "profadd") words.old) }
+{
+    words.exactly(5)?;
+    Ok(Command::Plan(Plan::Profadd(
+        words.full_name(alloc)?,
+        words.element_interface()?,
+        words.full_name(alloc)?,
+        words.priority()?,
+        words.note(alloc)?,
+    )))
+}
+
+#[tactic(auto, unfolding(crate::specs::ClerkRows::said_of_plan))]
+fn profdel(alloc: Global, words: &mut Words<'_>) -> Parsed<Command>
+    ensures { Answers result (said_of_plan (codes "profdel") words.old) }
+{
+    words.exactly(3)?;
+    Ok(Command::Plan(Plan::Profdel(
+        words.full_name(alloc)?,
+        words.element_interface()?,
+        words.full_name(alloc)?,
+    )))
+}
+
+// What they say if the command makes or deletes an entry, or of a later kind.
+#[tactic(auto, unfolding(crate::specs::ClerkRows::said_of_update))]
+fn said_of_update(alloc: Global, word: &[u8], words: &mut Words<'_>) -> Parsed<Command>
+    ensures { Answers result (said_of_update word.now words.old) }
+{
+    if word == b"create".as_slice() {
+        return create(alloc, words);
+    }
+    if word == b"link".as_slice() {
+        return link(alloc, words);
+    }
+    if word == b"delete".as_slice() {
+        return delete(alloc, words);
+    }
+    said_of_value(alloc, word, words)
+}
+
+#[tactic(auto, unfolding(crate::specs::ClerkRows::said_of_update))]
+fn create(alloc: Global, words: &mut Words<'_>) -> Parsed<Command>
+    ensures { Answers result (said_of_update (codes "create") words.old) }
+{
+    words.exactly(1)?;
+    Ok(Command::Update(words.full_name(alloc)?, NamedUpdate::Create))
+}
+
+#[tactic(auto, unfolding(crate::specs::ClerkRows::said_of_update))]
+fn link(alloc: Global, words: &mut Words<'_>) -> Parsed<Command>
+    ensures { Answers result (said_of_update (codes "link") words.old) }
+{
+    words.exactly(2)?;
+    let name = words.full_name(alloc)?;
+    let target = words.full_name(alloc)?;
+    Ok(Command::Update(name, NamedUpdate::Link(target)))
+}
+
+#[tactic(auto, unfolding(crate::specs::ClerkRows::said_of_update))]
+fn delete(alloc: Global, words: &mut Words<'_>) -> Parsed<Command>
+    ensures { Answers result (said_of_update (codes "delete") words.old) }
+{
+    words.exactly(1)?;
+    Ok(Command::Update(words.full_name(alloc)?, NamedUpdate::Delete))
+}
+
+// What they say if the command changes the values of an entry.
+#[tactic(auto, unfolding(crate::specs::ClerkRows::said_of_value))]
+fn said_of_value(alloc: Global, word: &[u8], words: &mut Words<'_>) -> Parsed<Command>
+    ensures { Answers result (said_of_value word.now words.old) }
+{
+    if word == b"add".as_slice() {
+        return add(alloc, words);
+    }
+    if word == b"remove".as_slice() {
+        return remove(alloc, words);
+    }
+    if word == b"put".as_slice() {
+        return put(alloc, words);
+    }
+    if word == b"clear".as_slice() {
+        return clear(alloc, words);
+    }
+    Err(AllocOr::Fault(ParseFault::UnknownCommand(1)))
+}
+
+#[tactic(auto, unfolding(crate::specs::ClerkRows::said_of_value))]
+fn add(alloc: Global, words: &mut Words<'_>) -> Parsed<Command>
+    ensures { Answers result (said_of_value (codes "add") words.old) }
+{
+    words.exactly(3)?;
+    let name = words.full_name(alloc)?;
+    let attr = words.attr_name(alloc)?;
+    let value = words.value(alloc)?;
+    Ok(Command::Update(name, NamedUpdate::Add(attr, value)))
+}
+
+#[tactic(auto, unfolding(crate::specs::ClerkRows::said_of_value))]
+fn remove(alloc: Global, words: &mut Words<'_>) -> Parsed<Command>
+    ensures { Answers result (said_of_value (codes "remove") words.old) }
+{
+    words.exactly(3)?;
+    let name = words.full_name(alloc)?;
+    let attr = words.attr_name(alloc)?;
+    let value = words.value(alloc)?;
+    Ok(Command::Update(name, NamedUpdate::Remove(attr, value)))
+}
+
+#[tactic(auto, unfolding(crate::specs::ClerkRows::said_of_value))]
+fn put(alloc: Global, words: &mut Words<'_>) -> Parsed<Command>
+    ensures { Answers result (said_of_value (codes "put") words.old) }
+{
+    words.exactly(3)?;
+    let name = words.full_name(alloc)?;
+    let attr = words.attr_name(alloc)?;
+    let value = words.value(alloc)?;
+    Ok(Command::Update(name, NamedUpdate::Put(attr, value)))
+}
+
+#[tactic(auto, unfolding(crate::specs::ClerkRows::said_of_value))]
+fn clear(alloc: Global, words: &mut Words<'_>) -> Parsed<Command>
+    ensures { Answers result (said_of_value (codes "clear") words.old) }
+{
+    words.exactly(2)?;
+    let name = words.full_name(alloc)?;
+    let attr = words.attr_name(alloc)?;
+    Ok(Command::Update(name, NamedUpdate::Clear(attr)))
 }

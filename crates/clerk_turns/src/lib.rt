@@ -4,8 +4,8 @@
 mod clerk;
 mod command;
 mod outcomes;
-mod sending;
 mod says;
+mod sending;
 mod turns;
 
 pub use clerk::{Clerk, Job, Question, Sending, Topic};

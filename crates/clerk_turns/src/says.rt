@@ -23,7 +23,7 @@ fn unnumbered(alloc: Global, text: &[u8]) -> Result<Vec<u8>, AllocError>
 }
 
 // What an answer says that has one line.
-pub(crate) fn single_line(alloc: Global, answer: &Answer) -> Result<Vec<u8>, AllocError>
+fn single_line(alloc: Global, answer: &Answer) -> Result<Vec<u8>, AllocError>
     requires { answer_lines answer.now ≡ answer_line answer.now ∷ [] }
     ensures { IfOk result (λ line. line.items ≡ answer_line answer.now) }
 {
@@ -79,6 +79,30 @@ fn push_bindings(
     push_count(alloc, text, command, bindings.len())
 }
 
+// Says one line.
+fn say_line(alloc: Global, command: u64, line: &[u8]) -> Result<Vec<u8>, AllocError>
+    ensures { IfOk result
+        (λ text. text.items ≡ flat_map (say_text command) (line.now ∷ [])) }
+{
+    let mut text = Vec::new(alloc);
+    push_say(&mut text, command, line)?;
+    Ok(text)
+}
+
+// Says bindings.
+fn say_bindings(
+    alloc: Global,
+    command: u64,
+    bindings: &[StringBinding],
+) -> Result<Vec<u8>, AllocError>
+    ensures { IfOk result
+        (λ text. text.items ≡ flat_map (say_text command) (import_lines bindings.now)) }
+{
+    let mut text = Vec::new(alloc);
+    push_bindings(alloc, &mut text, command, bindings)?;
+    Ok(text)
+}
+
 /// Says the answer to a command.
 pub(crate) fn say_answer(
     alloc: Global,
@@ -87,15 +111,14 @@ pub(crate) fn say_answer(
 ) -> Result<Vec<u8>, AllocError>
     ensures { IfOk result (λ text. text.items ≡ answer_said command answer.now) }
 {
-    let mut text = Vec::new(alloc);
     match answer {
-        Answer::Bindings(bindings) => {
-            push_bindings(alloc, &mut text, command, bindings.list())?;
+        Answer::Bindings(bindings) => say_bindings(alloc, command, bindings.list()),
+        Answer::Dump(_, _, _, _) => say_line(alloc, command, b""),
+        _ => {
+            let line = single_line(alloc, answer)?;
+            say_line(alloc, command, &line)
         }
-        Answer::Dump(_, _, _, _) => push_say(&mut text, command, b"")?,
-        _ => push_say(&mut text, command, &single_line(alloc, answer)?)?,
     }
-    Ok(text)
 }
 
 // The line of a fault: its name and its place.

@@ -1,17 +1,29 @@
 // The lines of a plan, and what comes of their answers.
+ghost use Rattle.std.specs.Prelude.{◌≡◌, ◌∷◌, ◌++◌, codes, decimal, IfOk, OnOk};
+ghost use Rattle.cell_names.specs.FullNames.{full_name_octets};
+ghost use Rattle.std.specs.Option.{option_map};
+ghost use Rattle.directory.specs.Updates.{change_of};
+ghost use Rattle.clerk_lines.specs.ClerkTexts.{say_text};
+ghost use Rattle.clerk_lines.specs.Hearings.{word_of};
+ghost use Rattle.clerk_turns.specs.Sendings.{IsUnsent, Sends, again, doubted, fate_of, fate_of_line, fate_of_update, front_text, in_doubt, last_said, next_line, planned, refusal_in, stepped, update_text, value_text};
+ghost use Rattle.clerk_turns.specs.Turns.{PlansAgain, StepComes, StepDown, StepTold, TriesAgain};
+
 use crate::clerk::{Clerk, Job, Sending, Topic};
-use crate::command::Command;
-use cds_clerk::{Answers, Heard, NamedUpdate, Root};
-use cds_stamps::{AttrName, DirId, HouseNo, SimpleName};
 use attr_sets::Value;
+use cds_clerk::{Answers, Heard, Root};
+use cds_stamps::{AttrName, DirId, HouseNo, SimpleName};
+use cell_names::FullName;
 use clerk_lines::push_say;
 use directory::Update;
 use ns_commands::Updates;
 use script_answers::{push_hex, push_number};
 use std::alloc::{AllocError, Global};
+use tower_codec::split_at_mark;
 
-// So often a plan is worked out if a house did not do a line of it.
-const MOST_TRIES: u32 = 8;
+// So often a plan is worked out.
+const MOST_TRIES: u64 = 8;
+
+const DOWN: &[u8] = b"refused Down";
 
 // A word, a directory and a name.
 fn push_front(
@@ -19,7 +31,10 @@ fn push_front(
     word: &[u8],
     dir: DirId,
     name: &SimpleName,
-) -> Result<(), AllocError> {
+) -> Result<(), AllocError>
+    ensures { OnOk result (line.new.items
+        ≡ line.old.items ++ front_text word.now dir.0 name.now) }
+{
     line.extend_from_slice(word)?;
     line.push(b' ')?;
     push_number(line, u64::from(dir.0))?;
@@ -27,108 +42,315 @@ fn push_front(
     line.extend_from_slice(name.octets())
 }
 
-// A value of an attribute behind these.
-fn push_value(line: &mut Vec<u8>, attr: &AttrName, value: &Value) -> Result<(), AllocError> {
+// An attribute and a value.
+fn push_value(line: &mut Vec<u8>, attr: &AttrName, value: &Value) -> Result<(), AllocError>
+    ensures { OnOk result (line.new.items
+        ≡ line.old.items ++ value_text attr.now value.now) }
+{
     line.push(b' ')?;
     line.extend_from_slice(attr.octets())?;
     line.push(b' ')?;
     push_hex(line, value.octets())
 }
 
-/// The line of a house that makes an update.
-pub(crate) fn update_line(
-    alloc: Global,
+// The line that changes a value.
+fn push_change(
+    line: &mut Vec<u8>,
+    word: &[u8],
     dir: DirId,
-    update: &Update,
-) -> Result<Vec<u8>, AllocError> {
+    name: &SimpleName,
+    attr: &AttrName,
+    value: &Value,
+) -> Result<(), AllocError>
+    ensures { OnOk result (line.new.items ≡ line.old.items
+        ++ (front_text word.now dir.0 name.now ++ value_text attr.now value.now)) }
+{
+    push_front(line, word, dir, name)?;
+    push_value(line, attr, value)
+}
+
+// The line that makes a link.
+fn push_link(
+    line: &mut Vec<u8>,
+    dir: DirId,
+    name: &SimpleName,
+    target: &FullName,
+) -> Result<(), AllocError>
+    ensures { OnOk result (line.new.items ≡ line.old.items
+        ++ (front_text (codes "link") dir.0 name.now ++ (32 ∷ full_name_octets target.now))) }
+{
+    push_front(line, b"link", dir, name)?;
+    line.push(b' ')?;
+    target.append_spelling(line)
+}
+
+// The line that clears an attribute.
+fn push_clear(
+    line: &mut Vec<u8>,
+    dir: DirId,
+    name: &SimpleName,
+    attr: &AttrName,
+) -> Result<(), AllocError>
+    ensures { OnOk result (line.new.items ≡ line.old.items
+        ++ (front_text (codes "clear") dir.0 name.now ++ (32 ∷ attr.now))) }
+{
+    push_front(line, b"clear", dir, name)?;
+    line.push(b' ')?;
+    line.extend_from_slice(attr.octets())
+}
+
+// The line of a house that makes an update.
+fn update_line(alloc: Global, dir: DirId, update: &Update) -> Result<Vec<u8>, AllocError>
+    ensures { IfOk result (λ line. line.items ≡ update_text dir.0 (change_of update.now)) }
+{
     let mut line = Vec::new(alloc);
     match update {
         Update::Create(name) => push_front(&mut line, b"create", dir, name)?,
         Update::Delete(name) => push_front(&mut line, b"delete", dir, name)?,
-        Update::MakeLink(name, target) => {
-            push_front(&mut line, b"link", dir, name)?;
-            line.push(b' ')?;
-            line.extend_from_slice(&target.print(alloc)?)?;
-        }
-        Update::Add(name, attr, value) => {
-            push_front(&mut line, b"add", dir, name)?;
-            push_value(&mut line, attr, value)?;
-        }
+        Update::MakeLink(name, target) => push_link(&mut line, dir, name, target)?,
+        Update::Add(name, attr, value) => push_change(&mut line, b"add", dir, name, attr, value)?,
         Update::Remove(name, attr, value) => {
-            push_front(&mut line, b"remove", dir, name)?;
-            push_value(&mut line, attr, value)?;
+            push_change(&mut line, b"remove", dir, name, attr, value)?;
         }
-        Update::Put(name, attr, value) => {
-            push_front(&mut line, b"put", dir, name)?;
-            push_value(&mut line, attr, value)?;
-        }
-        Update::Clear(name, attr) => {
-            push_front(&mut line, b"clear", dir, name)?;
-            line.push(b' ')?;
-            line.extend_from_slice(attr.octets())?;
-        }
+        Update::Put(name, attr, value) => push_change(&mut line, b"put", dir, name, attr, value)?,
+        Update::Clear(name, attr) => push_clear(&mut line, dir, name, attr)?,
         Update::MakeChild(_, _) | Update::Repoint(_, _) => {}
     }
     Ok(line)
 }
 
-// Whether an update by a full name may be sent again if nobody knows whether it was done: so a
-// second one takes away nothing that another client gave.
-fn may_repeat(command: &Command) -> bool {
-    match command {
-        Command::Update(_, update) => !matches!(
-            update,
-            NamedUpdate::Delete | NamedUpdate::Put(_, _) | NamedUpdate::Clear(_)
-        ),
-        _ => true,
+// The first line that is not done, if there is one.
+fn next_line(alloc: Global, sending: &Sending) -> Result<Option<Vec<u8>>, AllocError>
+    ensures { IfOk result (λ o. option_map (λ v. v.items) o ≡ next_line sending.now) }
+{
+    match sending.list.get(sending.done) {
+        Some(update) => Ok(Some(update_line(alloc, sending.dir, update)?)),
+        None => Ok(None),
     }
 }
 
-fn is_update(command: &Command) -> bool {
-    matches!(command, Command::Update(_, _))
+/// What the last line of an answer to a line of a plan means.
+#[derive(Clone, Copy)]
+pub(crate) enum Fate {
+    /// A command that is one update is done.
+    Done,
+    /// The command is refused so.
+    Refused,
+    /// The line is done, and the next one is sent.
+    Next,
+    /// No stamp is left.
+    Spent,
+    /// The plan is worked out again.
+    Again,
 }
 
-// Whether a refusal ends an update by a full name.
-fn ends_update(line: &[u8]) -> bool {
-    line == b"refused EntryExists".as_slice()
-        || line == b"refused NoSuchEntry".as_slice()
-        || line == b"refused WrongKind".as_slice()
-        || line == b"refused StampsSpent".as_slice()
+// Of an update by a full name.
+fn fate_of_update(last: &[u8]) -> Fate
+    ensures { result ≡ fate_of_update last.now }
+{
+    if last.starts_with(b"ok") {
+        return Fate::Done;
+    }
+    if last == b"refused EntryExists".as_slice()
+        || last == b"refused NoSuchEntry".as_slice()
+        || last == b"refused WrongKind".as_slice()
+        || last == b"refused StampsSpent".as_slice()
+    {
+        return Fate::Refused;
+    }
+    Fate::Again
+}
+
+// Of another line.
+fn fate_of_line(last: &[u8]) -> Fate
+    ensures { result ≡ fate_of_line last.now }
+{
+    if last.starts_with(b"ok") {
+        return Fate::Next;
+    }
+    if last == b"refused StampsSpent".as_slice() {
+        return Fate::Spent;
+    }
+    Fate::Again
+}
+
+// What the last line of an answer means; what is forbidden is not tried again.
+fn fate_of(is_update: bool, last: &[u8]) -> Fate
+    ensures { result ≡ fate_of is_update last.now }
+{
+    if last == b"refused Forbidden".as_slice() {
+        return Fate::Refused;
+    }
+    if is_update {
+        fate_of_update(last)
+    } else {
+        fate_of_line(last)
+    }
+}
+
+// The first word of a line.
+fn first_word(line: &[u8]) -> &[u8]
+    ensures { result.now ≡ word_of line.now }
+{
+    match split_at_mark(line, b' ') {
+        Some((word, _)) => word,
+        None => line,
+    }
+}
+
+// Why a house did not do a line, as a client is told it: what it says, if that is a refusal.
+fn refusal_in(last: &[u8]) -> &[u8]
+    ensures { result.now ≡ refusal_in last.now }
+{
+    if first_word(last) == b"refused".as_slice() {
+        last
+    } else {
+        DOWN
+    }
+}
+
+// A plan is begun.
+fn planned(mut job: Job, dir: DirId, list: Vec<Update>) -> Job
+    ensures { (u : Updates) → u.dir ≡ dir → u.list ≡ list → result ≡ planned job u }
+{
+    job.sending.done = 0;
+    job.sending.list = list;
+    job.sending.dir = dir;
+    job
+}
+
+// One line more is done.
+fn stepped(mut job: Job) -> Job
+    ensures { result ≡ stepped job }
+{
+    job.sending.done = job.sending.done.saturating_add(1);
+    job
+}
+
+// Nobody knows whether a line was done.
+fn doubted(mut job: Job) -> Job
+    ensures { result ≡ doubted job }
+{
+    job.sending.doubt = true;
+    job
+}
+
+// A command of which nothing was heard, and that is tried once more.
+fn again(alloc: Global, mut job: Job) -> Job
+    ensures { result ≡ again job }
+{
+    job.sending.tries = job.sending.tries.saturating_add(1);
+    job.latest = None;
+    job.heard = Heard {
+        near: None,
+        root: Root::Unheard,
+        answers: Answers::new(alloc),
+    };
+    job
+}
+
+/// No line of a plan was sent.
+pub(crate) fn no_sending(alloc: Global) -> Sending
+    ensures { IsUnsent result }
+{
+    Sending {
+        done: 0,
+        list: Vec::new(alloc),
+        dir: DirId::ROOT,
+        tries: 0,
+        doubt: false,
+    }
+}
+
+// Says a line.
+fn say(alloc: Global, command: u64, line: &[u8]) -> Result<Vec<u8>, AllocError>
+    ensures { IfOk result (λ text. text.items ≡ say_text command line.now) }
+{
+    let mut text = Vec::new(alloc);
+    push_say(&mut text, command, line)?;
+    Ok(text)
+}
+
+/// A text with the word `doubt` at the end of its last line, if a line was sent of which nobody knows
+/// whether it was done.
+pub(crate) fn in_doubt(doubt: bool, mut text: Vec<u8>) -> Result<Vec<u8>, AllocError>
+    ensures { IfOk result (λ v. v.items ≡ in_doubt doubt text.items) }
+{
+    if doubt {
+        text.truncate(text.len().saturating_sub(1));
+        text.extend_from_slice(b" doubt")?;
+        text.push(b'\n')?;
+    }
+    Ok(text)
+}
+
+// Says the last line of a command's answer.
+fn say_last(alloc: Global, job: &Job, line: &[u8]) -> Result<Vec<u8>, AllocError>
+    ensures { IfOk result (λ text. text.items ≡ last_said job.now line.now) }
+{
+    let text = say(alloc, job.number, line)?;
+    in_doubt(job.sending.doubt, text)
+}
+
+// The line of words and a number.
+fn counted(alloc: Global, words: &[u8], count: usize) -> Result<Vec<u8>, AllocError>
+    ensures { IfOk result (λ line. line.items ≡ words.now ++ decimal count) }
+{
+    let mut line = Vec::new(alloc);
+    line.extend_from_slice(words)?;
+    push_number(&mut line, count as u64)?;
+    Ok(line)
 }
 
 impl Clerk {
+    // Sends the first line that is not done, or says that all were done.
+    fn send_next(&mut self, alloc: Global, job: Job, house: HouseNo) -> Result<Vec<u8>, AllocError>
+        ensures { IfOk result (λ text. Sends self.old job house text.items self.new) }
+    {
+        match next_line(alloc, &job.sending)? {
+            Some(line) => self.ask(alloc, job, house, &line, Topic::Step(house)),
+            None => {
+                let line = counted(alloc, b"ok ", job.sending.done)?;
+                say(alloc, job.number, &line)
+            }
+        }
+    }
+
     /// Begins to send the lines of a plan.
     pub(crate) fn send(
         &mut self,
         alloc: Global,
-        mut job: Job,
+        job: Job,
         updates: Updates,
-    ) -> Result<Vec<u8>, AllocError> {
+    ) -> Result<Vec<u8>, AllocError>
+        ensures { IfOk result
+            (λ text. Sends self.old (planned job updates) updates.house text.items self.new) }
+    {
         let Updates { house, dir, list } = updates;
-        job.sending.dir = dir;
-        job.sending.done = 0;
-        job.sending.left = list;
-        self.send_next(alloc, job, house)
+        self.send_next(alloc, planned(job, dir, list), house)
     }
 
-    // Sends the first line that is left, or says that all were done.
-    fn send_next(
+    // What comes of the answer of a house to a line.
+    fn step(
         &mut self,
         alloc: Global,
+        fate: Fate,
         job: Job,
         house: HouseNo,
-    ) -> Result<Vec<u8>, AllocError> {
-        match job.sending.left.first() {
-            Some(update) => {
-                let line = update_line(alloc, job.sending.dir, update)?;
-                self.ask(alloc, job, house, &line, Topic::Step(house))
+        last: &[u8],
+    ) -> Result<Vec<u8>, AllocError>
+        ensures { IfOk result
+            (λ text. StepComes fate self.old job house last.now text.items self.new) }
+    {
+        match fate {
+            Fate::Done => say(alloc, job.number, last),
+            Fate::Refused => say_last(alloc, &job, last),
+            Fate::Spent => {
+                let line = counted(alloc, b"refused StampsSpent ", job.sending.done)?;
+                say_last(alloc, &job, &line)
             }
-            None => {
-                let mut line = Vec::new(alloc);
-                line.extend_from_slice(b"ok ")?;
-                push_number(&mut line, job.sending.done)?;
-                say(alloc, job.number, &line)
-            }
+            Fate::Again => self.plan_again(alloc, job, refusal_in(last)),
+            Fate::Next => self.send_next(alloc, stepped(job), house),
         }
     }
 
@@ -136,92 +358,46 @@ impl Clerk {
     pub(crate) fn step_told(
         &mut self,
         alloc: Global,
-        mut job: Job,
+        job: Job,
         house: HouseNo,
         last: &[u8],
-    ) -> Result<Vec<u8>, AllocError> {
-        let update = is_update(&job.command);
-        if last == b"refused Forbidden".as_slice() {
-            return say(alloc, job.number, last);
-        }
-        if last == b"refused StampsSpent".as_slice() && !update {
-            let mut line = Vec::new(alloc);
-            line.extend_from_slice(b"refused StampsSpent ")?;
-            push_number(&mut line, job.sending.done)?;
-            return say_doubted(alloc, &job, &line);
-        }
-        if ends_update(last) && update {
-            return say_doubted(alloc, &job, last);
-        }
-        if !last.starts_with(b"ok") {
-            return self.plan_again(alloc, job, last);
-        }
-        if update {
-            return say(alloc, job.number, last);
-        }
-        job.sending.done = job.sending.done.saturating_add(1);
-        if !job.sending.left.is_empty() {
-            job.sending.left.remove(0);
-        }
-        self.send_next(alloc, job, house)
+    ) -> Result<Vec<u8>, AllocError>
+        ensures { IfOk result
+            (λ text. StepTold self.old job house last.now text.items self.new) }
+    {
+        let fate = fate_of(job.command.is_update(), last);
+        self.step(alloc, fate, job, house, last)
     }
 
     /// The house of a line of a plan is not reached.
-    pub(crate) fn step_down(&mut self, alloc: Global, mut job: Job) -> Result<Vec<u8>, AllocError> {
-        job.sending.doubt = true;
-        if may_repeat(&job.command) {
-            self.plan_again(alloc, job, b"refused Down")
+    pub(crate) fn step_down(&mut self, alloc: Global, job: Job) -> Result<Vec<u8>, AllocError>
+        ensures { IfOk result (λ text. StepDown self.old job text.items self.new) }
+    {
+        let may_repeat = job.command.may_repeat();
+        let job = doubted(job);
+        if may_repeat {
+            self.plan_again(alloc, job, DOWN)
         } else {
-            say(alloc, job.number, b"refused Down doubt")
+            say_last(alloc, &job, DOWN)
+        }
+    }
+
+    // Goes on with a command that is tried once more; or ends it, if that was done often enough.
+    fn try_again(&mut self, alloc: Global, job: Job, why: &[u8]) -> Result<Vec<u8>, AllocError>
+        ensures { IfOk result (λ text. TriesAgain self.old job why.now text.items self.new) }
+    {
+        if MOST_TRIES <= job.sending.tries {
+            say_last(alloc, &job, why)
+        } else {
+            self.go_on(alloc, job)
         }
     }
 
     // Works a plan out again, of what houses say now.
-    fn plan_again(
-        &mut self,
-        alloc: Global,
-        mut job: Job,
-        why: &[u8],
-    ) -> Result<Vec<u8>, AllocError> {
+    fn plan_again(&mut self, alloc: Global, job: Job, why: &[u8]) -> Result<Vec<u8>, AllocError>
+        ensures { IfOk result (λ text. PlansAgain self.old job why.now text.items self.new) }
+    {
         self.root = None;
-        job.sending.tries = job.sending.tries.saturating_add(1);
-        if job.sending.tries >= MOST_TRIES {
-            return say_doubted(alloc, &job, why);
-        }
-        job.heard = Heard {
-            near: None,
-            root: Root::Unheard,
-            answers: Answers::new(alloc),
-        };
-        job.latest = None;
-        self.go_on(alloc, job)
+        self.try_again(alloc, again(alloc, job), why)
     }
-}
-
-/// No line of a plan was sent.
-pub(crate) fn no_sending(alloc: Global) -> Sending {
-    Sending {
-        done: 0,
-        left: Vec::new(alloc),
-        dir: DirId::ROOT,
-        tries: 0,
-        doubt: false,
-    }
-}
-
-fn say(alloc: Global, command: u64, line: &[u8]) -> Result<Vec<u8>, AllocError> {
-    let mut text = Vec::new(alloc);
-    push_say(&mut text, command, line)?;
-    Ok(text)
-}
-
-/// Says the last line of an answer, with the word `doubt` if a line was sent of which nobody knows
-/// whether it was done.
-pub(crate) fn say_doubted(alloc: Global, job: &Job, line: &[u8]) -> Result<Vec<u8>, AllocError> {
-    let mut whole = Vec::new(alloc);
-    whole.extend_from_slice(line)?;
-    if job.sending.doubt {
-        whole.extend_from_slice(b" doubt")?;
-    }
-    say(alloc, job.number, &whole)
 }

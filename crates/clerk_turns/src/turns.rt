@@ -1,21 +1,28 @@
 // What a clerk makes of each line that it reads.
-ghost use Rattle.std.specs.Prelude.{◌≡◌, ℕ, List, [], None, IfOk, IsSome, slice_get};
+ghost use Rattle.std.specs.Prelude.{◌≡◌, true, [], None, IfOk, IsSome, map, slice_get};
 ghost use Rattle.clerk_lines.specs.ClerkTexts.{show_text};
+ghost use Rattle.cds_clerk.specs.Heards.{heard_root};
+ghost use Rattle.ns_commands.specs.declared.updates.Updates.{Updates};
 ghost use Rattle.cell_script.specs.Words.{words_of};
-ghost use Rattle.cds_clerk.specs.Heards.{IsUnheard, heard_root};
-ghost use Rattle.clerk_turns.specs.Answers.{IsAnswer};
+ghost use Rattle.clerk_turns.specs.Answers.{ArePlanned, AreWanted, IsAnswer};
+ghost use Rattle.clerk_turns.specs.Asking.{Asks, AsksEach, IsWithJob, Puts, PutsEach, name_ask, root_asks};
 ghost use Rattle.clerk_turns.specs.ClerkRows.{command_said};
-ghost use Rattle.clerk_turns.specs.Turns.{AnswersTopic, Asks, AsksAll, AsksAt, AsksOn, Begins, BeginsCommand, Goes, GoesRooted, Hears, HearsLine, HearsMore, IsDown, IsFirst, IsRootTold, IsTold, IsTurn, IsWithJob, Puts, PutsEach, RootHeard, Settles, TakesWord, TopicDown, Waits, after_answer, answer_to, is_unreached, later_list, place_of, rest_root, root_in, settled, with_answer, with_list};
+ghost use Rattle.clerk_turns.specs.Commands.{is_high};
+ghost use Rattle.clerk_turns.specs.Turns.{AnswersTopic, AsksAt, AsksHouses, AsksOn, Begins, BeginsCommand, BeginsSaid, Goes, GoesIfAll, GoesRooted, HearsLine, HearsMore, Hears, IsDown, IsFirst, IsRootTold, IsTold, IsTurn, Keeps, RootHeard, Settles, StepDown, StepTold, TakesWord, TopicDown, Waits, WithJob, after_answer, answer_to, is_unreached, later_list, place_of, rest_root, root_in, settled, topic_with, with_answer, with_list};
 
 use crate::clerk::{Clerk, Job, Question, Topic, waits_for};
 use crate::command::{Command, parse_command};
 use crate::outcomes::{Comes, outcome};
-use crate::sending::{no_sending, say_doubted};
-use crate::says::{say_answer, say_fault, single_line};
+use crate::says::{say_answer, say_fault};
+use crate::sending::{in_doubt, no_sending};
 use cds_clerk::{Answered, Answers, Heard, Lack, Root};
 use cds_stamps::{AllocOr, DirId, HouseNo};
 use cell_names::ChildPointer;
-use clerk_lines::{ClerkLine, ClerkWord, Hearing, RootList, Told, is_last, push_ask, push_show, read_clerk_line, read_root};
+use clerk_lines::{
+    ClerkLine, ClerkWord, Hearing, RootList, Told, is_last, push_ask, push_show, read_clerk_line,
+    read_root,
+};
+use ns_commands::Updates;
 use script_answers::{Answer, ScriptRefusal};
 use std::alloc::{AllocError, Global};
 
@@ -75,8 +82,18 @@ fn rest_root(alloc: Global, place: &Option<ChildPointer>) -> Result<Root, AllocE
 fn settled(job: Job) -> Job
     ensures { result ≡ settled job }
 {
-    let Job { number, command, heard, latest, sending } = job;
-    let Heard { near, root: _, answers } = heard;
+    let Job {
+        number,
+        command,
+        heard,
+        latest,
+        sending,
+    } = job;
+    let Heard {
+        near,
+        root: _,
+        answers,
+    } = heard;
     Job {
         number,
         command,
@@ -110,10 +127,24 @@ fn nothing(alloc: Global) -> Vec<u8>
 fn with_answer(job: Job, answer: Answered) -> Result<Job, AllocError>
     ensures { IfOk result (λ j. j ≡ with_answer job answer) }
 {
-    let Job { number, command, heard, latest, sending } = job;
-    let Heard { near, root, mut answers } = heard;
+    let Job {
+        number,
+        command,
+        heard,
+        latest,
+        sending,
+    } = job;
+    let Heard {
+        near,
+        root,
+        mut answers,
+    } = heard;
     answers.push(answer)?;
-    let heard = Heard { near, root, answers };
+    let heard = Heard {
+        near,
+        root,
+        answers,
+    };
     Ok(Job {
         number,
         command,
@@ -127,7 +158,13 @@ fn with_answer(job: Job, answer: Answered) -> Result<Job, AllocError>
 fn with_list(job: Job, list: Option<RootList>) -> Job
     ensures { result ≡ with_list job list }
 {
-    let Job { number, command, heard, latest, sending } = job;
+    let Job {
+        number,
+        command,
+        heard,
+        latest,
+        sending,
+    } = job;
     Job {
         number,
         command,
@@ -142,7 +179,34 @@ fn answer_to(lack: Lack, told: Told) -> Answered
     ensures { result ≡ answer_to lack told }
 {
     let Lack { dir, house, name } = lack;
-    Answered { dir, house, name, told }
+    Answered {
+        dir,
+        house,
+        name,
+        told,
+    }
+}
+
+// The same.
+fn copy_of(alloc: Global, lack: &Lack) -> Result<Lack, AllocError>
+    ensures { IfOk result (λ q. q ≡ lack.now) }
+{
+    Ok(Lack {
+        dir: lack.dir,
+        house: lack.house,
+        name: lack.name.copy(alloc)?,
+    })
+}
+
+// What was heard of an answer with one more line.
+fn topic_with(alloc: Global, topic: Topic, line: &[u8]) -> Result<Topic, AllocError>
+    ensures { IfOk result (λ t. t ≡ topic_with topic line.now) }
+{
+    match topic {
+        Topic::Show(lack, hearing) => Ok(Topic::Show(lack, hearing.hear(alloc, line)?)),
+        Topic::Root(place) => Ok(Topic::Root(place)),
+        Topic::Step(house) => Ok(Topic::Step(house)),
+    }
 }
 
 // Whether an answer says that no house of a directory is reached.
@@ -168,10 +232,21 @@ impl Clerk {
         ensures { IfOk result (λ text. GoesRooted self.old job text.items self.new) }
     {
         self.forget(&answer);
-        if job.sending.doubt {
-            return say_doubted(alloc, &job, &single_line(alloc, &answer)?);
-        }
-        say_answer(alloc, job.number, &answer)
+        let text = say_answer(alloc, job.number, &answer)?;
+        in_doubt(job.sending.doubt, text)
+    }
+
+    // A command has its plan.
+    fn begin_plan(
+        &mut self,
+        alloc: Global,
+        job: Job,
+        updates: Updates,
+    ) -> Result<Vec<u8>, AllocError>
+        requires { ArePlanned job.heard job.command updates }
+        ensures { IfOk result (λ text. GoesRooted self.old job text.items self.new) }
+    {
+        self.send(alloc, job, updates)
     }
 
     // Asks a house for the command of this number.
@@ -183,8 +258,8 @@ impl Clerk {
         line: &[u8],
         topic: Topic,
     ) -> Result<Vec<u8>, AllocError>
-        ensures { IfOk result
-            (λ text. Puts self.old job house line.now topic text.items self.new) }
+        ensures { IfOk result (λ text. Puts job self.old
+            (record { house = house; line = line.now; topic = topic }) text.items self.new) }
     {
         self.asked = self.asked.saturating_add(1);
         self.questions.push(Question {
@@ -197,6 +272,13 @@ impl Clerk {
         Ok(text)
     }
 
+    // A command is under way with the others.
+    fn join(&mut self, job: Job) -> Result<(), AllocError>
+        ensures { IfOk result (λ _. IsWithJob self.old job self.new) }
+    {
+        Ok(self.jobs.push(job)?)
+    }
+
     // Asks a house for a command, which waits.
     pub(crate) fn ask(
         &mut self,
@@ -206,34 +288,80 @@ impl Clerk {
         line: &[u8],
         topic: Topic,
     ) -> Result<Vec<u8>, AllocError>
-        ensures { (asks : List ℕ) → line.now ≡ asks → IfOk result
-            (λ text. Asks self.old job house asks topic text.items self.new) }
+        ensures { IfOk result (λ text. Asks self.old job
+            (record { house = house; line = line.now; topic = topic }) text.items self.new) }
     {
         let text = self.put(alloc, job.number, house, line, topic)?;
-        self.jobs.push(job)?;
+        self.join(job)?;
         Ok(text)
     }
 
     // Asks a house what shows of a name.
-    fn ask_name(&mut self, alloc: Global, job: Job, lack: Lack) -> Result<Vec<u8>, AllocError>
-        requires { IsUnheard job.heard lack }
-        ensures { IfOk result (λ text. GoesRooted self.old job text.items self.new) }
+    fn put_name(
+        &mut self,
+        alloc: Global,
+        job: u64,
+        high: bool,
+        lack: &Lack,
+    ) -> Result<Vec<u8>, AllocError>
+        ensures { IfOk result
+            (λ text. Puts job self.old (name_ask high lack.now) text.items self.new) }
     {
-        let line = show_line(alloc, job.command.is_high(), &lack)?;
-        let house = lack.house;
-        self.ask(alloc, job, house, &line, Topic::Show(lack, Hearing::Begun))
+        let line = show_line(alloc, high, lack)?;
+        let asked = copy_of(alloc, lack)?;
+        self.put(
+            alloc,
+            job,
+            lack.house,
+            &line,
+            Topic::Show(asked, Hearing::Begun),
+        )
     }
 
-    // Goes on with a command that knows where the root directory is: it has its answer, or a house
-    // is asked what shows of a name.
+    // Asks houses what shows of names.
+    fn put_names(
+        &mut self,
+        alloc: Global,
+        job: u64,
+        high: bool,
+        lacks: &[Lack],
+    ) -> Result<Vec<u8>, AllocError>
+        ensures { IfOk result (λ text.
+            PutsEach job self.old (map (name_ask high) lacks.now) text.items self.new) }
+    {
+        let mut text = Vec::new(alloc);
+        for lack in lacks {
+            let asks = self.put_name(alloc, job, high, lack)?;
+            text.extend_from_slice(&asks)?;
+        }
+        Ok(text)
+    }
+
+    // Asks houses what shows of all names of which something lacks.
+    fn ask_names(
+        &mut self,
+        alloc: Global,
+        job: Job,
+        lacks: Vec<Lack>,
+    ) -> Result<Vec<u8>, AllocError>
+        requires { AreWanted job.heard job.command lacks.items }
+        ensures { IfOk result (λ text. GoesRooted self.old job text.items self.new) }
+    {
+        let text = self.put_names(alloc, job.number, job.command.is_high(), &lacks)?;
+        self.join(job)?;
+        Ok(text)
+    }
+
+    // Goes on with a command that knows where the root directory is: it has its answer or its plan,
+    // or houses are asked what shows of names.
     fn go_rooted(&mut self, alloc: Global, job: Job) -> Result<Vec<u8>, AllocError>
         requires { IsSome (heard_root job.heard.root) }
         ensures { IfOk result (λ text. GoesRooted self.old job text.items self.new) }
     {
         match outcome(alloc, &job.heard, &job.command)? {
             Comes::Said(answer) => self.end(alloc, job, answer),
-            Comes::Updates(updates) => self.send(alloc, job, updates),
-            Comes::Lacks(lack) => self.ask_name(alloc, job, lack),
+            Comes::Updates(updates) => self.begin_plan(alloc, job, updates),
+            Comes::Lacks(lacks) => self.ask_names(alloc, job, lacks),
             Comes::LacksRoot => unreachable!(),
         }
     }
@@ -266,7 +394,8 @@ impl Clerk {
 
     // Asks all houses where the root directory is.
     fn put_each(&mut self, alloc: Global, job: u64) -> Result<Vec<u8>, AllocError>
-        ensures { IfOk result (λ text. PutsEach self.old job text.items self.new) }
+        ensures { IfOk result (λ text.
+            PutsEach job self.old (root_asks 0 self.old.houses.items) text.items self.new) }
     {
         let mut text = Vec::new(alloc);
         for place in 0..self.houses.len() {
@@ -279,23 +408,36 @@ impl Clerk {
 
     // The same for a command, which waits.
     fn ask_each(&mut self, alloc: Global, job: Job) -> Result<Vec<u8>, AllocError>
-        ensures { IfOk result (λ text. AsksAll self.old job text.items self.new) }
+        ensures { IfOk result (λ text.
+            AsksEach self.old job (root_asks 0 self.old.houses.items) text.items self.new) }
     {
         let text = self.put_each(alloc, job.number)?;
-        self.jobs.push(job)?;
+        self.join(job)?;
         Ok(text)
+    }
+
+    // Asks all houses where the root directory is; or goes on, if there is none.
+    fn ask_all(&mut self, alloc: Global, job: Job) -> Result<Vec<u8>, AllocError>
+        ensures { IfOk result
+            (λ text. AsksHouses self.old.houses.items true self.old job text.items self.new) }
+    {
+        if self.houses.is_empty() {
+            self.settle(alloc, job)
+        } else {
+            self.ask_each(alloc, job)
+        }
     }
 
     // Asks where the root directory is: all houses at once, if masters alone are trusted, and else
     // the first one.
     fn ask_root(&mut self, alloc: Global, job: Job) -> Result<Vec<u8>, AllocError>
-        requires { heard_root job.heard.root ≡ None }
-        ensures { IfOk result (λ text. Goes self.old job text.items self.new) }
+        ensures { IfOk result (λ text. AsksHouses self.old.houses.items (is_high job.command)
+            self.old job text.items self.new) }
     {
-        if self.houses.is_empty() || !job.command.is_high() {
-            self.ask_at(alloc, job, 0)
+        if job.command.is_high() {
+            self.ask_all(alloc, job)
         } else {
-            self.ask_each(alloc, job)
+            self.ask_at(alloc, job, 0)
         }
     }
 
@@ -305,8 +447,8 @@ impl Clerk {
     {
         match outcome(alloc, &job.heard, &job.command)? {
             Comes::Said(answer) => self.end(alloc, job, answer),
-            Comes::Updates(updates) => self.send(alloc, job, updates),
-            Comes::Lacks(lack) => self.ask_name(alloc, job, lack),
+            Comes::Updates(updates) => self.begin_plan(alloc, job, updates),
+            Comes::Lacks(lacks) => self.ask_names(alloc, job, lacks),
             Comes::LacksRoot => self.ask_root(alloc, job),
         }
     }
@@ -339,18 +481,21 @@ impl Clerk {
             (λ text. BeginsCommand self.old number command text.items self.new) }
     {
         let heard = self.first_heard(alloc, command.is_high())?;
-        self.go_on(alloc, Job {
-            number,
-            command,
-            heard,
-            latest: None,
-            sending: no_sending(alloc),
-        })
+        self.go_on(
+            alloc,
+            Job {
+                number,
+                command,
+                heard,
+                latest: None,
+                sending: no_sending(alloc),
+            },
+        )
     }
 
     // Begins what a text says, or says its fault.
-    fn begin(&mut self, alloc: Global, number: u64, text: &[u8]) -> Result<Vec<u8>, AllocError>
-        ensures { IfOk result (λ said. Begins self.old number
+    fn begin_said(&mut self, alloc: Global, number: u64, text: &[u8]) -> Result<Vec<u8>, AllocError>
+        ensures { IfOk result (λ said. BeginsSaid self.old number
             (command_said (words_of text.now)) said.items self.new) }
     {
         match parse_command(alloc, text) {
@@ -360,18 +505,44 @@ impl Clerk {
         }
     }
 
-    // Goes on with a command for which one answer more was heard.
-    fn go_with(
-        &mut self,
-        alloc: Global,
-        job: Job,
-        answer: Answered,
-    ) -> Result<Vec<u8>, AllocError>
+    // Begins what a text says, unless a command of this number is under way.
+    fn begin(&mut self, alloc: Global, number: u64, text: &[u8]) -> Result<Vec<u8>, AllocError>
         ensures { IfOk result
-            (λ text. Goes self.old (with_answer job answer) text.items self.new) }
+            (λ said. Begins self.old number text.now said.items self.new) }
+    {
+        if self.has_job(number) {
+            Ok(nothing(alloc))
+        } else {
+            self.begin_said(alloc, number, text)
+        }
+    }
+
+    // A command is under way with the others, and nothing is said.
+    fn keep(&mut self, alloc: Global, job: Job) -> Result<Vec<u8>, AllocError>
+        ensures { IfOk result (λ text. Keeps self.old job text.items self.new) }
+    {
+        self.join(job)?;
+        Ok(nothing(alloc))
+    }
+
+    // Goes on with a command, if all houses have answered that were asked for it.
+    fn go_if_all(&mut self, alloc: Global, job: Job) -> Result<Vec<u8>, AllocError>
+        ensures { IfOk result (λ text. GoesIfAll self.old job text.items self.new) }
+    {
+        if waits_for(&self.questions, job.number) {
+            self.keep(alloc, job)
+        } else {
+            self.go_on(alloc, job)
+        }
+    }
+
+    // Goes on with a command for which one answer more was heard.
+    fn go_with(&mut self, alloc: Global, job: Job, answer: Answered) -> Result<Vec<u8>, AllocError>
+        ensures { IfOk result
+            (λ text. GoesIfAll self.old (with_answer job answer) text.items self.new) }
     {
         let job = with_answer(job, answer)?;
-        self.go_on(alloc, job)
+        self.go_if_all(alloc, job)
     }
 
     // A house told what shows of a name, or is not reached.
@@ -387,15 +558,6 @@ impl Clerk {
             Some(job) => self.go_with(alloc, job, answer),
             None => Ok(nothing(alloc)),
         }
-    }
-
-    // A command is under way with the others, and nothing is said.
-    fn keep(&mut self, alloc: Global, job: Job) -> Result<Vec<u8>, AllocError>
-        ensures text { IfOk result (λ text. text.items ≡ []) }
-        ensures jobs { IfOk result (λ _. IsWithJob self.old job self.new) }
-    {
-        self.jobs.push(job)?;
-        Ok(nothing(alloc))
     }
 
     // Goes on with a command of which all houses were asked where the root directory is, if all
@@ -450,6 +612,35 @@ impl Clerk {
         }
     }
 
+    // A house answered to a line of a plan.
+    fn step_heard(
+        &mut self,
+        alloc: Global,
+        number: u64,
+        house: HouseNo,
+        last: &[u8],
+    ) -> Result<Vec<u8>, AllocError>
+        ensures { IfOk result (λ text. WithJob self.old number
+            (λ d job. StepTold d job house last.now text.items self.new)
+            text.items self.new) }
+    {
+        match self.take_job(number) {
+            Some(job) => self.step_told(alloc, job, house, last),
+            None => Ok(nothing(alloc)),
+        }
+    }
+
+    // The house of a line of a plan is not reached.
+    fn step_lost(&mut self, alloc: Global, number: u64) -> Result<Vec<u8>, AllocError>
+        ensures { IfOk result (λ text. WithJob self.old number
+            (λ d job. StepDown d job text.items self.new) text.items self.new) }
+    {
+        match self.take_job(number) {
+            Some(job) => self.step_down(alloc, job),
+            None => Ok(nothing(alloc)),
+        }
+    }
+
     // A question has its whole answer.
     fn answered(
         &mut self,
@@ -469,10 +660,7 @@ impl Clerk {
                 let list = read_root(alloc, last)?;
                 self.root_told(alloc, job, place, list)
             }
-            Topic::Step(house) => match self.take_job(job) {
-                Some(job) => self.step_told(alloc, job, house, last),
-                None => Ok(nothing(alloc)),
-            },
+            Topic::Step(house) => self.step_heard(alloc, job, house, last),
         }
     }
 
@@ -487,11 +675,7 @@ impl Clerk {
             (λ text. HearsMore self.old question line.now text.items self.new) }
     {
         let Question { number, job, topic } = question;
-        let topic = match topic {
-            Topic::Show(lack, hearing) => Topic::Show(lack, hearing.hear(alloc, line)?),
-            Topic::Root(place) => Topic::Root(place),
-            Topic::Step(house) => Topic::Step(house),
-        };
+        let topic = topic_with(alloc, topic, line)?;
         self.questions.push(Question { number, job, topic })?;
         Ok(nothing(alloc))
     }
@@ -507,7 +691,11 @@ impl Clerk {
             (λ text. HearsLine self.old question line.now text.items self.new) }
     {
         if is_last(line) {
-            let Question { number: _, job, topic } = question;
+            let Question {
+                number: _,
+                job,
+                topic,
+            } = question;
             self.answered(alloc, job, topic, line)
         } else {
             self.hear_more(alloc, question, line)
@@ -531,10 +719,7 @@ impl Clerk {
         match topic {
             Topic::Show(lack, _) => self.take_told(alloc, job, answer_to(lack, Told::Passed)),
             Topic::Root(place) => self.root_told(alloc, job, place, None),
-            Topic::Step(_) => match self.take_job(job) {
-                Some(job) => self.step_down(alloc, job),
-                None => Ok(nothing(alloc)),
-            },
+            Topic::Step(_) => self.step_lost(alloc, job),
         }
     }
 
@@ -544,7 +729,11 @@ impl Clerk {
     {
         match self.take_question(number) {
             Some(question) => {
-                let Question { number: _, job, topic } = question;
+                let Question {
+                    number: _,
+                    job,
+                    topic,
+                } = question;
                 self.topic_down(alloc, job, topic)
             }
             None => Ok(nothing(alloc)),
@@ -552,7 +741,9 @@ impl Clerk {
     }
 
     /// What a clerk makes of a line: what it says and asks then. A line that is none of a clerk's,
-    /// or is about a question that nobody asked, changes nothing.
+    /// or is about a question that nobody asked, changes nothing; nor does a command whose number
+    /// one has that is under way. After want of memory a command may be lost, and the clerk is not
+    /// to be asked again.
     pub fn next(&mut self, alloc: Global, line: &[u8]) -> Result<Vec<u8>, AllocError>
         ensures { IfOk result (λ text. IsTurn self.old line.now text.items self.new) }
     {

@@ -1,23 +1,25 @@
-use Rattle.std.proofs.Common.{inl}
+use Rattle.std.proofs.Common.{inl, inr}
 use Rattle.resolver.proofs.PassLaws.{if_ok}
-use Rattle.clerk_turns.proofs.Goings.{if_said, if_unknown, if_unrooted}
-use Rattle.clerk_turns.specs.Answers.{IsAnswer}
-use Rattle.cds_clerk.specs.Heards.{IsUnheard}
 use Rattle.clerk_turns.proofs.clerk.Clerk.go_on.Goals as goal
 
 pub end-requires : goal.end-requires
-end-requires c =
-    if_said c.in_ok-answer.field-0 c.in-Said.answer (IsAnswer c.args.job.heard c.args.job.command) c.in-Said.is c.in_ok-answer.ensures.done
+end-requires c = rw c.in-Said.is at c.in_ok-answer.ensures
 
-pub ask_name-requires : goal.ask_name-requires
-ask_name-requires c =
-    if_unknown c.in_ok-answer.field-0 c.in-Lacks.lack (IsUnheard c.args.job.heard) c.in-Lacks.is c.in_ok-answer.ensures.asks
+pub begin_plan-requires : goal.begin_plan-requires
+begin_plan-requires c = rw c.in-Updates.is at c.in_ok-answer.ensures
 
-pub ask_root-requires : goal.ask_root-requires
-ask_root-requires c = if_unrooted c.in_ok-answer.field-0 _ c.in-LacksRoot.is c.in_ok-answer.ensures.root
+pub ask_names-requires : goal.ask_names-requires
+ask_names-requires c = rw c.in-Lacks.is at c.in_ok-answer.ensures
 
 pub returns-in-Said : goal.returns-in-Said
 returns-in-Said c = if_ok c.end.result (λ t goes. inl goes) c.end.ensures
 
+pub returns-in-Updates : goal.returns-in-Updates
+returns-in-Updates c = if_ok c.begin_plan.result (λ t goes. inl goes) c.begin_plan.ensures
+
 pub returns-in-Lacks : goal.returns-in-Lacks
-returns-in-Lacks c = if_ok c.ask_name.result (λ t goes. inl goes) c.ask_name.ensures
+returns-in-Lacks c = if_ok c.ask_names.result (λ t goes. inl goes) c.ask_names.ensures
+
+pub returns-in-LacksRoot : goal.returns-in-LacksRoot
+returns-in-LacksRoot c =
+    if_ok c.ask_root.result (λ t asks. inr (record { unheard = rw c.in-LacksRoot.is at c.in_ok-answer.ensures; asks = asks })) c.ask_root.ensures

@@ -1,12 +1,10 @@
-use Rattle.clerk_turns.proofs.Goings.{if_said, if_unknown, if_unrooted}
-use Rattle.clerk_turns.specs.Answers.{IsAnswer}
-use Rattle.cds_clerk.specs.Heards.{IsUnheard}
 use Rattle.clerk_turns.proofs.clerk.Clerk.go_rooted.Goals as goal
 
 pub end-requires : goal.end-requires
-end-requires c =
-    if_said c.in_ok-answer.field-0 c.in-Said.answer (IsAnswer c.args.job.heard c.args.job.command) c.in-Said.is c.in_ok-answer.ensures.done
+end-requires c = rw c.in-Said.is at c.in_ok-answer.ensures
 
-pub ask_name-requires : goal.ask_name-requires
-ask_name-requires c =
-    if_unknown c.in_ok-answer.field-0 c.in-Lacks.lack (IsUnheard c.args.job.heard) c.in-Lacks.is c.in_ok-answer.ensures.asks
+pub begin_plan-requires : goal.begin_plan-requires
+begin_plan-requires c = rw c.in-Updates.is at c.in_ok-answer.ensures
+
+pub ask_names-requires : goal.ask_names-requires
+ask_names-requires c = rw c.in-Lacks.is at c.in_ok-answer.ensures

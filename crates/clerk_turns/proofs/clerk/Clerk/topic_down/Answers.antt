@@ -5,3 +5,6 @@ returns-in-Show c = rw c.in-Show.is (rw c.answer_to.ensures at c.take_told.ensur
 
 pub returns-in-Root : goal.returns-in-Root
 returns-in-Root c = rw c.in-Root.is c.root_told.ensures
+
+pub returns-in-Step : goal.returns-in-Step
+returns-in-Step c = rw c.in-Step.is c.step_lost.ensures

@@ -1,0 +1,15 @@
+use Rattle.resolver.proofs.PassLaws.{if_ok}
+use Rattle.std.proofs.Common.{refl}
+use Rattle.clerk_turns.proofs.clerk.Clerk.step.Goals as goal
+
+pub returns-in-Done : goal.returns-in-Done
+returns-in-Done c = rw c.in-Done.is (if_ok c.say.result (λ t is. (is, refl)) c.say.ensures)
+
+pub returns-in-Refused : goal.returns-in-Refused
+returns-in-Refused c = rw c.in-Refused.is (if_ok c.say_last.result (λ t is. (is, refl)) c.say_last.ensures)
+
+pub returns-in-Again : goal.returns-in-Again
+returns-in-Again c = rw c.in-Again.is (rw c.refusal_in.ensures at c.plan_again.ensures)
+
+pub returns-in-Next : goal.returns-in-Next
+returns-in-Next c = rw c.in-Next.is (rw c.stepped.ensures at c.send_next.ensures)

@@ -1,0 +1,10 @@
+use Rattle.resolver.proofs.PassLaws.{if_ok}
+use Rattle.clerk_turns.proofs.Goings.{lacking, there}
+use Rattle.clerk_turns.proofs.clerk.Clerk.step_heard.Goals as goal
+
+pub returns-in-Some : goal.returns-in-Some
+returns-in-Some c =
+    if_ok c.step_told.result (λ t goes. there _ _ _ _ c.in-Some.ensures.some.taken.first (_, c.in-Some.job, c.in-Some.ensures.some, goes)) c.step_told.ensures
+
+pub returns-in-None : goal.returns-in-None
+returns-in-None c = lacking _ _ _ c.in-None.ensures.none (c.nothing.ensures, c.in-None.ensures.stays)

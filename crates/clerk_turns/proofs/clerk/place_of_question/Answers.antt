@@ -1,0 +1,11 @@
+use Rattle.std.proofs.Common.{rules, tests}
+use Rattle.std.specs.Prelude.{◌==◌}
+use Rattle.std.proofs.lemmas.Iterator.{YieldsList-from_slice}
+use Rattle.std.proofs.lemmas.Iterator.Search.{position_from_yields_List}
+use Rattle.clerk_turns.proofs.clerk.place_of_question.Goals as goal
+
+pub returns : goal.returns
+returns c =
+    position_from_yields_List
+    (λ x. x.number == c.args.number) _ _ _ c.position.ensures.ran (YieldsList-from_slice c.args.questions.now cc) (λ x b q k. search
+    (rules, tests))
