@@ -7,6 +7,7 @@ from typing import Any
 
 from doors import clerks
 from doors.clerks import Clerk
+from doors.lines import LONGEST_OF_HOUSES
 from doors.loops import Loop
 from doors.test_post import Played
 
@@ -78,7 +79,7 @@ class ClerksTest(unittest.TestCase):
         self.assertEqual((self.house.asked, self.stream.sent[1:]), ([], ["down 1\n"]))
 
     def test_what_a_clerk_does_not_read_is_not_sent(self) -> None:
-        self.give("read low /.:/" + "a" * clerks.LONGEST_OF_HOUSES)
+        self.give("read low /.:/" + "a" * LONGEST_OF_HOUSES)
         self.assertEqual((self.said.pop(), self.stream.sent), (["fault LineTooLong 4081"], []))
         self.give("read low /.:/a A")
         for answer in (["object", "value \t00", "end"], ["value " + "00" * 2048, "end"], ["object", "end \xe9"]):
