@@ -46,7 +46,7 @@ KINDS = {
 def shown(name: str) -> list[str]:
     """What a house shows of a name."""
     if name == "all":
-        members = [f"/.:/s{number}".encode().hex() for number in SERVERS]
+        members = sorted(f"/.:/s{number}".encode().hex() for number in SERVERS)
         return ["object", "attr RPC_Group", *(f"value {member}" for member in members), "end"]
     return ["object", "attr CDS_Towers", f"value {TOWER}{int(name[1:]):02x}", "end"]
 

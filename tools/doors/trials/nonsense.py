@@ -33,7 +33,7 @@ TOWER = (
 # So many questions a command asks at most, of tables as small as these.
 MOST_QUESTIONS = 20_000
 # A round has so many commands.
-COMMANDS = 60
+COMMANDS = 200
 # What a clerk is told in between.
 JUNK = ("", "do", "do 1", "say 1 ok", "hear 0 end", "hear 99999999999999999999 ok", "hear 7", "down 0", "down 1 2", "#")
 
