@@ -108,7 +108,8 @@ class Nonsense:
             case 4:
                 lines = chance.sample(lines, len(lines))
             case 5:
-                lines = [*lines[:at], chance.choice(["bogus", "", "value zz", "attr", "object", "child 1 1"]), *lines[at:]]
+                other = chance.choice(["bogus", "", "value zz", "attr", "object", "child 1 1"])
+                lines = [*lines[:at], other, *lines[at:]]
         ends = [place for place, line in enumerate(lines) if line.split(" ")[0] in ENDS]
         return lines[: ends[0] + 1] if ends else [*lines, "end"]
 
