@@ -1,5 +1,5 @@
 # shellcheck shell=sh
-# Starts a program of this repository. The wrappers ./cdsreplay, ./cdsmend, ./cdshouse and ./cdsexplain read this file; each knows the words of its program.
+# Starts a program of this repository. The wrappers ./cdsreplay, ./cdsmend, ./cdshouse, ./cdsexplain and ./cdsclerk read this file; each knows the words of its program.
 # They set `root`, the folder of the repository, and `name`, that of the program.
 # shellcheck disable=SC2154
 

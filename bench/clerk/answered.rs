@@ -11,12 +11,17 @@ use crate::tables::{Change, Entry, Kind, Marks, Pointer, Stamp};
 const SOME: Stamp = Stamp { time: 1, node: 1 };
 
 fn words(line: &[u8]) -> Vec<&[u8]> {
-    line.split(|b| *b == b' ').collect()
+    line.split(|b| *b == b' ').filter(|word| !word.is_empty()).collect()
+}
+
+/// What is before the first space of a line.
+fn first_word(line: &[u8]) -> &[u8] {
+    line.split(|b| *b == b' ').next().unwrap_or(line)
 }
 
 /// Whether a line is the last one of an answer.
 pub fn is_last(line: &[u8]) -> bool {
-    matches!(words(line)[0], b"ok" | b"refused" | b"fault" | b"end")
+    matches!(first_word(line), b"ok" | b"refused" | b"fault" | b"end")
 }
 
 /// Whether a house does not know the command that it was asked.
@@ -24,46 +29,82 @@ pub fn is_unknown(lines: &[Vec<u8>]) -> bool {
     lines.last().is_some_and(|line| line.starts_with(b"fault UnknownCommand"))
 }
 
-/// The epoch and the houses of the root directory by the line that has its members, of a `status` or of a `dump`.
+/// The epoch and the houses of the root directory by a line of `status`.
 pub fn root(line: &[u8]) -> Option<(u64, Pointer<'static>)> {
-    let words = words(line);
-    let after = |name: &[u8]| words.iter().position(|word| *word == name).map(|at| at + 1);
-    let (mut master, mut others) = (None, Vec::new());
-    for word in &words[after(b"members")?..] {
-        let parts: Vec<&[u8]> = word.split(|b| *b == b':').collect();
-        let house = script::house(parts.first()?)?;
-        if parts.last() == Some(&&b"m"[..]) { master = Some(house) } else { others.push(house) }
+    match words(line)[..] {
+        [b"ok", b"epoch", epoch, _, _, _, _, _, _, b"members", ref members @ ..] => listed(epoch, members),
+        _ => None,
     }
-    let epoch = script::number(words.get(after(b"epoch")?)?)?;
-    Some((epoch, Pointer { dir: 1, houses: [vec![master?], others].concat().into() }))
+}
+
+/// The same by the first line of a `dump`.
+pub fn root_of_dump(line: &[u8]) -> Option<(u64, Pointer<'static>)> {
+    match words(line)[..] {
+        [b"dump", b"epoch", epoch, _, _, b"members", ref members @ ..] => listed(epoch, members),
+        _ => None,
+    }
+}
+
+fn listed(epoch: &[u8], members: &[&[u8]]) -> Option<(u64, Pointer<'static>)> {
+    let (mut master, mut others) = (None, Vec::new());
+    for member in members {
+        let mut parts = member.splitn(3, |b| *b == b':');
+        let (house, _, kind) = (script::house(parts.next()?)?, parts.next()?, parts.next()?);
+        if kind == b"m" {
+            master.get_or_insert(house);
+        } else {
+            others.push(house);
+        }
+    }
+    Some((script::number(epoch)?, pointer(1, master?, &others)?))
+}
+
+/// A directory and its houses, if these are houses of one.
+fn pointer(dir: u32, master: u8, others: &[u8]) -> Option<Pointer<'static>> {
+    let octets = Pointer { dir, houses: [&[master], others].concat().into() }.octets();
+    Pointer::read(&octets).map(|pointer| pointer.lent().into_kept())
 }
 
 /// What a `show` says.
 pub fn shown(lines: &[Vec<u8>]) -> Said {
     match lines {
-        [.., last] if last == b"refused NoSuchEntry" => Said::Absent,
-        [first, middle @ .., last] if words(last)[0] == b"end" => shown_entry(first, middle).map_or(Said::Passed, Said::Shows),
+        [only] if only == b"refused NoSuchEntry" => Said::Absent,
+        [first, middle @ .., last] if first_word(last) == b"end" => shown_entry(first, middle).map_or(Said::Passed, Said::Shows),
         _ => Said::Passed,
     }
 }
 
-/// The entry of a `show`: its kind and where it leads; then its attributes, and the values of each.
+/// The entry of a `show`: its kind and where it leads; then its attributes, and the values of each, ascending.
 fn shown_entry(first: &[u8], rest: &[Vec<u8>]) -> Option<Entry> {
     let (kind, lead) = match words(first)[..] {
         [b"object"] => (Kind::Object, None),
-        [b"link", target] => (Kind::Link, Some(target.to_vec())),
-        [b"child", dir, ref houses @ ..] => {
-            let houses: Option<Vec<u8>> = houses.iter().map(|word| script::house(word)).collect();
-            (Kind::Child, Some(Pointer { dir: script::directory(dir)?, houses: houses?.into() }.octets()))
+        [b"link", target] => (Kind::Link, Some(script::full(target)?.to_vec())),
+        [b"child", dir, master, ref others @ ..] => {
+            let others: Option<Vec<u8>> = others.iter().map(|word| script::house(word)).collect();
+            (Kind::Child, Some(pointer(script::directory(dir)?, script::house(master)?, &others?)?.octets()))
         }
         _ => return None,
     };
     let mut entry = Entry::born(kind, SOME, lead);
-    let mut attribute: &[u8] = b"";
+    // (of an attribute that is named twice the first values count)
+    let (mut attributes, mut last, mut counts) = (Vec::<&[u8]>::new(), Vec::new(), false);
     for line in rest {
         match words(line)[..] {
-            [b"attr", name] => attribute = name,
-            [b"value", digits] => add(&mut entry, attribute, hex(digits)?),
+            [b"attr", name] => {
+                counts = !attributes.contains(&name);
+                attributes.push(script::attribute(name)?);
+                last.clear();
+            }
+            [b"value", digits] => {
+                let (attribute, value) = (attributes.last()?, script::value(digits)?);
+                if value <= last {
+                    return None;
+                }
+                if counts {
+                    add(&mut entry, attribute, value.clone());
+                }
+                last = value;
+            }
             _ => return None,
         }
     }
@@ -77,8 +118,8 @@ fn add(entry: &mut Entry, attribute: &[u8], octets: Vec<u8>) {
 /// The entries of a `dump` that show. At high confidence a house counts that is the master by its own list.
 pub fn dumped(lines: &[Vec<u8>], high: bool, house: u8) -> Whole {
     let [first, middle @ .., last] = lines else { return None };
-    let (_, pointer) = root(first)?;
-    if words(last)[0] != b"end" || high && pointer.houses.first() != Some(&house) {
+    let (_, pointer) = root_of_dump(first)?;
+    if first_word(last) != b"end" || high && pointer.houses.first() != Some(&house) {
         return None;
     }
     let mut entries: HashMap<Vec<u8>, Entry> = HashMap::new();

@@ -213,6 +213,12 @@ fn element_fault(element: &Element) -> Option<&'static str> {
 
 fn plan(heard: &Heard, command: &Command) -> Outcome {
     let refused = |reason| Err(single(Because(reason).into()));
+    // (it asks where the name leads before it looks at anything else)
+    if let Command::Export(name, ..) | Command::Unexport(name, ..) | Command::ProfileAdd(name, _) = command {
+        if let Err(lack @ (Halt::LacksRoot | Halt::Lacks(_))) = heard.walk(name, true) {
+            return Err(single(lack));
+        }
+    }
     match command {
         Command::Export(_, _, addresses, objects) if addresses.is_empty() && objects.is_empty() => refused("NothingToExport"),
         Command::Export(name, interface, addresses, objects) => {

@@ -130,6 +130,9 @@ impl<W: Write> Clerk<W> {
     // ---- commands
 
     fn begin(&mut self, number: u64, command: &[u8]) {
+        if self.jobs.contains_key(&number) {
+            return;
+        }
         let words: Vec<Vec<u8>> = command.split(|b| *b == b' ').filter(|word| !word.is_empty()).map(<[u8]>::to_vec).collect();
         let Some(first) = words.first() else { return self.say(number, b"fault UnknownCommand 1") };
         let high = !commands::is_question(first) || words.get(1).is_some_and(|word| word == b"high");
@@ -225,7 +228,8 @@ impl<W: Write> Clerk<W> {
         match topic {
             Topic::Root(rest) => {
                 let line = if whole { lines.first() } else { lines.last() };
-                self.hear_root(at, line.filter(|_| is_reached).and_then(|line| answered::root(line)), rest);
+                let read = if whole { answered::root_of_dump } else { answered::root };
+                self.hear_root(at, line.filter(|_| is_reached).and_then(|line| read(line)), rest);
             }
             Topic::Look(look) => {
                 if is_reached && whole {
@@ -270,7 +274,10 @@ impl<W: Write> Clerk<W> {
         };
         let said = String::from_utf8_lossy(line).into_owned();
         match said.as_str() {
-            "refused Forbidden" => self.end(number, &said),
+            "refused Forbidden" => {
+                let said = job.doubted(&said);
+                self.end(number, &said);
+            }
             "refused StampsSpent" if !job.is_update() => {
                 let done = job.planned - job.plan.len();
                 self.refuse(number, &Refusal::Spent(done, Posted(1..=0)));
@@ -288,7 +295,8 @@ impl<W: Write> Clerk<W> {
                 let said = if job.is_update() { said } else { format!("ok {}", job.planned) };
                 self.end(number, &said);
             }
-            _ => self.plan_again(number, &said),
+            // (what no house says is as good as nothing)
+            _ => self.plan_again(number, if line.starts_with(b"refused ") || line == b"refused" { &said } else { "refused Down" }),
         }
     }
 

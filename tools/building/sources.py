@@ -10,8 +10,8 @@ import time
 from collections.abc import Iterable, Iterator
 
 ROOT = os.path.dirname(os.path.dirname(os.path.dirname(os.path.realpath(__file__))))
-# Which are proved and built together: the replayers, and the house, what explains houses, and the clerk, which have crates
-# that no replayer needs.
+# Which are proved and built together: the replayers, and the house, what explains houses, and the clerk, which have
+# crates that no replayer needs.
 GROUPS = (("cdsreplay", "cdsmend"), ("cdshouse",), ("cdsexplain",), ("cdsclerk",))
 PROGRAMS = tuple(name for group in GROUPS for name in group)
 # What the proof of a crate reads; what says which program it is and what is promised of it; and what rt runs a program

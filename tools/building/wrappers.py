@@ -1,5 +1,5 @@
-"""Cases of the wrappers ./cdsreplay, ./cdsmend, ./cdshouse and ./cdsexplain, for tools/cases: which words they know,
-what they say of how a program ends, which program they run, and what a signal does.
+"""Cases of the wrappers ./cdsreplay, ./cdsmend, ./cdshouse, ./cdsexplain and ./cdsclerk, for tools/cases: which words
+they know, what they say of how a program ends, which program they run, and what a signal does.
 
 They are tried on copies: beside a program that ends as the first word of its input says and writes the other words, and
 a `tools/build` that finds nothing, or a program of its own. A copy of the sources shows that built programs can be
@@ -208,6 +208,16 @@ TABLE = (
         ),
         "",
     ),
+    ("a clerk of houses", "echo 0 1 ok | ./cdsclerk 2 1 2 3", 0, "1 ok\n", ""),
+    ("a clerk that ends otherwise", "echo 3 | ./cdsclerk 1", 3, "", ""),
+    ("a clerk of what is no house", "./cdsclerk 2 256 2>errors", 2, "", ""),
+    (
+        "a clerk of nothing",
+        "./cdsclerk 2>&1 | head -n 1",
+        0,
+        "usage: ./cdsclerk NEAR HOUSE..    answers commands of the name service by asking houses\n",
+        "",
+    ),
     ("closed ends", "./cdsreplay run <&-", 1, "", "cdsreplay: standard input or standard output is closed\n"),
 )
 
@@ -380,7 +390,8 @@ def handed_over(room: str, _: str) -> str | None:
         for file in (f"crates/{name}/out/{name}", f"out/built-{name}"):
             shutil.copy(f"{one}/{file}", f"{other}/{file}")
     write(f"{other}/h1/1", "")
-    for words in (["./cdsreplay", "run"], ["./cdsmend", "1"], ["./cdshouse", "crates"], ["./cdsexplain", "h1"]) * 2:
+    forms = ["./cdsreplay run", "./cdsmend 1", "./cdshouse crates", "./cdsexplain h1", "./cdsclerk 1"]
+    for words in [form.split() for form in forms] * 2:
         ran = subprocess.run(
             words, cwd=other, input="0 1 ok\n", capture_output=True, text=True, env=without_rt(), timeout=SECONDS
         )

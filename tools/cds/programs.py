@@ -85,6 +85,11 @@ def plain_house(given: str | None = None) -> str:
     return os.path.abspath(given) if given else compiled("bench/house.rs", "out/plain-house")
 
 
+def plain_clerk(given: str | None = None) -> str:
+    """The plain clerk, or the one that is given."""
+    return os.path.abspath(given) if given else compiled("bench/clerk.rs", "out/plain-clerk")
+
+
 def ran(
     words: Sequence[str], octets: bytes = b"", seconds: float = LONGEST, environment: Mapping[str, str] | None = None
 ) -> tuple[int, bytes]:

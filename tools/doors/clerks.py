@@ -7,6 +7,7 @@ import time
 from collections.abc import Callable, Mapping
 
 from doors.houses import Answer, House, ends_of, status_of
+from doors.lines import LONGEST_OF_HOUSES, fault_of
 from doors.loops import Loop
 from doors.streams import Lines
 from cds.processes import ENDS
@@ -15,6 +16,15 @@ from cds.processes import ENDS
 # does not end it then is killed after twice that.
 LONGEST = 60.0
 FIRST_WAIT, LONGEST_WAIT = 0.2, 5.0
+# A clerk ends at line 16,777,217. After so many there is another one, as soon as it has no command.
+ENOUGH_LINES = 16_000_000
+
+
+def heard(number: str, told: Answer) -> list[str]:
+    """The lines that say an answer to a clerk. One that a clerk does not read no house says: that house counts as not
+    reached."""
+    lines = [f"hear {number} {line}" for line in told or ()]
+    return [f"down {number}"] if not lines or any(map(fault_of, lines)) else lines
 
 
 class Job:
@@ -38,6 +48,9 @@ class Clerk:
         self.stream: Lines | None = None
         self.child: subprocess.Popen[bytes] | None = None
         self.jobs: dict[int, Job] = {}
+        # The commands that wait for another clerk, and how many lines this one was sent.
+        self.held: list[Job] = []
+        self.sent = 0
         self.known: tuple[int, list[int]] = (0, [])
         self.number, self.wait, self.is_closed = 0, FIRST_WAIT, False
         self.on_end: Callable[[Job], None] = lambda job: None
@@ -59,7 +72,7 @@ class Clerk:
         except OSError as error:
             self.note(f"the clerk does not start: {words[0]}: {error.strerror}")
             return
-        self.stream = Lines(self.loop, *ends_of(self.child), self.line, self.ended)
+        self.stream, self.sent = Lines(self.loop, *ends_of(self.child), self.line, self.ended), 0
 
     def ended(self) -> None:
         """All commands under way are refused. Whether a plan was done nobody knows."""
@@ -69,6 +82,7 @@ class Clerk:
         jobs, self.jobs = self.jobs, {}
         for job in jobs.values():
             job.hear(["refused NoClerk doubt"])
+        self.give_held()
         self.loop.after(self.wait, self.begin)
         self.wait = min(self.wait * 2, LONGEST_WAIT)
 
@@ -86,13 +100,17 @@ class Clerk:
         return self.near or min(houses, default=1), houses
 
     def renew(self) -> None:
-        """Another one, if it is to ask other houses than it knows."""
-        if self.stream and not self.jobs and self.known != self.asked():
+        """Another one, if it is to ask other houses than it knows, or has read enough lines."""
+        if self.stream and not self.jobs and (self.is_spent or self.known != self.asked()):
             self.stream.close()
             if self.child:
                 self.child.wait()
             self.stream = self.child = None
         self.begin()
+
+    @property
+    def is_spent(self) -> bool:
+        return self.sent > ENOUGH_LINES
 
     def tick(self) -> None:
         oldest = min((job.since for job in self.jobs.values()), default=time.monotonic())
@@ -102,13 +120,35 @@ class Clerk:
     # ---- commands
 
     def command(self, line: str, hear: Callable[[list[str]], None], may: Callable[[list[str]], bool]) -> None:
+        job = Job(line, hear, may)
+        if len(line) > LONGEST_OF_HOUSES:
+            # (with its number in front the line would end the clerk)
+            hear([f"fault LineTooLong {LONGEST_OF_HOUSES + 1}"])
+        elif self.jobs and self.is_spent:
+            self.held.append(job)
+        else:
+            self.give(job)
+
+    def give(self, job: Job) -> None:
         self.renew()
         if not self.stream:
-            hear(["refused NoClerk"])
+            job.hear(["refused NoClerk"])
             return
         self.number += 1
-        self.jobs[self.number] = Job(line, hear, may)
-        self.stream.send(f"do {self.number} {line}\n")
+        self.jobs[self.number] = job
+        self.send([f"do {self.number} {job.line}"])
+
+    def give_held(self) -> None:
+        """Gives the commands that wait for another clerk, once this one has none."""
+        if not self.jobs:
+            held, self.held = self.held, []
+            for job in held:
+                self.give(job)
+
+    def send(self, lines: list[str]) -> None:
+        if self.stream:
+            self.sent += len(lines)
+            self.stream.send("".join(f"{line}\n" for line in lines))
 
     def line(self, text: str | None) -> None:
         match (text or "").split(" ", 2):
@@ -128,6 +168,7 @@ class Clerk:
             del self.jobs[number]
             self.wait = FIRST_WAIT
             self.on_end(job)
+            self.give_held()
             job.hear(job.said)
 
     def ask(self, number: str, job: Job | None, house: int, question: str) -> None:
@@ -137,8 +178,8 @@ class Clerk:
             if job:
                 job.asked.append((house, *(self.place(target) if told and target else (0, 0)), question))
             # (another clerk gives its questions the same numbers)
-            if asker and asker is self.stream:
-                asker.send("".join(f"hear {number} {line}\n" for line in told) if told else f"down {number}\n")
+            if asker is self.stream:
+                self.send(heard(number, told))
 
         if not target or not job or time.monotonic() - job.since > LONGEST:
             hear(None)

@@ -27,23 +27,28 @@ def compiled(source: str, target: str) -> str:
     raise NoProgram(f"rustc is not there, which compiles {source}")
 
 
-def house() -> str:
-    """The proved house; else the one of the same sources that is not proved, if the toolchain is there; else the
+def chosen(name: str, source: str, target: str) -> str:
+    """The proved program; else the one of the same sources that is not proved, if the toolchain is there; else the
     plain one of bench/."""
     if shutil.which("rt"):
         try:
-            return programs.chosen("cdshouse")
+            return programs.chosen(name)
         except programs.NoProgram as reason:
             raise NoProgram(f"{reason} cannot be made") from None
-    if path := built("cdshouse"):
+    if path := built(name):
         return path
-    print("the proved cdshouse is not built, so the houses are those of bench/house.rs", file=sys.stderr)
-    return compiled("bench/house.rs", "out/plain-house")
+    print(f"the proved {name} is not built, so {source} is in its place", file=sys.stderr)
+    return compiled(source, target)
+
+
+def house() -> str:
+    """A house."""
+    return chosen("cdshouse", "bench/house.rs", "out/plain-house")
 
 
 def clerk() -> str:
-    """The clerk of bench/."""
-    return compiled("bench/clerk.rs", "out/plain-clerk")
+    """A clerk."""
+    return chosen("cdsclerk", "bench/clerk.rs", "out/plain-clerk")
 
 
 def replayer() -> str:

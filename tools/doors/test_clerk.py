@@ -1,13 +1,18 @@
-"""Tests of a clerk by its lines: what it asks which house, and what it says. The test plays the houses."""
+"""Tests of a clerk by its lines: what it asks which house, and what it says. The test plays the houses. The clerk is
+the plain one of bench/; `tools/clerk-tests` tries another one."""
 from __future__ import annotations
 
 import shutil
 import subprocess
+import threading
 import unittest
 from typing import NamedTuple
 
-from doors import executables
+from cds import programs
 from doors.trials import nonsense
+
+# So long a test may wait for the clerk, in seconds.
+LONGEST = 60.0
 
 WANTED = "a0000000-0000-0000-0000-000000000001:1.0 - ncacn_ip_tcp"
 BINDING = "ncacn_ip_tcp:10.0.0.1[1025]"
@@ -20,7 +25,7 @@ ROOT = "ok epoch 1 allupto none skulk none entries 0 members 1:1:m 2:1:r"
 
 
 def group(*members: str) -> list[str]:
-    return ["object", "attr RPC_Group", *(f"value {member.encode().hex()}" for member in members), "end"]
+    return ["object", "attr RPC_Group", *(f"value {member.encode().hex()}" for member in sorted(members)), "end"]
 
 
 class Ask(NamedTuple):
@@ -32,30 +37,38 @@ class Ask(NamedTuple):
     line: str
 
 
-class ClerkTest(unittest.TestCase):
+class Talk(unittest.TestCase):
     """A clerk that prefers house 2, and may ask houses 1, 2 and 3."""
 
+    program = ""
+
     def setUp(self) -> None:
-        if not shutil.which("rustc"):
+        if not self.program and not shutil.which("rustc"):
             self.skipTest("rustc is not there")
-        words, pipe = [executables.clerk(), "2", "1", "2", "3"], subprocess.PIPE
+        self.path = self.program or programs.plain_clerk()
+        words, pipe = [self.path, "2", "1", "2", "3"], subprocess.PIPE
         self.child = subprocess.Popen(words, stdin=pipe, stdout=pipe, text=True, encoding="ascii", bufsize=1)
         assert self.child.stdin and self.child.stdout
         self.sink, self.source = self.child.stdin, self.child.stdout
+        # (a clerk that says too little ends the test)
+        self.watch = threading.Timer(LONGEST, self.child.kill)
+        self.watch.start()
 
     def tearDown(self) -> None:
         if hasattr(self, "child"):
             self.sink.close()
             self.source.close()
             self.child.wait()
+            self.watch.cancel()
 
     def give(self, line: str) -> None:
         self.sink.write(f"{line}\n")
 
     def ask(self) -> Ask:
         """The next line, which is a question."""
-        word, number, job, house, line = self.source.readline().rstrip("\n").split(" ", 4)
-        self.assertEqual(word, "ask")
+        text = self.source.readline().rstrip("\n")
+        self.assertRegex(text, r"^ask \d+ \d+ \d+ .")
+        _, number, job, house, line = text.split(" ", 4)
         return Ask(int(number), int(job), int(house), line)
 
     def asked(self, house: int, line: str, *answer: str) -> None:
@@ -74,6 +87,14 @@ class ClerkTest(unittest.TestCase):
         """The next lines are this answer."""
         for line in lines:
             self.assertEqual(self.source.readline(), f"say {job} {line}\n")
+
+    def root_at_high(self) -> None:
+        for ask in [self.ask() for _ in range(3)]:
+            self.hear(ask, ROOT)
+
+
+class ClerkTest(Talk):
+    """What each clerk does."""
 
     def test_a_near_house_is_asked_first_and_then_the_others(self) -> None:
         self.give("do 1 read low /.:/a A")
@@ -98,30 +119,6 @@ class ClerkTest(unittest.TestCase):
         self.asked(1, "show high 1 a", "refused NotMaster")
         self.said("refused Unreachable 1")
 
-    def test_an_older_house_is_asked_for_all_at_once(self) -> None:
-        self.give("do 1 import low /.:/all " + WANTED)
-        self.asked(2, "status 1", "fault UnknownCommand 1")
-        self.asked(2, "dump 1", "dump epoch 1 allupto none members 1:1:m 2:1:r", "end")
-        members = "".join(f"value {name.encode().hex()} present 1@a\n" for name in ("/.:/a", "/.:/b")).splitlines()
-        other = ["entry b object 1@a 2@a", "attr CDS_Towers none", f"value {TOWER} present 1@a"]
-        towers = ["attr CDS_Towers none", f"value {TOWER} present 1@a", f"value {TOWER[:-2]}02 absent 1@a"]
-        all_of_group = ["entry all object 1@a live", "attr RPC_Group none", *members]
-        lines = ["entry a object 1@a live", *towers, *all_of_group, *other]
-        self.asked(2, "dump 1", "dump epoch 1 allupto none members 1:1:m 2:1:r", *lines, "end")
-        self.said(f"binding {BINDING}", "end 1")
-
-    def test_an_older_house_tells_at_high_confidence_if_it_is_the_master(self) -> None:
-        first = "dump epoch 1 allupto none members 1:1:m 2:1:r"
-        self.give("do 1 read high /.:/a A")
-        for ask in [self.ask() for _ in range(3)]:
-            self.hear(ask, "fault UnknownCommand 1")
-            # (house 2 is the master by the lists of houses 1 and 2)
-            told = ["refused NoReplica"] if ask.house == 3 else [first.replace("1:1:m 2:1:r", "1:1:r 2:1:m"), "end"]
-            self.asked(ask.house, "dump 1", *told)
-        self.asked(2, "dump 1", first, "end")
-        self.asked(1, "dump 1", first, "entry a object 1@a live", "attr A none", "value 00 present 1@a", "end")
-        self.said("ok 1 00")
-
     def test_a_search_asks_for_all_that_it_lacks_at_once_and_says_what_it_did_not_reach(self) -> None:
         self.give("do 1 import low /.:/all " + WANTED)
         self.asked(2, "status 1", ROOT)
@@ -140,10 +137,6 @@ class ClerkTest(unittest.TestCase):
         self.asked(1, "create 1 a", "ok 1@00000000000a")
         self.asked(1, f"add 1 a CDS_Towers {TOWER}", "ok 2@00000000000a")
         self.said("ok 2")
-
-    def root_at_high(self, *answer: str) -> None:
-        for ask in [self.ask() for _ in range(3)]:
-            self.hear(ask, ROOT)
 
     def test_a_plan_is_worked_out_again_and_in_doubt(self) -> None:
         self.give("do 1 groupadd /.:/g /.:/a")
@@ -212,8 +205,36 @@ class ClerkTest(unittest.TestCase):
         self.said("fault UnknownCommand 1")
 
     def test_nonsense(self) -> None:
-        counts = nonsense.tried(executables.clerk(), 2.0, 7)
+        counts = nonsense.tried(self.path, 2.0, 7)
         self.assertGreater(counts["questions"], 100)
+
+
+class OlderHouses(Talk):
+    """What the plain clerk alone does: it asks `dump` of a house that knows neither `show` nor `status`."""
+
+    def test_an_older_house_is_asked_for_all_at_once(self) -> None:
+        self.give("do 1 import low /.:/all " + WANTED)
+        self.asked(2, "status 1", "fault UnknownCommand 1")
+        self.asked(2, "dump 1", "dump epoch 1 allupto none members 1:1:m 2:1:r", "end")
+        members = "".join(f"value {name.encode().hex()} present 1@a\n" for name in ("/.:/a", "/.:/b")).splitlines()
+        other = ["entry b object 1@a 2@a", "attr CDS_Towers none", f"value {TOWER} present 1@a"]
+        towers = ["attr CDS_Towers none", f"value {TOWER} present 1@a", f"value {TOWER[:-2]}02 absent 1@a"]
+        all_of_group = ["entry all object 1@a live", "attr RPC_Group none", *members]
+        lines = ["entry a object 1@a live", *towers, *all_of_group, *other]
+        self.asked(2, "dump 1", "dump epoch 1 allupto none members 1:1:m 2:1:r", *lines, "end")
+        self.said(f"binding {BINDING}", "end 1")
+
+    def test_an_older_house_tells_at_high_confidence_if_it_is_the_master(self) -> None:
+        first = "dump epoch 1 allupto none members 1:1:m 2:1:r"
+        self.give("do 1 read high /.:/a A")
+        for ask in [self.ask() for _ in range(3)]:
+            self.hear(ask, "fault UnknownCommand 1")
+            # (house 2 is the master by the lists of houses 1 and 2)
+            told = ["refused NoReplica"] if ask.house == 3 else [first.replace("1:1:m 2:1:r", "1:1:r 2:1:m"), "end"]
+            self.asked(ask.house, "dump 1", *told)
+        self.asked(2, "dump 1", first, "end")
+        self.asked(1, "dump 1", first, "entry a object 1@a live", "attr A none", "value 00 present 1@a", "end")
+        self.said("ok 1 00")
 
 
 if __name__ == "__main__":

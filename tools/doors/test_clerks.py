@@ -7,6 +7,7 @@ from typing import Any
 
 from doors import clerks
 from doors.clerks import Clerk
+from doors.lines import LONGEST_OF_HOUSES
 from doors.loops import Loop
 from doors.test_post import Played
 
@@ -19,6 +20,9 @@ class Stream:
 
     def send(self, text: str) -> None:
         self.sent.append(text)
+
+    def close(self) -> None:
+        pass
 
 
 class ClerksTest(unittest.TestCase):
@@ -73,6 +77,33 @@ class ClerksTest(unittest.TestCase):
         self.clerk.jobs[1].since = time.monotonic() - clerks.LONGEST - 1
         self.clerk.line("ask 1 1 2 status 1")
         self.assertEqual((self.house.asked, self.stream.sent[1:]), ([], ["down 1\n"]))
+
+    def test_what_a_clerk_does_not_read_is_not_sent(self) -> None:
+        self.give("read low /.:/" + "a" * LONGEST_OF_HOUSES)
+        self.assertEqual((self.said.pop(), self.stream.sent), (["fault LineTooLong 4081"], []))
+        self.give("read low /.:/a A")
+        for answer in (["object", "value \t00", "end"], ["value " + "00" * 2048, "end"], ["object", "end \xe9"]):
+            self.clerk.line("ask 1 1 2 show low 1 a")
+            self.house.answer(*answer)
+            self.assertEqual(self.stream.sent.pop(), "down 1\n")
+
+    def test_another_clerk_after_enough_lines(self) -> None:
+        self.give("read low /.:/a A")
+        self.clerk.sent = clerks.ENOUGH_LINES + 1
+        self.give("read low /.:/b A")
+        self.give("read low /.:/c A")
+        self.assertEqual(self.stream.sent, ["do 1 read low /.:/a A\n"])
+        later: list[Stream] = []
+
+        def begin() -> None:
+            if not self.clerk.stream:
+                self.clerk.sent = 0
+                later.append(self.give_stream())
+
+        setattr(self.clerk, "begin", begin)
+        self.clerk.line("say 1 ok 0")
+        self.assertEqual((self.said, len(later)), ([["ok 0"]], 1))
+        self.assertEqual(later[0].sent, ["do 2 read low /.:/b A\n", "do 3 read low /.:/c A\n"])
 
     def test_nonsense_of_a_clerk(self) -> None:
         self.give("read low /.:/a A")

@@ -16,8 +16,7 @@ import unittest
 from collections.abc import Callable
 
 from building.sources import ROOT
-from cds.programs import plain, plain_house
-from doors import executables
+from cds.programs import plain, plain_clerk, plain_house
 from doors.trials.machines import CONSOLE, MACHINES, Machines
 
 LONGEST = 30.0
@@ -29,7 +28,7 @@ class Cell(Machines):
     """Three machines, whose houses come and go."""
 
     def __init__(self, folder: str) -> None:
-        super().__init__(folder, plain_house(), executables.clerk(), 1.0, True)
+        super().__init__(folder, plain_house(), plain_clerk(), 1.0, True)
         self.houses = {machine: [machine] for machine in MACHINES}
 
     def cell_file(self, machine: int) -> list[str]:

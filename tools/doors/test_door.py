@@ -13,7 +13,6 @@ import tempfile
 import time
 import unittest
 
-from doors import executables
 from doors.test_lines import MESSAGE
 from doors.trials.clients import Client
 from building.sources import ROOT
@@ -40,7 +39,7 @@ class Room(unittest.TestCase):
         if not shutil.which("rustc"):
             self.skipTest("rustc is not there")
         self.house = programs.compiled("bench/house.rs", "out/plain-house")
-        self.clerk = executables.clerk()
+        self.clerk = programs.plain_clerk()
         memory = "/dev/shm" if os.access("/dev/shm", os.W_OK) else None
         room = tempfile.TemporaryDirectory(dir=memory)
         self.addCleanup(room.cleanup)

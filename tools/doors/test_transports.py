@@ -11,13 +11,12 @@ import time
 import unittest
 from collections.abc import Callable
 
-from doors import executables
 from doors.test_lines import MESSAGE
 from doors.trials.machines import MACHINES, Machines
 from doors.trials.nets import Namespaces
 from doors.trials.transports import Mqtt, Ssh, Tcp, Tls
+from cds import programs
 from cds.processes import ENDS
-from cds.programs import compiled
 
 INTERFACE = "a0000000-0000-0000-0000-000000000001:1.0"
 LONGEST = 30.0
@@ -76,7 +75,7 @@ class TransportTest(unittest.TestCase):
             self.skipTest(f"rustc or {self.kind.name} is not there")
         room = tempfile.TemporaryDirectory(dir="/dev/shm" if os.access("/dev/shm", os.W_OK) else None)
         self.addCleanup(room.cleanup)
-        house, clerk = compiled("bench/house.rs", "out/plain-house"), executables.clerk()
+        house, clerk = programs.plain_house(), programs.plain_clerk()
         self.machines = Stranger(room.name, house, clerk, 3.0, not Namespaces.are_allowed(), self.kind)
         self.addCleanup(self.machines.close)
         self.machines.begin()

@@ -9,7 +9,7 @@ from . import sources
 
 # Groups that nothing may use.
 UNUSED = ("Laws alone", "Tests alone", "Examples")
-PROGRAMS = ("cdsreplay", "cdsmend", "cdshouse", "cdsexplain")
+PROGRAMS = ("cdsreplay", "cdsmend", "cdshouse", "cdsexplain", "cdsclerk")
 # Sizes in the picture, in its units.
 WIDE, HIGH, ACROSS, DOWN, EDGE = 150, 44, 34, 46, 16
 STYLE = (
@@ -185,7 +185,7 @@ def page(groups: list[Group], edges: Edges) -> str:
 def in_programs(crate: str, made: Edges) -> str:
     """The programs that a crate is a part of."""
     programs = [it for it in PROGRAMS if crate in made[it]]
-    return "all four" if len(programs) == len(PROGRAMS) else ", ".join(f"`{it}`" for it in programs)
+    return "all five" if len(programs) == len(PROGRAMS) else ", ".join(f"`{it}`" for it in programs)
 
 
 def made_of(made: Edges) -> list[str]:
