@@ -2,7 +2,10 @@
 use Rattle.std.specs.Prelude.{ℕ, List, [], ◌∷◌, Err, Result, codes}
 use Rattle.cell_script.specs.declared.fault.ParseFault.{ParseFault}
 use Rattle.cell_script.specs.declared.fault.ParseFault.TheVariants.{UnknownCommand}
-use Rattle.cell_script.specs.WordForms.{Form, Confidence, FullName, AttrName, Value, Interface, ElementInterface, InterfaceOrNone, Bindings, Objects, Object, Protocols, Priority, Note, Builds, Words, followed_by}
+use Rattle.cell_script.specs.Words.{confidence_of, full_name_of, attr_name_of, octets_value_of}
+use Rattle.cell_script.specs.NameService.{interface_of, element_interface_of, interface_or_none_of, bindings_of}
+use Rattle.cell_script.specs.NameService.{objects_of, object_of, protocols_of, priority_of, note_of}
+use Rattle.cell_script.specs.WordForms.{Form, One, Builds, Words, followed_by}
 use Rattle.cell_script.specs.CommandRows.{RowOf, said_among, no_command}
 use Rattle.cds_clerk.specs.declared.planning.NamedUpdate.{NamedUpdate}
 use Rattle.cds_clerk.specs.declared.planning.NamedUpdate.TheVariants as update
@@ -18,9 +21,9 @@ row word forms build = record { word = word; forms = forms; says = build }
 -- the questions
 abbrev pub question_rows : List (RowOf Command)
 question_rows =
-    row (codes "read") (Confidence ∷ FullName ∷ AttrName ∷ []) command.Read
-    ∷ row (codes "readlink") (Confidence ∷ FullName ∷ []) command.Readlink
-    ∷ row (codes "import") (Confidence ∷ FullName ∷ Interface ∷ Object ∷ Protocols ∷ [])
+    row (codes "read") (One confidence_of ∷ One full_name_of ∷ One attr_name_of ∷ []) command.Read
+    ∷ row (codes "readlink") (One confidence_of ∷ One full_name_of ∷ []) command.Readlink
+    ∷ row (codes "import") (One confidence_of ∷ One full_name_of ∷ One interface_of ∷ One object_of ∷ One protocols_of ∷ [])
     (λ c n i o p. command.Import c n (record { interface = i; object = o; tcp = p.0; udp = p.1 }))
     ∷ []
 
@@ -31,33 +34,33 @@ plans word forms build = row word forms (followed_by command.Plan forms build)
 -- these commands
 abbrev pub plan_rows : List (RowOf Command)
 plan_rows =
-    plans (codes "export") (FullName ∷ Interface ∷ Bindings ∷ Objects ∷ []) plan.Export
-    ∷ plans (codes "unexport") (FullName ∷ InterfaceOrNone ∷ Objects ∷ []) plan.Unexport
-    ∷ plans (codes "groupadd") (FullName ∷ FullName ∷ []) plan.Groupadd
-    ∷ plans (codes "groupdel") (FullName ∷ FullName ∷ []) plan.Groupdel
-    ∷ plans (codes "profadd") (FullName ∷ ElementInterface ∷ FullName ∷ Priority ∷ Note ∷ []) plan.Profadd
-    ∷ plans (codes "profdel") (FullName ∷ ElementInterface ∷ FullName ∷ []) plan.Profdel
+    plans (codes "export") (One full_name_of ∷ One interface_of ∷ One bindings_of ∷ One objects_of ∷ []) plan.Export
+    ∷ plans (codes "unexport") (One full_name_of ∷ One interface_or_none_of ∷ One objects_of ∷ []) plan.Unexport
+    ∷ plans (codes "groupadd") (One full_name_of ∷ One full_name_of ∷ []) plan.Groupadd
+    ∷ plans (codes "groupdel") (One full_name_of ∷ One full_name_of ∷ []) plan.Groupdel
+    ∷ plans (codes "profadd") (One full_name_of ∷ One element_interface_of ∷ One full_name_of ∷ One priority_of ∷ One note_of ∷ []) plan.Profadd
+    ∷ plans (codes "profdel") (One full_name_of ∷ One element_interface_of ∷ One full_name_of ∷ []) plan.Profdel
     ∷ []
 
 -- an update by a full name: the name, and then what the update is of
 abbrev pub updates : List ℕ → (forms : List Form) → Builds forms NamedUpdate → RowOf Command
-updates word forms build = row word (FullName ∷ forms) (λ n. followed_by (command.Update n) forms build)
+updates word forms build = row word (One full_name_of ∷ forms) (λ n. followed_by (command.Update n) forms build)
 
 -- the updates that make and delete entries
 abbrev pub entry_rows : List (RowOf Command)
 entry_rows =
     updates (codes "create") [] update.Create
-    ∷ updates (codes "link") (FullName ∷ []) update.Link
+    ∷ updates (codes "link") (One full_name_of ∷ []) update.Link
     ∷ updates (codes "delete") [] update.Delete
     ∷ []
 
 -- the changes of an entry's values
 abbrev pub value_rows : List (RowOf Command)
 value_rows =
-    updates (codes "add") (AttrName ∷ Value ∷ []) update.Add
-    ∷ updates (codes "remove") (AttrName ∷ Value ∷ []) update.Remove
-    ∷ updates (codes "put") (AttrName ∷ Value ∷ []) update.Put
-    ∷ updates (codes "clear") (AttrName ∷ []) update.Clear
+    updates (codes "add") (One attr_name_of ∷ One octets_value_of ∷ []) update.Add
+    ∷ updates (codes "remove") (One attr_name_of ∷ One octets_value_of ∷ []) update.Remove
+    ∷ updates (codes "put") (One attr_name_of ∷ One octets_value_of ∷ []) update.Put
+    ∷ updates (codes "clear") (One attr_name_of ∷ []) update.Clear
     ∷ []
 
 -- what the words after a first word say, by the rows of one kind after those of another
