@@ -16,15 +16,20 @@ asking_next job first all text now ask left said after so puts more last rest =
 
 -- the same in a loop over what is asked
 module _ {X : Type 0} (ask : X → Ask) (xs : List X) (i : ℕ) (job : ℕ) (first : Clerk) (text : List ℕ) (now : Clerk) where
+  pub asking_at : (x : X) (told said text' : List ℕ) (after : Clerk) → i < length xs → IsAsking job first (map ask xs) text now (map ask (drop i xs))
+      → Puts job now (ask (get_or xs i x)) said after → told ≡ said → text' ≡ text ++ told → IsAsking job first (map ask xs) text' after (map ask (drop (i + 1) xs))
+  asking_at x told said text' after within so puts same longer =
+      let all : List Ask = map ask xs in
+      let there : IsAsking job first all text now (ask (get_or xs i x) ∷ map ask (drop (i + 1) xs)) =
+      subst (λ (ys : List X). IsAsking job first all text now (map ask ys)) (drop_more xs i x within) so in
+      subst (λ (t : List ℕ). IsAsking job first all t after (map ask (drop (i + 1) xs))) (sym (longer ∙ ap (λ (t : List ℕ). text ++ t) same))
+      (asking_next job first all text now (ask (get_or xs i x)) (map ask (drop (i + 1) xs)) said after there puts)
+
   pub asking_more : (x : X) (told said text' : List ℕ) (after : Clerk) → i < length xs → x ≡ get_or xs i x
       → IsAsking job first (map ask xs) text now (map ask (drop i xs)) → Puts job now (ask x) said after → told ≡ said → text' ≡ text ++ told
       → IsAsking job first (map ask xs) text' after (map ask (drop (i + 1) xs))
   asking_more x told said text' after within is so puts same longer =
-      let all : List Ask = map ask xs in
-      let left : drop i xs ≡ x ∷ drop (i + 1) xs = drop_more xs i x within ∙ ap (λ (y : X). y ∷ drop (i + 1) xs) (sym is) in
-      let there : IsAsking job first all text now (ask x ∷ map ask (drop (i + 1) xs)) = subst (λ (ys : List X). IsAsking job first all text now (map ask ys)) left so in
-      subst (λ (t : List ℕ). IsAsking job first all t after (map ask (drop (i + 1) xs))) (sym (longer ∙ ap (λ (t : List ℕ). text ++ t) same))
-      (asking_next job first all text now (ask x) (map ask (drop (i + 1) xs)) said after there puts)
+      asking_at x told said text' after within so (subst (λ (y : X). Puts job now (ask y) said after) is puts) same longer
 
   pub asked_all : length xs ≤ i → IsAsking job first (map ask xs) text now (map ask (drop i xs)) → PutsEach job first (map ask xs) text now
   asked_all past so =

@@ -29,15 +29,6 @@ use Rattle.clerk_turns.specs.declared.outcomes.Comes.TheVariants as comes
 abbrev pub IsRefusalOf : Asks → Answer → Type 0
 IsRefusalOf asks a = (why : ScriptRefusal) × (asks ≡ Err why) × (a ≡ answer.Refused why)
 
--- what a command answers over a reader; one that changes an entry answers why it does not
-abbrev pub IsAnswerOver : Reader → Command → Answer → Type 0
-IsAnswerOver r (command.Read high name attr) a = a ≡ values_read r attr (walk_end r true name)
-IsAnswerOver r (command.Readlink high name) a = IsTargetRead r (walk_end r false name) a
-IsAnswerOver r (command.Import high name wanted) a =
-    (objects : List Found) → ShowsOnly r objects → a ≡ import_answer r objects wanted name
-IsAnswerOver r (command.Plan p) a = IsRefusalOf (asks_of r p) a
-IsAnswerOver r (command.Update name u) a = IsRefusalOf (update_at u (end_of r false name)) a
-
 -- what a command that changes an entry asks for over a reader
 abbrev pub IsPlanOver : Reader → Command → Asks → Type 0
 IsPlanOver r (command.Read high name attr) asks = ⊥
@@ -47,9 +38,17 @@ IsPlanOver r (command.Plan p) asks = asks ≡ asks_of r p
 IsPlanOver r (command.Update name u) asks = asks ≡ update_at u (end_of r false name)
 
 -- the answer to a command by what was heard: each reader that agrees with that has it, whatever
--- else it tells
+-- else it tells; a command that changes an entry answers why it does not
 abbrev pub IsAnswer : Heard → Command → Answer → Type 0
-IsAnswer h c a = (r : Reader) → Agrees r h → IsAnswerOver r c a
+IsAnswer h (command.Read high name attr) a = (r : Reader) → Agrees r h
+    → a ≡ values_read r attr (walk_end r true name)
+IsAnswer h (command.Readlink high name) a = (r : Reader) → Agrees r h
+    → IsTargetRead r (walk_end r false name) a
+IsAnswer h (command.Import high name wanted) a = (r : Reader) (objects : List Found) → Agrees r h
+    → ShowsOnly r objects → a ≡ import_answer r objects wanted name
+IsAnswer h (command.Plan p) a = (r : Reader) → Agrees r h → IsRefusalOf (asks_of r p) a
+IsAnswer h (command.Update name u) a = (r : Reader) → Agrees r h
+    → IsRefusalOf (update_at u (end_of r false name)) a
 
 -- these are the updates that a command asks for by what was heard
 abbrev pub ArePlanned : Heard → Command → Updates → Type 0

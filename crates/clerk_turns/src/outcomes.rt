@@ -92,7 +92,7 @@ pub fn outcome(alloc: Global, heard: &Heard, command: &Command) -> Result<Comes,
             let told = read_link(alloc, heard, name)?;
             of_outcome(alloc, told)
         }
-        Command::Import(_, name, wanted) => {
+        Command::Import(_high, name, wanted) => {
             let told = import(alloc, heard, name, *wanted)?;
             Ok(of_searched(told))
         }

@@ -1,15 +1,14 @@
 use Rattle.std.proofs.Common.{subst, sym}
 use Rattle.cds_clerk.proofs.InquiryLaws.{one_asked}
 use Rattle.clerk_turns.specs.Answers.{AreWanted, Wants}
-use Rattle.clerk_turns.proofs.Refusing.{refused_over}
+use Rattle.clerk_turns.proofs.Refusing.{refused_answer}
 use Rattle.clerk_turns.proofs.outcomes.of_planned.Goals as goal
 
 pub returns-in-Made : goal.returns-in-Made
 returns-in-Made c = λ h cmd done unheard wants rootless. rw c.in-Made.is at done
 
 pub returns-in-Refused : goal.returns-in-Refused
-returns-in-Refused c = λ h cmd done unheard wants rootless.
-    let asks = rw c.in-Refused.is at done in λ r agrees. refused_over r cmd c.in-Refused.refusal (asks r agrees)
+returns-in-Refused c = λ h cmd done unheard wants rootless. refused_answer h cmd c.in-Refused.refusal (rw c.in-Refused.is at done)
 
 pub returns-in-LacksRoot : goal.returns-in-LacksRoot
 returns-in-LacksRoot c = λ h cmd done unheard wants rootless. rw c.in-LacksRoot.is at rootless
