@@ -1,5 +1,5 @@
 -- What comparisons of the replay and an entry imply.
-use Rattle.std.proofs.Common.{◌≡◌, ◌≢◌, ◌<◌, ◌≤◌, ℕ, zero, suc, ◌+◌, ◌-◌, Bool, true, false, ◌||◌, ◌==◌, cond, List, [], ◌∷◌, ◌++◌, drop, take, length, map, Option, Some, None, refl, sym, subst, ◌∙◌, ap, arith, rules, add-one}
+use Rattle.std.proofs.Common.{◌≡◌, ◌≢◌, ◌<◌, ◌≤◌, ℕ, zero, suc, ◌+◌, ◌-◌, Bool, true, false, ◌||◌, ◌==◌, cond, List, [], ◌∷◌, ◌++◌, drop, length, map, Option, Some, None, refl, sym, subst, ◌∙◌, ap, arith, rules, add-one}
 use Rattle.std.specs.Prelude.{slice_get, slice_index}
 use Rattle.std.specs.Bool.{Decides, OnTrue}
 use Rattle.std.specs.Cmp.Rules.{comparing}

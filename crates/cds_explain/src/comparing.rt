@@ -1,5 +1,5 @@
 // Whether the replay did what an entry says: its answer, its messages and its image.
-ghost use Rattle.std.specs.Prelude.{◌≡◌, ◌∷◌, [], IfOk, IfSome, OnOk};
+ghost use Rattle.std.specs.Prelude.{◌≡◌, IfOk, OnOk};
 ghost use Rattle.std.specs.Bool.{Decides};
 ghost use Rattle.cds_stamps.specs.Members.{is_listed, members_of};
 ghost use Rattle.cell_model.specs.Cells as model;

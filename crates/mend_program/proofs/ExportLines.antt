@@ -31,9 +31,8 @@ use Rattle.cell_script.specs.CommandRows.{Row, no_command, rows, said_among, sai
 use Rattle.cell_script.specs.NameService.{all_said, binding_said, bindings_of, is_none_word, list_of, object_said, objects_of, texts_of}
 use Rattle.cell_script.specs.WordForms.{◌>>=◌, Builds, Form, One, Many, Encoded}
 use Rattle.cell_script.specs.WordForms.{Said, Words, all_words, build_words, check_count, each_word, is_open, least_of, next_word, read_as, said_at, take_words, two_words}
-use Rattle.cell_script.specs.NameService.{interface_of, element_interface_of, interface_or_none_of, object_of, protocols_of, priority_of, note_of}
-use Rattle.cell_script.specs.Words.{attr_name_of, confidence_of, directory_of, full_name_of, house_of, image_asked, listed_of, message_asked, node_of, number_of, octets_asked, octets_of}
-use Rattle.cell_script.specs.Words.{octets_value_of, serial_of, simple_name_of, words_of}
+use Rattle.cell_script.specs.Words.{house_of, image_asked, message_asked, octets_asked}
+use Rattle.cell_script.specs.Words.{serial_of, words_of}
 
 -- of what comes of something without a fault, this holds
 abbrev Holds : {A E : Type 0} → Result A E → (A → Type 0) → Type 0
