@@ -1,6 +1,6 @@
 pub mod HeardLaws
 mod ClosedLaws
 mod SearchLaws
-mod InquiryLaws
+pub mod InquiryLaws
 pub mod LinkLaws
 mod PlanLaws

@@ -29,7 +29,8 @@ asks_of r (plan.Export name interface bindings objects) = export r name interfac
 asks_of r (plan.Unexport name interface objects) = unexport r name interface objects
 asks_of r (plan.Groupadd name member) = add_member r name member
 asks_of r (plan.Groupdel name member) = delete_member r name member
-asks_of r (plan.Profadd name interface member priority note) = add_element r name interface member priority note
+asks_of r (plan.Profadd name interface member priority note) =
+    add_element r name interface member priority note
 asks_of r (plan.Profdel name interface member) = delete_element r name interface member
 
 -- ---- updates by a full name
@@ -62,7 +63,8 @@ update_of house dir name u = record { house = house; dir = dir; list = change_na
 abbrev pub update_at : NamedUpdate → End → Asks
 update_at u (ends.Found f) = Ok (update_of f.house.0 f.dir.0 f.name u)
 update_at u (ends.Missing place done) =
-    if is_creation u then Ok (update_of place.house.0 place.dir.0 place.name u) else Err (why.NoSuchName done)
+    if is_creation u then Ok (update_of place.house.0 place.dir.0 place.name u)
+    else Err (why.NoSuchName done)
 update_at u (ends.Refused reason) = Err (refusal_of_walk reason)
 
 -- ---- what a plan comes to

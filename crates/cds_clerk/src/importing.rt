@@ -115,7 +115,7 @@ fn closed_import(
 
 /// The answer to an import by what was heard. Each reader that agrees with what was heard, and
 /// shows finitely many objects, has that answer, whatever else it tells. What lacks was not heard,
-/// and the search comes to a name of which the walk needs it; nothing else lacks that can be told
+/// and the search comes to a name of which the walk needs it; nothing else lacks that can be known
 /// so far.
 pub fn import(
     alloc: Global,

@@ -119,7 +119,7 @@ fn look_up_closed(
 /// The bindings of an import in batches of at most so many, by what was heard. Each reader that
 /// agrees with what was heard, and shows finitely many objects, has that answer, whatever else it
 /// tells. What lacks was not heard, and the search comes to a name of which the walk needs it;
-/// nothing else lacks that can be told so far.
+/// nothing else lacks that can be known so far.
 pub fn lookup(
     alloc: Global,
     heard: &Heard,

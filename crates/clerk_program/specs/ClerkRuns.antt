@@ -27,7 +27,8 @@ pub record IsNew (first : HouseNo) (houses : List HouseNo) (c : Clerk) : Type 0 
 
 -- from this clerk on, these lines are taken one after the other; all this is said and asked, and
 -- the clerk is so after them
-pub data Talk (first : Clerk) : (lines : List (List ℕ)) → (text : List ℕ) → (at : Clerk) → Type 0 where
+pub data Talk (first : Clerk) : (lines : List (List ℕ)) → (text : List ℕ) → (at : Clerk)
+    → Type 0 where
   begins : Talk first [] [] first
   goes_on : {lines : List (List ℕ)} {text : List ℕ} {at : Clerk} → (line said : List ℕ)
       → (after : Clerk) → Talk first lines text at → IsLine (length lines + 1) line
@@ -97,8 +98,8 @@ RunEnds first run OutOfMemory = (w : Works first run) × IsSoon w × (w.over ≡
 RunEnds first run Usage = ⊥
 RunEnds first run JournalFull = ⊥
 
--- nothing was read or written, for want of memory; or a clerk of these houses that had no command
--- worked so
+-- memory ran out before anything was read or written; or a clerk of these houses that had no
+-- command worked so
 abbrev pub ClerkEnds : HouseNo → List HouseNo → Run → (Unread Unwritten : Type 0) → Status → Type 0
 ClerkEnds near houses run Unread Unwritten status =
     ((status ≡ OutOfMemory) × Unread × Unwritten)
@@ -110,8 +111,8 @@ HousesEnd [] run Unread Unwritten status = (status ≡ Usage) × Unread × Unwri
 HousesEnd (near ∷ houses) run Unread Unwritten status =
     ClerkEnds near houses run Unread Unwritten status
 
--- how a program ends whose words name these houses, or do not name houses; for want of memory it may
--- end before it knows
+-- how a program ends whose words name these houses, or do not name houses; if memory runs out it
+-- may end before it knows
 abbrev pub WordsEnd : Option (List HouseNo) → Run → (Unread Unwritten : Type 0) → Status → Type 0
 WordsEnd None run Unread Unwritten status =
     ((status ≡ Usage) ⊎ (status ≡ OutOfMemory)) × Unread × Unwritten

@@ -1,5 +1,5 @@
--- The words of the command line of `cdsclerk`: the house that is near, and the houses that are asked
--- where the root directory is. Own.
+-- The words of the command line of `cdsclerk`: the house that is near, and the houses that are
+-- asked where the root directory is. Own.
 use Rattle.std.specs.Prelude.{ℕ, ◌==◌, Bool, not, List, [], ◌∷◌, ◌++◌, filter, Option, Some}
 use Rattle.std.specs.Option.{option_and_then, option_map}
 use Rattle.cds_stamps.specs.declared.numbers.HouseNo.{HouseNo}

@@ -19,7 +19,7 @@ fn new_clerk(alloc: Global, near: HouseNo, houses: &[HouseNo]) -> Result<Clerk, 
     Ok(Clerk::new(alloc, near, near_first(alloc, near, houses)?))
 }
 
-// The same of these houses, of which the first one is near.
+// A clerk of these houses, of which the first one is near, over a source and a sink.
 fn run_with<S: Source, K: Sink>(
     alloc: Global,
     houses: &[HouseNo],

@@ -14,7 +14,7 @@ pub asking_next : (job : ℕ) (first : Clerk) (all : List Ask) (text : List ℕ)
 asking_next job first all text now ask left said after so puts more last rest =
     subst (λ (t : List ℕ). PutsEach job first all t last) (sym (append_assoc text said more)) (so (said ++ more) last (one_more now after last ask left said more puts rest))
 
--- the same in a loop over what is asked
+-- one question more, in a loop over what is asked
 module _ {X : Type 0} (ask : X → Ask) (xs : List X) (i : ℕ) (job : ℕ) (first : Clerk) (text : List ℕ) (now : Clerk) where
   pub asking_at : (x : X) (told said text' : List ℕ) (after : Clerk) → i < length xs → IsAsking job first (map ask xs) text now (map ask (drop i xs))
       → Puts job now (ask (get_or xs i x)) said after → told ≡ said → text' ≡ text ++ told → IsAsking job first (map ask xs) text' after (map ask (drop (i + 1) xs))

@@ -19,7 +19,8 @@ pub record Ask : Type 0 where
 
 -- what shows of a name
 abbrev pub name_ask : (high : Bool) → Lack → Ask
-name_ask high q = record { house = q.house; line = show_text high q.dir.0 q.name; topic = topic.Show q Begun }
+name_ask high q =
+    record { house = q.house; line = show_text high q.dir.0 q.name; topic = topic.Show q Begun }
 
 -- where the root directory is, of the house at this place
 abbrev pub root_ask : (place : ℕ) → HouseNo → Ask
@@ -29,7 +30,8 @@ root_ask place house = record { house = house; line = codes "status 1"; topic = 
 pub record Puts (job : ℕ) (c : Clerk) (ask : Ask) (said : List ℕ) (c' : Clerk) : Type 0 where
   pub number : c'.asked ≡ next_count c.asked
   pub text : said ≡ ask_text c'.asked job ask.house.0 ask.line
-  pub questions : c'.questions.items ≡ c.questions.items ++ record { number = c'.asked; job = job; topic = ask.topic } ∷ []
+  pub questions : c'.questions.items
+      ≡ c.questions.items ++ record { number = c'.asked; job = job; topic = ask.topic } ∷ []
   pub near : c'.near ≡ c.near
   pub houses : c'.houses ≡ c.houses
   pub root : c'.root ≡ c.root
@@ -38,7 +40,8 @@ pub record Puts (job : ℕ) (c : Clerk) (ask : Ask) (said : List ℕ) (c' : Cler
 -- all of these are asked, one after the other
 pub data PutsEach (job : ℕ) : Clerk → List Ask → (said : List ℕ) → Clerk → Type 0 where
   no_more : (c : Clerk) → PutsEach job c [] [] c
-  one_more : (c mid c' : Clerk) (ask : Ask) (asks : List Ask) (said more : List ℕ) → Puts job c ask said mid
+  one_more : (c mid c' : Clerk) (ask : Ask) (asks : List Ask) (said more : List ℕ)
+      → Puts job c ask said mid
       → PutsEach job mid asks more c' → PutsEach job c (ask ∷ asks) (said ++ more) c'
 
 -- a command is under way with the others
@@ -56,4 +59,5 @@ Asks c job ask said c' = (mid : Clerk) × Puts job.number c ask said mid × IsWi
 
 -- all of these are asked for a command, which waits
 abbrev pub AsksEach : Clerk → Job → List Ask → (said : List ℕ) → Clerk → Type 0
-AsksEach c job asks said c' = (mid : Clerk) × PutsEach job.number c asks said mid × IsWithJob mid job c'
+AsksEach c job asks said c' =
+    (mid : Clerk) × PutsEach job.number c asks said mid × IsWithJob mid job c'

@@ -18,12 +18,24 @@ use Rattle.clerk_turns.specs.declared.command.Command.TheVariants as command
 abbrev pub row : List ℕ → (forms : List Form) → Builds forms Command → RowOf Command
 row word forms build = record { word = word; forms = forms; says = build }
 
+-- the forms of a full name and these words, and of what names an element of a profile and these
+abbrev pub after_name : List Form → List Form
+after_name forms = One full_name_of ∷ forms
+
+abbrev pub element_forms : List Form → List Form
+element_forms forms = One element_interface_of ∷ One full_name_of ∷ forms
+
+-- the forms of the words of an import
+abbrev pub import_forms : List Form
+import_forms =
+    One confidence_of ∷ after_name (One interface_of ∷ One object_of ∷ One protocols_of ∷ [])
+
 -- the questions
 abbrev pub question_rows : List (RowOf Command)
 question_rows =
     row (codes "read") (One confidence_of ∷ One full_name_of ∷ One attr_name_of ∷ []) command.Read
     ∷ row (codes "readlink") (One confidence_of ∷ One full_name_of ∷ []) command.Readlink
-    ∷ row (codes "import") (One confidence_of ∷ One full_name_of ∷ One interface_of ∷ One object_of ∷ One protocols_of ∷ [])
+    ∷ row (codes "import") import_forms
     (λ c n i o p. command.Import c n (record { interface = i; object = o; tcp = p.0; udp = p.1 }))
     ∷ []
 
@@ -34,17 +46,21 @@ plans word forms build = row word forms (followed_by command.Plan forms build)
 -- these commands
 abbrev pub plan_rows : List (RowOf Command)
 plan_rows =
-    plans (codes "export") (One full_name_of ∷ One interface_of ∷ One bindings_of ∷ One objects_of ∷ []) plan.Export
-    ∷ plans (codes "unexport") (One full_name_of ∷ One interface_or_none_of ∷ One objects_of ∷ []) plan.Unexport
-    ∷ plans (codes "groupadd") (One full_name_of ∷ One full_name_of ∷ []) plan.Groupadd
-    ∷ plans (codes "groupdel") (One full_name_of ∷ One full_name_of ∷ []) plan.Groupdel
-    ∷ plans (codes "profadd") (One full_name_of ∷ One element_interface_of ∷ One full_name_of ∷ One priority_of ∷ One note_of ∷ []) plan.Profadd
-    ∷ plans (codes "profdel") (One full_name_of ∷ One element_interface_of ∷ One full_name_of ∷ []) plan.Profdel
+    plans (codes "export") (after_name (One interface_of ∷ One bindings_of ∷ One objects_of ∷ []))
+    plan.Export
+    ∷ plans (codes "unexport") (after_name (One interface_or_none_of ∷ One objects_of ∷ []))
+    plan.Unexport
+    ∷ plans (codes "groupadd") (after_name (One full_name_of ∷ [])) plan.Groupadd
+    ∷ plans (codes "groupdel") (after_name (One full_name_of ∷ [])) plan.Groupdel
+    ∷ plans (codes "profadd") (after_name (element_forms (One priority_of ∷ One note_of ∷ [])))
+    plan.Profadd
+    ∷ plans (codes "profdel") (after_name (element_forms [])) plan.Profdel
     ∷ []
 
 -- an update by a full name: the name, and then what the update is of
 abbrev pub updates : List ℕ → (forms : List Form) → Builds forms NamedUpdate → RowOf Command
-updates word forms build = row word (One full_name_of ∷ forms) (λ n. followed_by (command.Update n) forms build)
+updates word forms build =
+    row word (after_name forms) (λ n. followed_by (command.Update n) forms build)
 
 -- the updates that make and delete entries
 abbrev pub entry_rows : List (RowOf Command)

@@ -15,12 +15,14 @@ abbrev pub job_place : (number : ℕ) → List Job → Option ℕ
 job_place number jobs = position (λ j. j.number == number) jobs
 
 -- what is at this place is taken out
-pub record IsTaken {X : Type 0} (place : ℕ) (before : List X) (x : X) (after : List X) : Type 0 where
+pub record IsTaken {X : Type 0} (place : ℕ) (before : List X) (x : X) (after : List X)
+    : Type 0 where
   pub there : slice_get before place ≡ Some x
   pub out : after ≡ remove before place
 
 -- the first question of this number is taken out
-pub record IsQuestionTaken (number : ℕ) (before : List Question) (q : Question) (after : List Question) : Type 0 where
+pub record IsQuestionTaken (number : ℕ) (before : List Question) (q : Question)
+    (after : List Question) : Type 0 where
   pub place : ℕ
   pub first : question_place number before ≡ Some place
   pub taken : IsTaken place before q after

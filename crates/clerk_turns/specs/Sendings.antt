@@ -34,7 +34,8 @@ value_text attr value = 32 ∷ (attr ++ (32 ∷ encode_lower value))
 -- the line of a house that makes an update; no plan has a child
 abbrev pub update_text : (dir : ℕ) → Change → List ℕ
 update_text dir (Create n) = front_text (codes "create") dir n
-update_text dir (MakeLink n target) = front_text (codes "link") dir n ++ (32 ∷ full_name_octets target)
+update_text dir (MakeLink n target) =
+    front_text (codes "link") dir n ++ (32 ∷ full_name_octets target)
 update_text dir (Delete n) = front_text (codes "delete") dir n
 update_text dir (Add n a v) = front_text (codes "add") dir n ++ value_text a v
 update_text dir (Remove n a v) = front_text (codes "remove") dir n ++ value_text a v
@@ -69,8 +70,8 @@ pub record IsUnsent (s : Sending) : Type 0 where
   pub doubt : s.doubt ≡ false
 
 -- a plan is begun: none of its lines is done
-abbrev pub planned : Job → Updates → Job
-planned job u = record job { sending = record job.sending { done = 0; list = u.list; dir = u.dir } }
+abbrev pub with_plan : Job → Updates → Job
+with_plan job u = record job { sending = record job.sending { done = 0; list = u.list; dir = u.dir } }
 
 -- the first line that is not done, if there is one
 abbrev pub next_line : Sending → Option (List ℕ)
@@ -78,7 +79,8 @@ next_line s = option_map (λ u. update_text s.dir.0 (change_of u)) (slice_get s.
 
 -- that line is sent; if all are done, the answer says how many
 abbrev pub SendsLine : Option (List ℕ) → Clerk → Job → HouseNo → (said : List ℕ) → Clerk → Type 0
-SendsLine None c job house said c' = Ends c (say_text job.number (codes "ok " ++ decimal job.sending.done)) said c'
+SendsLine None c job house said c' =
+    Ends c (say_text job.number (codes "ok " ++ decimal job.sending.done)) said c'
 SendsLine (Some line) c job house said c' =
     Asks c job (record { house = house; line = line; topic = topic.Step house }) said c'
 
@@ -91,7 +93,8 @@ Sends c job house said c' = SendsLine (next_line job.sending) c job house said c
 abbrev pub fate_of_update : (last : List ℕ) → Fate
 fate_of_update last =
     if starts_with nat_eq last (codes "ok") then fate.Done
-    else (if bytes_eq last (codes "refused EntryExists") || (bytes_eq last (codes "refused NoSuchEntry")
+    else (if bytes_eq last (codes "refused EntryExists")
+    || (bytes_eq last (codes "refused NoSuchEntry")
     || (bytes_eq last (codes "refused WrongKind") || bytes_eq last (codes "refused StampsSpent")))
     then fate.Refused else fate.Again)
 
@@ -107,17 +110,17 @@ fate_of is_update last =
     if bytes_eq last (codes "refused Forbidden") then fate.Refused
     else (if is_update then fate_of_update last else fate_of_line last)
 
--- why a house did not do a line, as a client is told it: what it says, if that is a refusal
+-- why a house did not do a line, as a client hears it: what it says, if that is a refusal
 abbrev pub refusal_in : (last : List ℕ) → List ℕ
 refusal_in last = if bytes_eq (word_of last) (codes "refused") then last else codes "refused Down"
 
 -- one line more is done
-abbrev pub stepped : Job → Job
-stepped job = record job { sending = record job.sending { done = next_count job.sending.done } }
+abbrev pub one_line_on : Job → Job
+one_line_on job = record job { sending = record job.sending { done = next_count job.sending.done } }
 
 -- nobody knows whether a line was done
-abbrev pub doubted : Job → Job
-doubted job = record job { sending = record job.sending { doubt = true } }
+abbrev pub with_doubt : Job → Job
+with_doubt job = record job { sending = record job.sending { doubt = true } }
 
 -- ---- a plan that is worked out again
 
@@ -131,4 +134,6 @@ unheard = record { near = None; root = root.Unheard; answers = [] }
 
 -- a command of which nothing was heard, and that is tried once more
 abbrev pub again : Job → Job
-again job = record job { heard = unheard; latest = None; sending = record job.sending { tries = next_count job.sending.tries } }
+again job =
+    let more = record job.sending { tries = next_count job.sending.tries } in
+    record job { heard = unheard; latest = None; sending = more }

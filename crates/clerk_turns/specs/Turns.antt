@@ -40,7 +40,7 @@ use Rattle.clerk_turns.specs.Asking.{Asks, AsksEach, IsWithJob, name_ask, root_a
 use Rattle.clerk_turns.specs.ClerkRows.{command_said}
 use Rattle.clerk_turns.specs.Clerks.{TakesJob, TakesQuestion, job_place, question_place, waits_for}
 use Rattle.clerk_turns.specs.Says.{answer_said, fault_said}
-use Rattle.clerk_turns.specs.Sendings.{Ends, IsUnsent, Sends, again, doubted, fate_of, in_doubt, last_said, most_tries, planned, refusal_in, stepped}
+use Rattle.clerk_turns.specs.Sendings.{Ends, IsUnsent, Sends, again, with_doubt, fate_of, in_doubt, last_said, most_tries, with_plan, refusal_in, one_line_on}
 
 -- the one, if a test says so, and else the other
 abbrev pub Cases : Bool → (Yes No : Type 0) → Type 0
@@ -62,7 +62,8 @@ IsVain c said c' = (said ≡ []) × (c' ≡ c)
 abbrev pub later_list : Option RootList → Option RootList → Option RootList
 later_list None heard = heard
 later_list (Some latest) None = Some latest
-later_list (Some latest) (Some heard) = if nat_lt latest.epoch.0 heard.epoch.0 then Some heard else Some latest
+later_list (Some latest) (Some heard) =
+    if nat_lt latest.epoch.0 heard.epoch.0 then Some heard else Some latest
 
 -- where it is by the latest list; nowhere, if there is none
 abbrev pub root_in : Option RootList → Root
@@ -81,8 +82,8 @@ rest_root None = root.Unheard
 rest_root (Some p) = root.At p
 
 -- a command that knows where it is, by the latest list that it heard
-abbrev pub settled : Job → Job
-settled job = record job { heard = record job.heard { root = root_in job.latest }; latest = None }
+abbrev pub with_root : Job → Job
+with_root job = record job { heard = record job.heard { root = root_in job.latest }; latest = None }
 
 -- ---- how a command goes on
 
@@ -97,7 +98,8 @@ after_answer a c = if is_unreached a then record c { root = None } else c
 
 -- what was heard for a command, with one more answer
 abbrev pub with_answer : Job → Answered → Job
-with_answer job a = record job { heard = record job.heard { answers = job.heard.answers ++ a ∷ [] } }
+with_answer job a =
+    record job { heard = record job.heard { answers = job.heard.answers ++ a ∷ [] } }
 
 -- it has its answer by what was heard, and ends
 pub record HasAnswer (c : Clerk) (job : Job) (said : List ℕ) (c' : Clerk) : Type 0 where
@@ -110,7 +112,7 @@ pub record HasAnswer (c : Clerk) (job : Job) (said : List ℕ) (c' : Clerk) : Ty
 pub record HasPlan (c : Clerk) (job : Job) (said : List ℕ) (c' : Clerk) : Type 0 where
   pub updates : Updates
   pub are : ArePlanned job.heard job.command updates
-  pub sends : Sends c (planned job updates) updates.house said c'
+  pub sends : Sends c (with_plan job updates) updates.house said c'
 
 -- houses are asked at once for all names of which something lacks
 pub record Lacks (c : Clerk) (job : Job) (said : List ℕ) (c' : Clerk) : Type 0 where
@@ -125,10 +127,12 @@ GoesRooted c job said c' = HasAnswer c job said c' ⊎ (HasPlan c job said c' �
 
 -- it heard where the root directory is, and goes on so; the next commands begin there
 abbrev pub Settles : Clerk → Job → (said : List ℕ) → Clerk → Type 0
-Settles c job said c' = GoesRooted (record c { root = place_of (root_in job.latest) }) (settled job) said c'
+Settles c job said c' =
+    GoesRooted (record c { root = place_of (root_in job.latest) }) (with_root job) said c'
 
--- the house at this place is asked where the root directory is; if there is none, the command goes on
-abbrev pub AsksAtPlace : Option HouseNo → Clerk → Job → (place : ℕ) → (said : List ℕ) → Clerk → Type 0
+-- the house at this place is asked where the root directory is; without one the command goes on
+abbrev pub AsksAtPlace : Option HouseNo → Clerk → Job → (place : ℕ) → (said : List ℕ) → Clerk
+    → Type 0
 AsksAtPlace None c job place said c' = Settles c job said c'
 AsksAtPlace (Some house) c job place said c' = Asks c job (root_ask place house) said c'
 
@@ -137,7 +141,8 @@ AsksAt c job place said c' = AsksAtPlace (slice_get c.houses.items place) c job 
 
 -- if masters alone are trusted, all houses are asked at once, and else the first one; if there is
 -- none, the command goes on
-abbrev pub AsksHouses : List HouseNo → (high : Bool) → Clerk → Job → (said : List ℕ) → Clerk → Type 0
+abbrev pub AsksHouses : List HouseNo → (high : Bool) → Clerk → Job → (said : List ℕ) → Clerk
+    → Type 0
 AsksHouses [] high c job said c' = Settles c job said c'
 AsksHouses (h ∷ hs) true c job said c' = AsksEach c job (map (root_ask 0) (h ∷ hs)) said c'
 AsksHouses (h ∷ hs) false c job said c' = Asks c job (root_ask 0 h) said c'
@@ -151,7 +156,17 @@ pub record AsksRoot (c : Clerk) (job : Job) (said : List ℕ) (c' : Clerk) : Typ
 abbrev pub Goes : Clerk → Job → (said : List ℕ) → Clerk → Type 0
 Goes c job said c' = GoesRooted c job said c' ⊎ AsksRoot c job said c'
 
--- ---- a command begins
+-- ---- a command of which nothing is heard or sent yet
+abbrev pub first_job : ℕ → Command → Heard → Sending → Job
+first_job number command heard sending = record {
+  number = number;
+  command = command;
+  heard = heard;
+  latest = None;
+  sending = sending;
+}
+
+-- a command begins
 
 -- at its beginning a command knows where the root directory was, unless masters alone are trusted
 pub record IsFirst (c : Clerk) (high : Bool) (h : Heard) : Type 0 where
@@ -160,34 +175,41 @@ pub record IsFirst (c : Clerk) (high : Bool) (h : Heard) : Type 0 where
   pub answers : h.answers ≡ []
 
 -- a command begins
-pub record BeginsCommand (c : Clerk) (number : ℕ) (command : Command) (said : List ℕ) (c' : Clerk) : Type 0 where
+pub record BeginsCommand (c : Clerk) (number : ℕ) (command : Command) (said : List ℕ)
+    (c' : Clerk) : Type 0 where
   pub heard : Heard
   pub first : IsFirst c (is_high command) heard
   pub sending : Sending
   pub unsent : IsUnsent sending
-  pub goes : Goes c (record { number = number; command = command; heard = heard; latest = None; sending = sending }) said c'
+  pub goes : Goes c (first_job number command heard sending) said c'
 
 -- what says a command begins it; a fault is said
-abbrev pub BeginsSaid : Clerk → (number : ℕ) → Result Command ParseFault → (said : List ℕ) → Clerk → Type 0
+abbrev pub BeginsSaid : Clerk → (number : ℕ) → Result Command ParseFault → (said : List ℕ)
+    → Clerk → Type 0
 BeginsSaid c number (Ok command) said c' = BeginsCommand c number command said c'
 BeginsSaid c number (Err fault) said c' = Ends c (fault_said number fault) said c'
 
 -- nothing comes of it if a command of this number is under way
 abbrev pub Begins : Clerk → (number : ℕ) → (text said : List ℕ) → Clerk → Type 0
 Begins c number text said c' =
-    IfThere (job_place number c.jobs.items) (IsVain c said c') (BeginsSaid c number (command_said (words_of text)) said c')
+    IfThere (job_place number c.jobs.items) (IsVain c said c')
+    (BeginsSaid c number (command_said (words_of text)) said c')
 
 -- ---- answers of houses
 
 -- the first command of this number is taken out, and this comes of it; nothing, if there is none
-abbrev pub WithJob : Clerk → (number : ℕ) → (Clerk → Job → Type 0) → (said : List ℕ) → Clerk → Type 0
+abbrev pub WithJob : Clerk → (number : ℕ) → (Clerk → Job → Type 0) → (said : List ℕ) → Clerk
+    → Type 0
 WithJob c number P said c' =
-    IfThere (job_place number c.jobs.items) ((mid : Clerk) × (job : Job) × TakesJob number c job mid × P mid job) (IsVain c said c')
+    IfThere (job_place number c.jobs.items)
+    ((mid : Clerk) × (job : Job) × TakesJob number c job mid × P mid job) (IsVain c said c')
 
 -- the first question of this number is taken out, and this comes of it; nothing, if there is none
-abbrev pub WithQuestion : Clerk → (number : ℕ) → (Clerk → Question → Type 0) → (said : List ℕ) → Clerk → Type 0
+abbrev pub WithQuestion : Clerk → (number : ℕ) → (Clerk → Question → Type 0) → (said : List ℕ)
+    → Clerk → Type 0
 WithQuestion c number P said c' =
-    IfThere (question_place number c.questions.items) ((mid : Clerk) × (q : Question) × TakesQuestion number c q mid × P mid q) (IsVain c said c')
+    IfThere (question_place number c.questions.items)
+    ((mid : Clerk) × (q : Question) × TakesQuestion number c q mid × P mid q) (IsVain c said c')
 
 -- a command waits, and nothing is said
 abbrev pub Keeps : Clerk → Job → (said : List ℕ) → Clerk → Type 0
@@ -195,42 +217,50 @@ Keeps c job said c' = (said ≡ []) × IsWithJob c job c'
 
 -- a command waits for the other houses that were asked, or goes on
 abbrev pub GoesIfAll : Clerk → Job → (said : List ℕ) → Clerk → Type 0
-GoesIfAll c job said c' = Cases (waits_for job.number c.questions.items) (Keeps c job said c') (Goes c job said c')
+GoesIfAll c job said c' =
+    Cases (waits_for job.number c.questions.items) (Keeps c job said c') (Goes c job said c')
 
--- what a house told of a name
+-- what a house said of a name
 abbrev pub answer_to : Lack → Told → Answered
 answer_to lack t = record { dir = lack.dir; house = lack.house; name = lack.name; told = t }
 
--- a house told what shows of a name: the command goes on with that, if all have told
+-- a house said what shows of a name: the command goes on with that, if all have said so
 abbrev pub IsTold : Clerk → (number : ℕ) → Answered → (said : List ℕ) → Clerk → Type 0
-IsTold c number a said c' = WithJob c number (λ d job. GoesIfAll d (with_answer job a) said c') said c'
+IsTold c number a said c' =
+    WithJob c number (λ d job. GoesIfAll d (with_answer job a) said c') said c'
 
 -- a command waits for the others that were asked where the root directory is, or has all answers
 abbrev pub Waits : Clerk → Job → (said : List ℕ) → Clerk → Type 0
-Waits c job said c' = Cases (waits_for job.number c.questions.items) (Keeps c job said c') (Settles c job said c')
+Waits c job said c' =
+    Cases (waits_for job.number c.questions.items) (Keeps c job said c') (Settles c job said c')
 
--- a command goes on if a house told where the root directory is, and else the next house is asked
+-- a command goes on if a house said where the root directory is; else the next house is asked
 abbrev pub AsksOn : Clerk → Job → (place : ℕ) → (said : List ℕ) → Clerk → Type 0
-AsksOn c job place said c' = Cases (is_some job.latest) (Settles c job said c') (AsksAt c job (next_count place) said c')
+AsksOn c job place said c' =
+    Cases (is_some job.latest) (Settles c job said c') (AsksAt c job (next_count place) said c')
 
 -- if masters alone are trusted, all houses are waited for
 abbrev pub RootHeard : Clerk → Job → (place : ℕ) → (said : List ℕ) → Clerk → Type 0
-RootHeard c job place said c' = Cases (is_high job.command) (Waits c job said c') (AsksOn c job place said c')
+RootHeard c job place said c' =
+    Cases (is_high job.command) (Waits c job said c') (AsksOn c job place said c')
 
 -- a command for which one list more of the root directory was heard, if there is one
 abbrev pub with_list : Job → Option RootList → Job
 with_list job list = record job { latest = later_list job.latest list }
 
--- a house told where the root directory is, or nothing of that
-abbrev pub IsRootTold : Clerk → (number place : ℕ) → Option RootList → (said : List ℕ) → Clerk → Type 0
-IsRootTold c number place list said c' = WithJob c number (λ d job. RootHeard d (with_list job list) place said c') said c'
+-- a house said where the root directory is, or nothing of that
+abbrev pub IsRootTold : Clerk → (number place : ℕ) → Option RootList → (said : List ℕ) → Clerk
+    → Type 0
+IsRootTold c number place list said c' =
+    WithJob c number (λ d job. RootHeard d (with_list job list) place said c') said c'
 
 -- ---- answers to the lines of a plan
 
 -- a command is tried once more; or it was so often, and ends with this reason
 abbrev pub TriesAgain : Clerk → Job → (why said : List ℕ) → Clerk → Type 0
 TriesAgain c job why said c' =
-    Cases (nat_le most_tries job.sending.tries) (Ends c (last_said job why) said c') (Goes c job said c')
+    Cases (nat_le most_tries job.sending.tries) (Ends c (last_said job why) said c')
+    (Goes c job said c')
 
 -- a plan is worked out again, of what houses say now
 abbrev pub PlansAgain : Clerk → Job → (why said : List ℕ) → Clerk → Type 0
@@ -243,26 +273,30 @@ StepComes fate.Refused c job house last said c' = Ends c (last_said job last) sa
 StepComes fate.Spent c job house last said c' =
     Ends c (last_said job (codes "refused StampsSpent " ++ decimal job.sending.done)) said c'
 StepComes fate.Again c job house last said c' = PlansAgain c job (refusal_in last) said c'
-StepComes fate.Next c job house last said c' = Sends c (stepped job) house said c'
+StepComes fate.Next c job house last said c' = Sends c (one_line_on job) house said c'
 
 -- a house answered to a line
 abbrev pub StepTold : Clerk → Job → HouseNo → (last said : List ℕ) → Clerk → Type 0
-StepTold c job house last said c' = StepComes (fate_of (is_update job.command) last) c job house last said c'
+StepTold c job house last said c' =
+    StepComes (fate_of (is_update job.command) last) c job house last said c'
 
 -- the house of a line is not reached: nobody knows whether it was done
 abbrev pub StepDown : Clerk → Job → (said : List ℕ) → Clerk → Type 0
 StepDown c job said c' =
     Cases (may_repeat job.command)
-    (PlansAgain c (doubted job) (codes "refused Down") said c')
-    (Ends c (last_said (doubted job) (codes "refused Down")) said c')
+    (PlansAgain c (with_doubt job) (codes "refused Down") said c')
+    (Ends c (last_said (with_doubt job) (codes "refused Down")) said c')
 
 -- ---- lines
 
 -- a question has its whole answer, of which this is the last line
 abbrev pub AnswersTopic : Topic → Clerk → (job : ℕ) → (last said : List ℕ) → Clerk → Type 0
-AnswersTopic (topic.Show lack hearing) c job last said c' = IsTold c job (answer_to lack (told_at_end hearing last)) said c'
-AnswersTopic (topic.Root place) c job last said c' = IsRootTold c job place (root_said (words_of last)) said c'
-AnswersTopic (topic.Step house) c number last said c' = WithJob c number (λ d job. StepTold d job house last said c') said c'
+AnswersTopic (topic.Show lack hearing) c job last said c' =
+    IsTold c job (answer_to lack (told_at_end hearing last)) said c'
+AnswersTopic (topic.Root place) c job last said c' =
+    IsRootTold c job place (root_said (words_of last)) said c'
+AnswersTopic (topic.Step house) c number last said c' =
+    WithJob c number (λ d job. StepTold d job house last said c') said c'
 
 -- what was heard of an answer with one more line
 abbrev pub topic_with : Topic → List ℕ → Topic
@@ -273,7 +307,8 @@ topic_with (topic.Step house) line = topic.Step house
 -- a line of an answer that has more is kept
 pub record HearsMore (c : Clerk) (q : Question) (line said : List ℕ) (c' : Clerk) : Type 0 where
   pub text : said ≡ []
-  pub questions : c'.questions.items ≡ c.questions.items ++ record q { topic = topic_with q.topic line } ∷ []
+  pub questions : c'.questions.items
+      ≡ c.questions.items ++ record q { topic = topic_with q.topic line } ∷ []
   pub near : c'.near ≡ c.near
   pub houses : c'.houses ≡ c.houses
   pub root : c'.root ≡ c.root
@@ -282,7 +317,8 @@ pub record HearsMore (c : Clerk) (q : Question) (line said : List ℕ) (c' : Cle
 
 -- a line of the answer to this question: the last one, or not
 abbrev pub HearsLine : Clerk → Question → (line said : List ℕ) → Clerk → Type 0
-HearsLine c q line said c' = Cases (is_last line) (AnswersTopic q.topic c q.job line said c') (HearsMore c q line said c')
+HearsLine c q line said c' =
+    Cases (is_last line) (AnswersTopic q.topic c q.job line said c') (HearsMore c q line said c')
 
 -- a line of the answer to a question
 abbrev pub Hears : Clerk → (number : ℕ) → (line said : List ℕ) → Clerk → Type 0
@@ -292,7 +328,8 @@ Hears c number line said c' = WithQuestion c number (λ d q. HearsLine d q line 
 abbrev pub TopicDown : Topic → Clerk → (job : ℕ) → (said : List ℕ) → Clerk → Type 0
 TopicDown (topic.Show lack hearing) c job said c' = IsTold c job (answer_to lack Passed) said c'
 TopicDown (topic.Root place) c job said c' = IsRootTold c job place None said c'
-TopicDown (topic.Step house) c number said c' = WithJob c number (λ d job. StepDown d job said c') said c'
+TopicDown (topic.Step house) c number said c' =
+    WithJob c number (λ d job. StepDown d job said c') said c'
 
 -- the house of a question is not reached
 abbrev pub IsDown : Clerk → (number : ℕ) → (said : List ℕ) → Clerk → Type 0

@@ -10,8 +10,8 @@ use clerk_lines::{Hearing, RootList};
 use directory::Update;
 use std::alloc::Global;
 
-/// A command that is under way: its number, what was heard for it, of the lists of the root directory
-/// that were heard the latest, and the lines of its plan.
+/// A command that is under way: its number, what was heard for it, the latest list of the root
+/// directory that was heard, and the lines of its plan.
 #[derive(Drop)]
 pub struct Job {
     pub number: u64,

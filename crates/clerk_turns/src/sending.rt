@@ -6,7 +6,7 @@ ghost use Rattle.directory.specs.Updates.{change_of};
 ghost use Rattle.clerk_lines.specs.ClerkTexts.{say_text};
 ghost use Rattle.clerk_lines.specs.Hearings.{word_of};
 ghost use Rattle.ns_commands.specs.declared.updates.Updates.{Updates};
-ghost use Rattle.clerk_turns.specs.Sendings.{IsUnsent, Sends, again, doubted, fate_of, fate_of_line, fate_of_update, front_text, in_doubt, last_said, next_line, planned, refusal_in, stepped, update_text, value_text};
+ghost use Rattle.clerk_turns.specs.Sendings.{IsUnsent, Sends, again, with_doubt, fate_of, fate_of_line, fate_of_update, front_text, in_doubt, last_said, next_line, with_plan, refusal_in, one_line_on, update_text, value_text};
 ghost use Rattle.clerk_turns.specs.Turns.{PlansAgain, StepComes, StepDown, StepTold, TriesAgain};
 
 use crate::clerk::{Clerk, Job, Sending, Topic};
@@ -212,7 +212,7 @@ fn first_word(line: &[u8]) -> &[u8]
     }
 }
 
-// Why a house did not do a line, as a client is told it: what it says, if that is a refusal.
+// Why a house did not do a line, as a client hears it: what it says, if that is a refusal.
 fn refusal_in(last: &[u8]) -> &[u8]
     ensures { result.now ≡ refusal_in last.now }
 {
@@ -224,8 +224,8 @@ fn refusal_in(last: &[u8]) -> &[u8]
 }
 
 // A plan is begun.
-fn planned(mut job: Job, dir: DirId, list: Vec<Update>) -> Job
-    ensures { (u : Updates) → u.dir ≡ dir → u.list ≡ list → result ≡ planned job u }
+fn with_plan(mut job: Job, dir: DirId, list: Vec<Update>) -> Job
+    ensures { (u : Updates) → u.dir ≡ dir → u.list ≡ list → result ≡ with_plan job u }
 {
     job.sending.done = 0;
     job.sending.list = list;
@@ -234,16 +234,16 @@ fn planned(mut job: Job, dir: DirId, list: Vec<Update>) -> Job
 }
 
 // One line more is done.
-fn stepped(mut job: Job) -> Job
-    ensures { result ≡ stepped job }
+fn one_line_on(mut job: Job) -> Job
+    ensures { result ≡ one_line_on job }
 {
     job.sending.done = job.sending.done.saturating_add(1);
     job
 }
 
 // Nobody knows whether a line was done.
-fn doubted(mut job: Job) -> Job
-    ensures { result ≡ doubted job }
+fn with_doubt(mut job: Job) -> Job
+    ensures { result ≡ with_doubt job }
 {
     job.sending.doubt = true;
     job
@@ -285,8 +285,8 @@ fn say(alloc: Global, command: u64, line: &[u8]) -> Result<Vec<u8>, AllocError>
     Ok(text)
 }
 
-/// A text with the word `doubt` at the end of its last line, if a line was sent of which nobody knows
-/// whether it was done.
+/// A text with the word `doubt` at the end of its last line, if a line was sent of which nobody
+/// knows whether it was done.
 pub(crate) fn in_doubt(doubt: bool, mut text: Vec<u8>) -> Result<Vec<u8>, AllocError>
     ensures { IfOk result (λ v. v.items ≡ in_doubt doubt text.items) }
 {
@@ -347,10 +347,10 @@ impl Clerk {
         updates: Updates,
     ) -> Result<Vec<u8>, AllocError>
         ensures { IfOk result
-            (λ text. Sends self.old (planned job updates) updates.house text.items self.new) }
+            (λ text. Sends self.old (with_plan job updates) updates.house text.items self.new) }
     {
         let Updates { house, dir, list } = updates;
-        self.send_next(alloc, planned(job, dir, list), house)
+        self.send_next(alloc, with_plan(job, dir, list), house)
     }
 
     // What comes of the answer of a house to a line.
@@ -370,7 +370,7 @@ impl Clerk {
             Fate::Refused => say_last(alloc, &job, last),
             Fate::Spent => say_spent(alloc, &job),
             Fate::Again => self.plan_again(alloc, job, refusal_in(last)),
-            Fate::Next => self.send_next(alloc, stepped(job), house),
+            Fate::Next => self.send_next(alloc, one_line_on(job), house),
         }
     }
 
@@ -394,7 +394,7 @@ impl Clerk {
         ensures { IfOk result (λ text. StepDown self.old job text.items self.new) }
     {
         let may_repeat = job.command.may_repeat();
-        let job = doubted(job);
+        let job = with_doubt(job);
         if may_repeat {
             self.plan_again(alloc, job, DOWN)
         } else {

@@ -8,7 +8,7 @@ ghost use Rattle.clerk_turns.specs.Answers.{ArePlanned, AreWanted, IsAnswer};
 ghost use Rattle.clerk_turns.specs.Asking.{Asks, AsksEach, IsWithJob, Puts, PutsEach, name_ask, root_ask};
 ghost use Rattle.clerk_turns.specs.ClerkRows.{command_said};
 ghost use Rattle.clerk_turns.specs.Commands.{is_high};
-ghost use Rattle.clerk_turns.specs.Turns.{AnswersTopic, AsksAt, AsksHouses, AsksOn, Begins, BeginsCommand, BeginsSaid, Goes, GoesIfAll, GoesRooted, HearsLine, HearsMore, Hears, IsDown, IsFirst, IsRootTold, IsTold, IsTurn, Keeps, RootHeard, Settles, StepDown, StepTold, TakesWord, TopicDown, Waits, WithJob, after_answer, answer_to, is_unreached, later_list, place_of, rest_root, root_in, settled, topic_with, with_answer, with_list};
+ghost use Rattle.clerk_turns.specs.Turns.{AnswersTopic, AsksAt, AsksHouses, AsksOn, Begins, BeginsCommand, BeginsSaid, Goes, GoesIfAll, GoesRooted, HearsLine, HearsMore, Hears, IsDown, IsFirst, IsRootTold, IsTold, IsTurn, Keeps, RootHeard, Settles, StepDown, StepTold, TakesWord, TopicDown, Waits, WithJob, after_answer, answer_to, is_unreached, later_list, place_of, rest_root, root_in, with_root, topic_with, with_answer, with_list};
 
 use crate::clerk::{Clerk, Job, Question, Topic, waits_for};
 use crate::command::{Command, parse_command};
@@ -79,8 +79,8 @@ fn rest_root(alloc: Global, place: &Option<ChildPointer>) -> Result<Root, AllocE
 }
 
 // A command that knows where the root directory is, by the latest list that it heard.
-fn settled(job: Job) -> Job
-    ensures { result ≡ settled job }
+fn with_root(job: Job) -> Job
+    ensures { result ≡ with_root job }
 {
     let Job {
         number,
@@ -181,7 +181,7 @@ fn with_list(job: Job, list: Option<RootList>) -> Job
     }
 }
 
-// What a house told of a name.
+// What a house said of a name.
 fn answer_to(lack: Lack, told: Told) -> Answered
     ensures { result ≡ answer_to lack told }
 {
@@ -194,7 +194,7 @@ fn answer_to(lack: Lack, told: Told) -> Answered
     }
 }
 
-// The same.
+// A copy of what lacks.
 fn copy_of(alloc: Global, lack: &Lack) -> Result<Lack, AllocError>
     ensures { IfOk result (λ q. q ≡ lack.now) }
 {
@@ -377,7 +377,7 @@ impl Clerk {
     fn settle(&mut self, alloc: Global, job: Job) -> Result<Vec<u8>, AllocError>
         ensures { IfOk result (λ text. Settles self.old job text.items self.new) }
     {
-        let job = settled(job);
+        let job = with_root(job);
         self.root = place_of(alloc, &job.heard.root)?;
         self.go_rooted(alloc, job)
     }
@@ -571,7 +571,7 @@ impl Clerk {
         self.go_if_all(alloc, job)
     }
 
-    // A house told what shows of a name, or is not reached.
+    // A house said what shows of a name, or is not reached.
     fn take_told(
         &mut self,
         alloc: Global,
@@ -621,7 +621,7 @@ impl Clerk {
         }
     }
 
-    // A house told where the root directory is, or told nothing of that.
+    // A house said where the root directory is, or said nothing of that.
     fn root_told(
         &mut self,
         alloc: Global,
@@ -768,8 +768,8 @@ impl Clerk {
 
     /// What a clerk makes of a line: what it says and asks then. A line that is none of a clerk's,
     /// or is about a question that nobody asked, changes nothing; nor does a command whose number
-    /// one has that is under way. After want of memory a command may be lost, and the clerk is not
-    /// to be asked again.
+    /// one has that is under way. If memory ran out a command may be lost, and the clerk is not to
+    /// be asked again.
     pub fn next(&mut self, alloc: Global, line: &[u8]) -> Result<Vec<u8>, AllocError>
         ensures { IfOk result (λ text. IsTurn self.old line.now text.items self.new) }
     {

@@ -15,4 +15,4 @@ pub returns-in-Again : goal.returns-in-Again
 returns-in-Again c = rw c.in-Again.is (rw c.refusal_in.ensures at c.plan_again.ensures)
 
 pub returns-in-Next : goal.returns-in-Next
-returns-in-Next c = rw c.in-Next.is (rw c.stepped.ensures at c.send_next.ensures)
+returns-in-Next c = rw c.in-Next.is (rw c.one_line_on.ensures at c.send_next.ensures)
