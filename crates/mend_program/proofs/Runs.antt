@@ -15,7 +15,7 @@ use Rattle.mend_replay.specs.Quiet.{running_quietly}
 use Rattle.script_replay.specs.Replies.{Numbered, steps_of}
 use Rattle.line_forms.specs.Demand.{Demand, Sound, line_demand}
 use Rattle.mend_program.specs.MendForm.{mend_form}
-use Rattle.mend_replay.specs.MendRules.{mend_rule, mending}
+use Rattle.mend_replay.specs.MendRules.{mend_rule, mend_state}
 use Rattle.script_replay.specs.Headline.{cell_after_script, commands_from}
 use Rattle.cds_base.specs.RunEnds.{Run}
 use Rattle.line_forms.specs.Runs.{IsWhole, Wrote}
@@ -67,12 +67,12 @@ named_directory (w ∷ dash ∷ houses) d is = by_test (bytes_eq dash (codes "-"
 -- the script that was read
 pub is_mending : (d : ℕ) (hs : List ℕ) (run : Run) → IsDirectory d → Wrote (mend_form d hs) run IsWhole → IsMending d hs run
 is_mending d hs run dir wrote =
-    let script = faultless_script mend_rule running_quietly (mending d hs) (λ number g line. refl) empty_cell wrote.read
+    let script = faultless_script mend_rule running_quietly (mend_state d hs) (λ number g line. refl) empty_cell wrote.read
     (subst (λ (x : Demand). x.verdict ≡ Sound) (sym wrote.demands) wrote.due.0) in
     let text : List ℕ = mend_text d hs (cell_after_script script.1) in
     let is_demand : wrote.demand ≡ told_with [] text =
-    sym wrote.demands ∙ ap (line_demand mend_rule (mending d hs empty_cell)) script.2
-    ∙ script_due mend_rule running_quietly (mending d hs) (λ number g line. refl) empty_cell script.0 script.1 script.3
+    sym wrote.demands ∙ ap (line_demand mend_rule (mend_state d hs empty_cell)) script.2
+    ∙ script_due mend_rule running_quietly (mend_state d hs) (λ number g line. refl) empty_cell script.0 script.1 script.3
     ∙ ap (λ (body : List ℕ). told_with body (mend_text d hs (state_after_lines running_quietly empty_cell script.1))) (quiet_transcript empty_cell script.1)
     ∙ ap (λ (g : Cell). told_with [] (mend_text d hs g)) (quiet_cell empty_cell script.1) in
     record {

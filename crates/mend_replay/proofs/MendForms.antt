@@ -16,7 +16,7 @@ use Rattle.reply_buffer.specs.LineEnds.{Ends}
 use Rattle.reply_buffer.specs.Responses.{ResponseOf, GoesOn, Stops, Fills, in_state}
 use Rattle.script_replay.specs.Dialogues.{reply_of}
 use Rattle.mend_replay.specs.MendLines.{mend_text}
-use Rattle.mend_replay.specs.MendRules.{MendState, MendsAt, mend_rule, mending}
+use Rattle.mend_replay.specs.MendRules.{MendState, MendsAt, mend_rule, mend_state}
 use Rattle.mend_replay.specs.Quiet.{running_quietly}
 use Rattle.mend_replay.specs.declared.mender.Mender.{Mender}
 
@@ -41,7 +41,7 @@ pub mend_ends : (m m' : Mender) (e : LineEnd) (number : ℕ) (octets waited wait
     → Ends e (reply_of running_quietly number g (said_in (words_of octets))) waited waits (Stands m'.replayer.cell))
     → Ends e (mend_rule.response number s octets) waited waits (MendsAt m')
 mend_ends m m' e number octets waited waits s at same kept ends =
-    state_ends e (reply_of running_quietly number s.cell (said_in (words_of octets))) (mending s.dir s.without) waited waits
+    state_ends e (reply_of running_quietly number s.cell (said_in (words_of octets))) (mend_state s.dir s.without) waited waits
     (Stands m'.replayer.cell) (MendsAt m')
     (λ next stands. (ap (λ (dir : DirId). dir.0) same ∙ at.0, ap (λ (v : Vec HouseNo Global). numbers_of v.items) kept ∙ at.1, stands)) (ends s.cell at.2)
 

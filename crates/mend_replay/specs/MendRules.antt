@@ -21,14 +21,14 @@ pub record MendState : Type 0 where
   pub cell : Cell
 
 -- a directory is to be mended in a cell, without these houses
-abbrev pub mending : (dir : ℕ) → (without : List ℕ) → Cell → MendState
-mending dir hs g = record { dir = dir; without = hs; cell = g }
+abbrev pub mend_state : (dir : ℕ) → (without : List ℕ) → Cell → MendState
+mend_state dir hs g = record { dir = dir; without = hs; cell = g }
 
 -- lines are replayed without answers, and in the end it says what mends the directory
 abbrev pub mend_rule : LineRule MendState
 mend_rule =
     record {
-      response = λ number s line. in_state (mending s.dir s.without) (reply_of running_quietly number s.cell (said_in (words_of line)));
+      response = λ number s line. in_state (mend_state s.dir s.without) (reply_of running_quietly number s.cell (said_in (words_of line)));
       end_text = λ s. mend_text s.dir s.without s.cell;
       fault_text = line_fault_text;
     }

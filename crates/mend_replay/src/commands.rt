@@ -40,7 +40,7 @@ pub(crate) fn mend_text(
     }
 }
 
-// The same of a directory with this last epoch and these members.
+// Likewise of a directory with this last epoch and these members.
 fn listed_text(
     alloc: Global,
     cell: &Cell,

@@ -36,7 +36,7 @@ pub(crate) fn leaving_text(
     }
 }
 
-// The same with this house as the master.
+// Likewise with this house as the master.
 fn led_text(
     alloc: Global,
     cell: &Cell,
