@@ -51,7 +51,8 @@ impl<D: Disk + Drop> Server<D> {
 
     /// The house that the last image of a disk gives.
     pub fn start(alloc: Global, disk: D) -> Result<Server<D>>
-        ensures { IfOk result (λ s. option_map start_of_octets (last_image (D.reads disk)) ≡ Some (Ok s.house)) }
+        ensures { IfOk result
+            (λ s. option_map start_of_octets (last_image (D.reads disk)) ≡ Some (Ok s.house)) }
     {
         let (store, image) = Store::open(alloc, disk)?;
         let image = image.context("the disk has no image")?;
