@@ -72,6 +72,19 @@ pub data IsVisited (r : Reader) (wanted : Interface) (first : List (List ℕ))
       → Reaches (edges r wanted) start e → Contains (names_of r wanted e) name
       → IsVisited r wanted first name
 
+-- over a reader a search that begins at a name comes to this entry
+pub record IsReached (r : Reader) (wanted : Interface) (first : List (List ℕ)) (e : Found)
+    : Type 0 where
+  pub start : Found
+  pub begins : object_of r first ≡ Some start
+  pub reached : Reaches (edges r wanted) start e
+
+-- over each reader that agrees with what was heard it comes to these entries
+pub record AreReached (h : Heard) (wanted : Interface) (first : List (List ℕ))
+    (entries : List Found) : Type 0 where
+  pub each : (e : Found) → Contains entries e → (r : Reader) → Agrees r h
+      → IsReached r wanted first e
+
 -- a search needs this: over each reader that agrees with what was heard it comes to a name of which
 -- the walk needs it
 pub record IsSought (h : Heard) (wanted : Interface) (first : List (List ℕ)) (q : Lack)
@@ -142,6 +155,7 @@ pub record Settles (h : Heard) (wanted : Interface) (end : End) (entries : List 
   pub among : IfSome (object_in end) (Contains entries')
   pub added : (e : Found) → Contains entries' e → IsKnown h wanted entries names' e
   pub ahead : (n : List (List ℕ)) → Contains names' n → Contains names n ⊎ IsAhead h wanted end n
+  pub only : (e : Found) → Contains entries' e → Contains entries e ⊎ (object_in end ≡ Some e)
 
 -- a search under way, with what it asked for so far: it comes to each name that is still to walk
 pub record IsUnderWay (h : Heard) (wanted : Interface) (first : List (List ℕ))
@@ -149,6 +163,7 @@ pub record IsUnderWay (h : Heard) (wanted : Interface) (first : List (List ℕ))
   pub so_far : IsSearch h wanted first entries names lacks
   pub comes : (n : List (List ℕ)) → Contains names n → (r : Reader) → Agrees r h
       → IsVisited r wanted first n
+  pub reached : AreReached h wanted first entries
   pub once : IsDistinct same_lack lacks
   pub unheard : All (IsUnheard h) lacks
   pub sought : All (IsSought h wanted first) lacks

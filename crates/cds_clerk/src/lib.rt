@@ -10,6 +10,7 @@ mod linking;
 mod planning;
 mod reading;
 mod searching;
+mod unreached;
 mod walking;
 
 pub use heard::{Answered, Answers, Heard, Lack, Looked, Root};
@@ -19,4 +20,5 @@ pub use linking::read_link;
 pub use planning::{NamedUpdate, Plan, Planned, plan_of, plan_update};
 pub use reading::{Outcome, read};
 pub use searching::Searched;
+pub use unreached::unreached;
 pub use walking::{Walked, walk};

@@ -1,6 +1,6 @@
 // Imports over what was heard.
 use crate::reads::shown;
-use cds_clerk::{Answered, Answers, Heard, Root, Searched, import};
+use cds_clerk::{Answered, Answers, Heard, Root, Searched, import, unreached};
 use cds_stamps::{DirId, HouseNo, SimpleName};
 use cell_names::{ChildPointer, FullName, HouseList};
 use clerk_lines::Told;
@@ -24,8 +24,19 @@ fn rooted(alloc: Global) -> Result<Heard, Fail> {
 
 // House 1 says this of a name of the root directory.
 fn says(alloc: Global, heard: &mut Heard, name: &[u8], told: Told) -> Result<(), Fail> {
+    says_of(alloc, heard, DirId::ROOT, name, told)
+}
+
+// House 1 says this of a name.
+fn says_of(
+    alloc: Global,
+    heard: &mut Heard,
+    dir: DirId,
+    name: &[u8],
+    told: Told,
+) -> Result<(), Fail> {
     heard.answers.push(Answered {
-        dir: DirId::ROOT,
+        dir,
         house: HouseNo(1),
         name: SimpleName::parse(alloc, name)?,
         told,
@@ -114,9 +125,68 @@ fn a_search_begins_at_an_object(rt: HostRuntime) -> Result<(), Fail> {
     says(alloc, &mut heard, b"g", shown(alloc, &[b"link /.:/h"])?)?;
     says(alloc, &mut heard, b"h", Told::Absent)?;
     let answer = imported(alloc, &heard)?;
-    assert!(rt; matches!(&answer,
-        Searched::Closed(Answer::Refused(ScriptRefusal::NoSuchName(0)))));
+    assert!(rt;
+        matches!(
+            &answer,
+            Searched::Closed(Answer::Refused(ScriptRefusal::NoSuchName(0)))
+        )
+    );
     heard.root = Root::Unheard;
     assert!(rt; matches!(&imported(alloc, &heard)?, Searched::LacksRoot));
+    Ok(())
+}
+
+// The numbers of the directories that an import did not reach, each after a space.
+fn lost(alloc: Global, heard: &Heard) -> Result<Vec<u8>, Fail> {
+    let name = FullName::parse(alloc, b"/.:/g")?;
+    let searched = unreached(alloc, heard, &name, &wanted()?.interface)?;
+    let Searched::Closed(dirs) = &searched else {
+        return Err("a closed search".into());
+    };
+    let mut text = Vec::new(alloc);
+    for dir in dirs {
+        text.push(b' ')?;
+        text.push(b'0' + (dir.0 % 10) as u8)?;
+    }
+    Ok(text)
+}
+
+// A group of a name below /.:/c and two names below /.:/d.
+const FAR: [&[u8]; 5] = [
+    b"object",
+    b"attr RPC_Group",
+    b"value 2f2e3a2f632f78",
+    b"value 2f2e3a2f642f78",
+    b"value 2f2e3a2f642f79",
+];
+
+#[test]
+fn a_search_says_what_it_did_not_reach(rt: HostRuntime) -> Result<(), Fail> {
+    let alloc = rt.alloc();
+    let mut heard = rooted(alloc)?;
+    says(alloc, &mut heard, b"g", shown(alloc, &FAR)?)?;
+    says(alloc, &mut heard, b"c", shown(alloc, &[b"child 9 1"])?)?;
+    says(alloc, &mut heard, b"d", shown(alloc, &[b"child 3 1"])?)?;
+    says_of(alloc, &mut heard, DirId(9), b"x", Told::Passed)?;
+    says_of(alloc, &mut heard, DirId(3), b"x", Told::Passed)?;
+    says_of(alloc, &mut heard, DirId(3), b"y", Told::Passed)?;
+    // Directory 3 is not reached at two names.
+    assert_eq!(rt; lost(alloc, &heard)?.as_slice(), b" 3 9".as_slice());
+    Ok(())
+}
+
+#[test]
+fn an_import_that_does_not_begin_says_no_more(rt: HostRuntime) -> Result<(), Fail> {
+    let alloc = rt.alloc();
+    let mut heard = rooted(alloc)?;
+    says(alloc, &mut heard, b"g", Told::Passed)?;
+    let answer = imported(alloc, &heard)?;
+    assert!(rt;
+        matches!(
+            &answer,
+            Searched::Closed(Answer::Refused(ScriptRefusal::Unreachable(DirId(1))))
+        )
+    );
+    assert_eq!(rt; lost(alloc, &heard)?.as_slice(), b"".as_slice());
     Ok(())
 }
