@@ -5,7 +5,7 @@ use Rattle.std.specs.List.Sorted.{IsStrictlySortedBy}
 use Rattle.std.specs.Ordering.{nat_cmp}
 use Rattle.std.proofs.lemmas.List.Filters.{dedup_is}
 use Rattle.cds_clerk.proofs.UnreachedLaws.{once_ascend, once_same}
-use Rattle.cds_clerk.proofs.unreached.in_order.Goals as goal
+use Rattle.cds_clerk.proofs.reaching.in_order.Goals as goal
 
 pub returns-clause-ascending : goal.returns-clause-ascending
 returns-clause-ascending c =

@@ -2,7 +2,7 @@ use Rattle.std.proofs.Common.{ℕ, List, ◌++◌, sym, ap, ◌∙◌}
 use Rattle.std.specs.Option.{option_to_list}
 use Rattle.cds_clerk.specs.Unreached.{unreached_at}
 use Rattle.cds_clerk.proofs.UnreachedLaws.{made_more}
-use Rattle.cds_clerk.proofs.unreached.unreached_among.Goals as goal
+use Rattle.cds_clerk.proofs.reaching.unreached_among.Goals as goal
 
 pub loop-name-preserved : goal.loop-name-preserved
 loop-name-preserved c =

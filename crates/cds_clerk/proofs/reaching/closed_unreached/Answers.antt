@@ -1,6 +1,6 @@
 use Rattle.resolver.proofs.PassLaws.{if_ok}
 use Rattle.cds_clerk.proofs.UnreachedLaws.{are_unreached}
-use Rattle.cds_clerk.proofs.unreached.closed_unreached.Goals as goal
+use Rattle.cds_clerk.proofs.reaching.closed_unreached.Goals as goal
 
 pub returns : goal.returns
 returns c =

@@ -1,7 +1,7 @@
 use Rattle.std.proofs.Common.{ℕ, List, ◌++◌, sym, ap, ◌∙◌}
 use Rattle.cds_clerk.specs.Unreached.{unreached_from}
 use Rattle.cds_clerk.proofs.UnreachedLaws.{lists_more}
-use Rattle.cds_clerk.proofs.unreached.all_unreached.Goals as goal
+use Rattle.cds_clerk.proofs.reaching.all_unreached.Goals as goal
 
 pub loop-entry-preserved : goal.loop-entry-preserved
 loop-entry-preserved c =

@@ -2,7 +2,7 @@ use Rattle.std.proofs.Common.{Vec, Global}
 use Rattle.resolver.specs.declared.seen.Found.{Found}
 use Rattle.cds_clerk.specs.Searches.{AreReached, IsClosed}
 use Rattle.cds_clerk.proofs.SearchLaws.{if_closed}
-use Rattle.cds_clerk.proofs.unreached.unreached.Goals as goal
+use Rattle.cds_clerk.proofs.reaching.unreached.Goals as goal
 
 pub closed_unreached-requires-clause-closed : goal.closed_unreached-requires-clause-closed
 closed_unreached-requires-clause-closed c =
