@@ -43,7 +43,7 @@ filter_same f g [] same = refl
 filter_same f g (x ∷ xs) same =
     ap₂ (λ (o : Option _) (rest : List _). cons_option o rest) (same x (Contains-head x xs)) (filter_same f g xs (λ y c. same y (Contains-tail x xs y c)))
 
-filter_from : {A B : Type 0} (f : A → Option B) (xs : List A) (y : B) → Contains (filter_map f xs) y → (x : A) × Contains xs x × (f x ≡ Some y)
+pub filter_from : {A B : Type 0} (f : A → Option B) (xs : List A) (y : B) → Contains (filter_map f xs) y → (x : A) × Contains xs x × (f x ≡ Some y)
 filter_from f [] y c = absurd (Contains-none y c)
 filter_from {A} {B} f (x ∷ xs) y c = by_found (f x) refl (filter_from f xs y) c
   where

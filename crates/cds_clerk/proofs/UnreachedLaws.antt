@@ -1,5 +1,5 @@
 -- The directories that a closed search did not reach.
-use Rattle.std.proofs.Common.{◌≡◌, ℕ, zero, suc, ◌+◌, ◌<◌, List, [], ◌∷◌, ◌++◌, take, length, map, get_or, refl, sym, ap, subst, ◌∙◌, inl, inr, ⊎_elim, append_assoc, arith}
+use Rattle.std.proofs.Common.{◌≡◌, ℕ, zero, suc, ◌+◌, ◌<◌, true, List, [], ◌∷◌, ◌++◌, take, length, map, get_or, refl, sym, ap, subst, ◌∙◌, inl, inr, ⊎_elim, append_assoc, arith}
 use Rattle.std.specs.Prelude.{◌↔◌, Option, Some, None, Result, Ok, Err, IfSome, IfOk, eqb}
 use Rattle.std.specs.List.{Contains, cons_option, dedup, filter_map, flat_map}
 use Rattle.std.specs.List.Sorted.{IsPermutation, IsSorted, IsStrictlySortedBy}
@@ -32,32 +32,43 @@ use Rattle.cds_clerk.proofs.SearchLaws.{Contains-filter_map, names_alike}
 -- ---- lists
 
 -- what is made of one more item
-pub made_more : {A B : Type 0} (f : A → Option B) (xs : List A) (i : ℕ) (x : A) → i < length xs → x ≡ get_or xs i x
-    → filter_map f (take (i + 1) xs) ≡ filter_map f (take i xs) ++ option_to_list (f x)
-made_more f [] i x inside at = absurd (omega arith)
-made_more {A} {B} f (y ∷ ys) zero x inside at = first (f y) ∙ ap (λ (z : A). option_to_list (f z)) (sym at)
+made_on : {A B : Type 0} (f : A → Option B) (xs : List A) (i : ℕ) (x : A) → i < length xs → x ≡ get_or xs i x
+    → filter_map f (take (suc i) xs) ≡ filter_map f (take i xs) ++ option_to_list (f x)
+made_on f [] i x inside at = absurd (omega arith)
+made_on {A} {B} f (y ∷ ys) zero x inside at = first (f y) ∙ ap (λ (z : A). option_to_list (f z)) (sym at)
   where
     first : (o : Option B) → cons_option o [] ≡ option_to_list o
     first None = refl
     first (Some b) = refl
-made_more {A} {B} f (y ∷ ys) (suc i) x inside at = front (f y) (made_more f ys i x (omega (arith, inside)) at)
+made_on {A} {B} f (y ∷ ys) (suc i) x inside at = front (f y) (made_on f ys i x (omega (arith, inside)) at)
   where
-    front : (o : Option B) → filter_map f (take (i + 1) ys) ≡ filter_map f (take i ys) ++ option_to_list (f x)
-        → cons_option o (filter_map f (take (i + 1) ys)) ≡ cons_option o (filter_map f (take i ys)) ++ option_to_list (f x)
+    front : (o : Option B) → filter_map f (take (suc i) ys) ≡ filter_map f (take i ys) ++ option_to_list (f x)
+        → cons_option o (filter_map f (take (suc i) ys)) ≡ cons_option o (filter_map f (take i ys)) ++ option_to_list (f x)
     front None same = same
     front (Some b) same = ap (λ (bs : List B). b ∷ bs) same
 
+next : (i : ℕ) → i + 1 ≡ suc i
+next i = omega arith
+
+pub made_more : {A B : Type 0} (f : A → Option B) (xs : List A) (i : ℕ) (x : A) → i < length xs → x ≡ get_or xs i x
+    → filter_map f (take (i + 1) xs) ≡ filter_map f (take i xs) ++ option_to_list (f x)
+made_more f xs i x inside at = ap (λ (k : ℕ). filter_map f (take k xs)) (next i) ∙ made_on f xs i x inside at
+
 -- the lists of one more item
-pub lists_more : {A B : Type 0} (g : A → List B) (xs : List A) (i : ℕ) (x : A) → i < length xs → x ≡ get_or xs i x
-    → flat_map g (take (i + 1) xs) ≡ flat_map g (take i xs) ++ g x
-lists_more g [] i x inside at = absurd (omega arith)
-lists_more {A} {B} g (y ∷ ys) zero x inside at = append-nil (g y) ∙ ap g (sym at)
+lists_on : {A B : Type 0} (g : A → List B) (xs : List A) (i : ℕ) (x : A) → i < length xs → x ≡ get_or xs i x
+    → flat_map g (take (suc i) xs) ≡ flat_map g (take i xs) ++ g x
+lists_on g [] i x inside at = absurd (omega arith)
+lists_on {A} {B} g (y ∷ ys) zero x inside at = append-nil (g y) ∙ ap g (sym at)
   where
     append-nil : (bs : List B) → bs ++ [] ≡ bs
     append-nil [] = refl
     append-nil (b ∷ bs) = ap (λ (cs : List B). b ∷ cs) (append-nil bs)
-lists_more {A} {B} g (y ∷ ys) (suc i) x inside at =
-    ap (λ (bs : List B). g y ++ bs) (lists_more g ys i x (omega (arith, inside)) at) ∙ sym (append_assoc (g y) (flat_map g (take i ys)) (g x))
+lists_on {A} {B} g (y ∷ ys) (suc i) x inside at =
+    ap (λ (bs : List B). g y ++ bs) (lists_on g ys i x (omega (arith, inside)) at) ∙ sym (append_assoc (g y) (flat_map g (take i ys)) (g x))
+
+pub lists_more : {A B : Type 0} (g : A → List B) (xs : List A) (i : ℕ) (x : A) → i < length xs → x ≡ get_or xs i x
+    → flat_map g (take (i + 1) xs) ≡ flat_map g (take i xs) ++ g x
+lists_more g xs i x inside at = ap (λ (k : ℕ). flat_map g (take k xs)) (next i) ∙ lists_on g xs i x inside at
 
 -- an item of one of the lists
 into_flat : {A B : Type 0} (g : A → List B) (xs : List A) (x : A) (y : B) → Contains xs x → Contains (g x) y → Contains (flat_map g xs) y
@@ -129,11 +140,11 @@ module _ (h : Heard) (wanted : Interface) (first : List (List ℕ)) (entries : L
 
     -- so is each entry that is reached
     stays_inside : (e f : Found) → Contains entries e → Reaches (edges r wanted) e f → Contains entries f
-    stays_inside e f c (here e) = c
-    stays_inside e f c (there e x f edge rest) =
-        let found = filter_from (object_of r) (names_of r wanted e) x edge in
-        let among = subst (λ (ns : List (List (List ℕ))). Contains ns found.0) (same_names e c) found.1 in
-        stays_inside x f (lands found.0 x (settled found.0 (closed.goes_on e found.0 c among)) found.2) rest
+    stays_inside e f c (here d) = c
+    stays_inside e f c (there d x g edge rest) =
+        let found = filter_from (object_of r) (names_of r wanted d) x edge in
+        let among = subst (λ (ns : List (List (List ℕ))). Contains ns found.0) (same_names d c) found.1 in
+        stays_inside x g (lands found.0 x (settled found.0 (closed.goes_on d found.0 c among)) found.2) rest
 
     is_unreached : (n : ℕ) → Contains (flat_map (unreached_from h wanted) entries) n → IsUnreached r wanted first n
     is_unreached n c =

@@ -79,7 +79,8 @@ fn unreached_from(
     ensures { IfOk result (λ v. v.items ≡ unreached_from heard.now interface.now entry.now) }
 {
     let names = names_in(alloc, heard, entry, interface)?;
-    unreached_among(alloc, heard, &names)
+    let dirs = unreached_among(alloc, heard, &names)?;
+    Ok(dirs)
 }
 
 // The directories that are not reached from these entries, in the order of the search.
