@@ -162,8 +162,8 @@ fn a_search_says_what_it_did_not_reach(rt: HostRuntime) -> Result<(), Fail> {
     says_of(alloc, &mut heard, DirId(3), b"x", Told::Passed)?;
     says_of(alloc, &mut heard, DirId(3), b"y", Told::Passed)?;
     // Directory 3 is not reached at two names.
-    let lost = lost(alloc, &heard)?;
-    match &lost {
+    let searched = lost(alloc, &heard)?;
+    match &searched {
         Searched::Closed(dirs) => {
             assert!(rt; matches!(dirs.as_slice(), [a, b] if a.0 == 3 && b.0 == 9));
         }
@@ -184,8 +184,8 @@ fn an_import_that_does_not_begin_says_no_more(rt: HostRuntime) -> Result<(), Fai
             Searched::Closed(Answer::Refused(ScriptRefusal::Unreachable(dir))) if dir.0 == 1
         )
     );
-    let lost = lost(alloc, &heard)?;
-    match &lost {
+    let searched = lost(alloc, &heard)?;
+    match &searched {
         Searched::Closed(dirs) => assert!(rt; dirs.is_empty()),
         _ => return Err("a closed search".into()),
     }
