@@ -1,6 +1,6 @@
 -- The directories that a closed search did not reach.
 use Rattle.std.proofs.Common.{◌≡◌, ℕ, zero, suc, ◌+◌, ◌<◌, true, List, [], ◌∷◌, ◌++◌, take, length, map, get_or, refl, sym, ap, subst, ◌∙◌, inl, inr, ⊎_elim, append_assoc, arith}
-use Rattle.std.specs.Prelude.{◌↔◌, Option, Some, None, Result, Ok, Err, IfSome, IfOk, eqb}
+use Rattle.std.specs.Prelude.{◌↔◌, Option, Some, None, Result, Ok, Err, IfSome, eqb}
 use Rattle.std.specs.List.{Contains, cons_option, dedup, filter_map, flat_map}
 use Rattle.std.specs.List.Sorted.{IsPermutation, IsSorted, IsStrictlySortedBy}
 use Rattle.std.specs.Option.{option_to_list}
@@ -23,7 +23,7 @@ use Rattle.ns_import.specs.Orders.{Reaches, here, there}
 use Rattle.cds_clerk.specs.declared.heard.Heard.{Heard}
 use Rattle.cds_clerk.specs.Agreements.{Agrees}
 use Rattle.cds_clerk.specs.Readings.{least_reader}
-use Rattle.cds_clerk.specs.Searches.{AreReached, IsClosed, IsFollowed, IsReached, IsSettled, object_in}
+use Rattle.cds_clerk.specs.Searches.{AreReached, IsClosed, IsFollowed, IsSettled, object_in}
 use Rattle.cds_clerk.specs.Unreached.{AreUnreached, IsUnreached, dir_refused, dir_unreached, unreached_at, unreached_from}
 use Rattle.cds_clerk.proofs.ClosedLaws.{filter_from}
 use Rattle.cds_clerk.proofs.HeardLaws.{end_is, least_agrees}

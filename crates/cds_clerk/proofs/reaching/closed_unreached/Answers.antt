@@ -9,4 +9,4 @@ all_unreached-requires c = c.requires.closed.shown
 pub returns : goal.returns
 returns c =
     if_ok c.dirs_of.result (λ dirs are. are_unreached c.args.heard.now c.args.interface.now c.args.first.now c.args.entries.now c.requires.closed c.requires.reached
-    c.in_ok-all.all.items c.in_order.result.items dirs.items c.in_ok-all.ensures c.in_order.ensures.ascending c.in_order.ensures.same (are ∙ c.deref.ensures.value)) c.dirs_of.ensures
+    c.in_ok-all.all.items c.in_order-numbers.result.items dirs.items c.in_ok-all.ensures c.in_order-numbers.ensures.ascending c.in_order-numbers.ensures.same (are ∙ c.deref.ensures.value)) c.dirs_of.ensures
