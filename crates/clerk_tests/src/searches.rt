@@ -114,8 +114,12 @@ fn a_search_begins_at_an_object(rt: HostRuntime) -> Result<(), Fail> {
     says(alloc, &mut heard, b"g", shown(alloc, &[b"link /.:/h"])?)?;
     says(alloc, &mut heard, b"h", Told::Absent)?;
     let answer = imported(alloc, &heard)?;
-    assert!(rt; matches!(&answer,
-        Searched::Closed(Answer::Refused(ScriptRefusal::NoSuchName(0)))));
+    assert!(rt;
+        matches!(
+            &answer,
+            Searched::Closed(Answer::Refused(ScriptRefusal::NoSuchName(0)))
+        )
+    );
     heard.root = Root::Unheard;
     assert!(rt; matches!(&imported(alloc, &heard)?, Searched::LacksRoot));
     Ok(())
