@@ -11,7 +11,7 @@ ghost use Rattle.cell_model.specs.Turns.{found_directory, accept, skulk, new_epo
 ghost use Rattle.clearinghouse.specs.LawfulHouses.{IsLawful};
 ghost use Rattle.house_directory.specs.HouseMessages.{numbers_of};
 ghost use Rattle.clearinghouse.specs.HouseLetters.{epoch_posts_at, posts_at, sender_of};
-ghost use Rattle.clearinghouse.specs.PrivateTurns.{Heeds, SameHouse};
+ghost use Rattle.clearinghouse.specs.PrivateTurns.{AnswersEpoch, AnswersUpdate, Heeds, SameHouse, StepsByUpdate};
 ghost use Rattle.house_directory.specs.declared.outgoing.Outgoing.TheVariants as out;
 ghost use Rattle.house_directory.specs.declared.states.DirState.TheVariants as state;
 ghost use Rattle.house_directory.specs.Refusing.{accept_answer, skulk_answer, epoch_refused, IsLater};
@@ -239,18 +239,12 @@ impl Clearinghouse {
     ) -> Result<Turn<Result<Stamp, UpdateRefusal>>, AllocError>
         ensures who { SameHouse self.old self.new }
         ensures kept { IsLawful self.old → IsLawful self.new }
-        ensures answer { IfOk result (λ turn. turn.answer
-            ≡ accept_answer self.old.house.0 (next_stamp clock self.old.floor.time self.old.node)
-            (change_of update.now) (map.get self.old.dirs dir)) }
+        ensures answer { AnswersUpdate self.old clock dir (change_of update.now) result }
         ensures refused { IfOk result
             (λ turn. OnErr turn.answer ((self.new ≡ self.old) × (turn.outgoing ≡ None))) }
         ensures takes { IfOk result (λ turn. IfOk turn.answer (λ s.
             TakesUpdate dir (change_of update.now) s self.old self.new turn.outgoing)) }
-        ensures step { (now : model.House) → StandsHouse self.old now → now.clock ≡ clock
-            → IfOk result
-            (λ turn. IsStep (IsStampAnswer turn.answer)
-            (accept self.old.house.0 now dir.0 (change_of update.now))
-            self.old self.new (posts_at self.new dir turn.outgoing)) }
+        ensures step { StepsByUpdate self.old self.new clock dir (change_of update.now) result }
     {
         let by = self.issuer(clock);
         match self.dirs.held_mut(dir) {
@@ -423,10 +417,7 @@ impl Clearinghouse {
         members: &Members,
     ) -> Result<Result<(), EpochRefusal>, AllocError>
         ensures who { SameHouse self.old self.new }
-        ensures answer { IfOk result
-            (λ e. result_err e
-            ≡ epoch_refused self.old.house.0 epoch.0 (members_of members.now)
-            (map.get self.old.dirs dir)) }
+        ensures answer { AnswersEpoch self.old dir epoch (members_of members.now) result }
         ensures refused { IfOk result (λ e. OnErr e (self.new ≡ self.old)) }
         ensures held { IfOk result (λ e. OnOk e (Enters self.old self.new dir epoch members.now)) }
         ensures err { OnErr result (self.new ≡ self.old) }

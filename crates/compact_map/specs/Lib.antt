@@ -1,4 +1,5 @@
 pub mod MapEntries
+pub mod MapCallWords
 pub mod Lefts
 pub mod Tables
 pub mod VecLent

@@ -1,12 +1,11 @@
 // A map with few entries: a vector of them, in the order of their keys.
-ghost use Rattle.std.specs.Prelude.{◌≡◌, ◌+◌, [], ◌∷◌, length, is_some, IsTrue, IsSome, IfSome, IfNone, IfOk, IfErr, OnOk, OnErr, MatchOption};
+ghost use Rattle.std.specs.Prelude.{◌≡◌, ◌+◌, [], ◌∷◌, length, is_some, IsTrue, IsSome, IfSome, IfNone, IfErr, MatchOption};
 ghost use Rattle.std.specs.Prelude.{Some, None, slice_get, ◌<◌, ◌≤◌, ◌++◌, ◌↔◌, option_copied, vec_len, vec_capacity};
 ghost use Rattle.std.specs.Option.{option_copied_mut};
 ghost use Rattle.std.specs.Borrow.{sem};
-ghost use Rattle.std.specs.Map.{remove_entry};
-ghost use Rattle.std.specs.BTreeMap.{is_at, insert_entry};
 ghost use Rattle.std.specs.Map.Calls.{CalledAtPair, TakesPair, CallableOnEachPair, RetainsPairs};
-ghost use Rattle.compact_map.specs.MapEntries.{get, IsOrdered, Updates, IsClone};
+ghost use Rattle.compact_map.specs.MapEntries.{get, IsOrdered, IsClone};
+ghost use Rattle.compact_map.specs.MapCallWords.{Inserts, Removes};
 ghost use Rattle.std_collections.specs.Layout.BTreeMap.{seek};
 
 use std::alloc::{AllocError, AllocFailed, Global};
@@ -121,14 +120,8 @@ impl<K: Ord, V> SortedVec<K, V> {
     pub(crate) fn insert(&mut self, key: K, value: V) -> Result<Option<V>, AllocFailed<(K, V)>>
     where
         K: Drop,
-        ensures old { IfOk result (λ old. old ≡ get K.cmp self.old key) }
-        ensures updates { OnOk result (Updates K.cmp self.old self.new key (Some value)) }
-        ensures entries { OnOk result (self.new ≡ insert_entry K.cmp self.old key value) }
+        ensures inserts { Inserts K.cmp self.old self.new key value result }
         ensures value_returned { IfErr result (λ y. y.value ≡ (key, value)) }
-        ensures absent { OnErr result (get K.cmp self.old key ≡ None) }
-        ensures err { OnErr result (self.new ≡ self.old) }
-        ensures ordered { IsOrdered K.cmp self.new }
-        ensures was_ordered { IsOrdered K.cmp self.old }
     {
         match self.place(&key) {
             Ok(at) => {
@@ -147,10 +140,7 @@ impl<K: Ord, V> SortedVec<K, V> {
     pub(crate) fn remove(&mut self, key: &K) -> Option<V>
     where
         K: Drop,
-        ensures value { result ≡ get K.cmp self.old key.now }
-        ensures updates { Updates K.cmp self.old self.new key.now None }
-        ensures entries { self.new ≡ remove_entry (is_at (K.cmp key.now)) self.old }
-        ensures ordered { IsOrdered K.cmp self.new }
+        ensures { Removes K.cmp self.old self.new key.now result }
     {
         match self.find(key) {
             Ok(at) => {
@@ -183,8 +173,7 @@ impl<K: Ord, V> SortedVec<K, V> {
         V: Drop,
         requires { CallableOnEachPair (CalledAtPair F.FnMut) (TakesPair F.FnMut) f self.old }
         ensures filtered { RetainsPairs (CalledAtPair F.FnMut) f self.old self.new }
-        ensures ordered { IsOrdered K.cmp self.new }
-        ensures was_ordered { IsOrdered K.cmp self.old }
+        ensures in_order { IsOrdered K.cmp self.old × IsOrdered K.cmp self.new }
     {
         let mut f = f;
         let mut at = 0;

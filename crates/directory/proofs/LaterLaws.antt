@@ -26,7 +26,7 @@ use Rattle.cds_stamps.specs.Keyed.{ties_are_equal, map_some, get-map_some, get-m
 use Rattle.cds_stamps.specs.Joins.{EachValue, join_maps, get-join_maps}
 use Rattle.cds_stamps.specs.Stamps.{stamp_total, is_up_to, later_stamp, later_stamp_laws, earlier_stamp, earlier_stamp_laws}
 use Rattle.cds_stamps.specs.Octets.{octets_cmp, octets_exact, is_octets}
-use Rattle.cds_stamps.specs.Undos.{RaisesAt}
+use Rattle.cds_stamps.specs.Undos.{RaisesAt, LogsChange, back_at}
 use Rattle.cds_stamps.proofs.TreeViews.{get-view}
 use Rattle.attr_sets.specs.declared.mark.ValueMark.{ValueMark}
 use Rattle.attr_sets.specs.declared.cell.AttrCell.{AttrCell}
@@ -41,11 +41,13 @@ use Rattle.directory.specs.declared.entry.EntryCell.{EntryCell}
 use Rattle.directory.specs.declared.deletions.Deletion.{Deletion}
 use Rattle.directory.specs.declared.deletions.Deletions.{Deletions}
 use Rattle.directory.specs.declared.deletions.What.{What}
+use Rattle.directory.specs.declared.undo.EntryUndo.{EntryUndo}
 use Rattle.directory.specs.Applied.{LeavesOthers}
 use Rattle.directory.specs.Deletions.{has_lost, is_lost, has_deletion}
 use Rattle.directory.specs.Entries.{Entries, join_entries, join_tables, IsHeldCell, IsValidEntry, IsValidTable}
 use Rattle.directory.specs.EntryLawProofs.{kinds, entry_join, table_join}
-use Rattle.directory.specs.IndexWords.{is_indexed, IsIndexed, Keeps, KnowsAll, insert_each}
+use Rattle.directory.specs.EntryUndoWords.{undo_entry}
+use Rattle.directory.specs.IndexWords.{is_indexed, IsIndexed, IsLogged, Keeps, KnowsAll, insert_each}
 use Rattle.directory.specs.Purges.{after_entry, is_passed, take_entry, take_table, delta_entry, delta_table}
 use Rattle.directory.proofs.DeletionLaws.{joined_deletion}
 use Rattle.directory.proofs.TakeLaws.{joined_equal, none_right}
@@ -410,3 +412,20 @@ delta_end t own new es none is =
     turns_end nat_list_cmp_total octets_exact empty (IsLater t own) own new es none
     (λ q gone. get-empty octets_cmp q ∙ sym (ap (option_and_then (delta_entry t)) gone)) is q
     ∙ sym (get-map_some nat_list_cmp_total octets_exact (delta_entry t) own q))
+
+-- ---- logs
+
+-- one logged change after another
+pub then_logged : {m n l : Entries} {x y z : Deletions} {before log longer : List (List ℕ × Option EntryUndo)} → IsLogged m n x y before log
+    → IsLogged n l y z log longer → IsLogged m l x z before longer
+then_logged a b = record {
+  back = λ q. b.back q ∙ a.back q;
+  keeps = λ d known. b.keeps d (a.keeps d known);
+  room = b.room ∙ a.room;
+}
+
+-- a table whose log is taken back, all of it, is as it was
+pub back_to_old : (m n l : Entries) (before log : List (List ℕ × Option EntryUndo)) → before ≡ [] → LogsChange undo_entry m n before log
+    → ((q : List ℕ) → get l q ≡ back_at octets_cmp undo_entry log q (get n q)) → l ≡ m
+back_to_old m n l before log none logged back =
+    same_map nat_list_cmp_total octets_exact l m (λ q. back q ∙ logged q ∙ ap (λ log. back_at octets_cmp undo_entry log q (get m q)) none)

@@ -6,6 +6,7 @@ use Rattle.std.specs.FinMap.{get, empty, insert}
 use Rattle.std.specs.List.{fold}
 use Rattle.cds_stamps.specs.declared.stamp.Stamp.{Stamp}
 use Rattle.cds_stamps.specs.Octets.{is_octets}
+use Rattle.cds_stamps.specs.Undos.{LogsChange}
 use Rattle.attr_sets.specs.declared.mark.ValueMark.{ValueMark}
 use Rattle.attr_sets.specs.declared.cell.AttrCell.{AttrCell}
 use Rattle.directory.specs.declared.entry.EntryCell.{EntryCell}
@@ -13,7 +14,9 @@ use Rattle.directory.specs.declared.deletions.What.{What}
 use Rattle.directory.specs.declared.deletions.What.TheVariants.{Death, Clear, Absent}
 use Rattle.directory.specs.declared.deletions.Deletion.{Deletion}
 use Rattle.directory.specs.declared.deletions.Deletions.{Deletions}
+use Rattle.directory.specs.declared.undo.EntryUndo.{EntryUndo}
 use Rattle.directory.specs.Entries.{Entries, IsValidTable}
+use Rattle.directory.specs.EntryUndoWords.{undo_entry}
 use Rattle.directory.specs.Deletions.{deletion_cmp, has_deletion, is_before, is_at, is_absent}
 use Rattle.directory.specs.Held.{held_in}
 use Rattle.directory.specs.Updates.{Change, Add, Remove, changed_name}
@@ -111,6 +114,13 @@ pub record IsIndexed (x : Deletions) (m : Entries) : Type 0 where
 pub record IsKnown (x : Deletions) (m : Entries) : Type 0 where
   pub valid : IsValidTable m
   pub all : KnowsAll x m
+
+-- a change of the entries is logged, and the index keeps the deletions that it knows of, and its
+-- room
+pub record IsLogged (old new : Entries) (x y : Deletions) (log next : List (List ℕ × Option EntryUndo)) : Type 0 where
+  pub back : LogsChange undo_entry old new log next
+  pub keeps : Keeps x y
+  pub room : y.most ≡ x.most
 
 -- the table of these entries, inserted in turn
 abbrev pub insert_each : List (List ℕ × EntryCell) → Entries

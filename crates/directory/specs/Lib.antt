@@ -3,6 +3,7 @@ pub mod Entries
 pub mod EntryLawProofs
 pub mod CellLogWords
 pub mod EntryUndoWords
+pub mod EntryJoinWords
 pub mod Updates
 pub mod Histories
 pub mod Shown

@@ -8,7 +8,7 @@ use Rattle.std.specs.Option.{option_and_then, option_map_or}
 use Rattle.cds_stamps.specs.declared.stamp.Stamp.{Stamp}
 use Rattle.cds_stamps.specs.Octets.{is_octets}
 use Rattle.cell_names.specs.FullNames.{is_full_name, full_name_octets}
-use Rattle.cell_names.specs.ChildPointers.{is_child_pointer, pointer_of, pointer_octets}
+use Rattle.cell_names.specs.ChildPointers.{Pointer, is_child_pointer, pointer_of, pointer_octets}
 use Rattle.attr_sets.specs.AttributeCells.{Cleared, Marked, shown_values, cell_values}
 use Rattle.directory.specs.declared.entry.Kind.{Kind}
 use Rattle.directory.specs.declared.entry.Kind.TheVariants.{Object, Link, Child}
@@ -147,6 +147,10 @@ with_birth n (Some e) marks = Birth n e.kind e.birth ∷ marks e
 abbrev pub shown_dir : Shown → ℕ
 shown_dir e = option_map_or (λ p. p.dir) (option_and_then pointer_of (lead_of e)) 0
 
+-- where a child that shows leads once it is repointed: to the same directory, at these houses (own)
+abbrev pub new_pointer : Shown → ℕ → List ℕ → Pointer
+new_pointer e master others = record { dir = shown_dir e; master = master; others = others }
+
 -- the marks of an update with stamp s, by what shows of its name (own)
 abbrev pub marks_of : Option Shown → Change → Stamp → List Mark
 marks_of e (Create n) s = Birth n Object s ∷ []
@@ -158,4 +162,4 @@ marks_of e (Remove n a v) s = with_birth n e (λ x. value_mark n x.birth a v fal
 marks_of e (Put n a v) s = with_birth n e (λ x. put_marks n x.birth a v s)
 marks_of e (Clear n a) s = with_birth n e (λ x. Attr n x.birth a (Cleared s) ∷ [])
 marks_of e (Repoint n master others) s =
-    with_birth n e (λ x. put_marks n x.birth replicas (pointer_octets (record { dir = shown_dir x; master = master; others = others })) s)
+    with_birth n e (λ x. put_marks n x.birth replicas (pointer_octets (new_pointer x master others)) s)

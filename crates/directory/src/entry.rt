@@ -9,6 +9,7 @@ ghost use Rattle.directory.specs.Kinds.{kind_cmp, is_child};
 ghost use Rattle.directory.specs.Entries.{join_tied, join_entries, IsValidEntry};
 ghost use Rattle.directory.specs.EntryLawProofs.{entry_join};
 ghost use Rattle.directory.specs.EntryUndoWords.{undo_entry};
+ghost use Rattle.directory.specs.EntryJoinWords.{JoinsTied, JoinsWith};
 ghost use Rattle.attr_sets.specs.AttributeCells.{cell_values};
 ghost use Rattle.attr_sets.specs.CellChanges.{change_marks};
 ghost use Rattle.attr_sets.specs.CellPurges.{clear_left};
@@ -25,7 +26,7 @@ use crate::attr_map::{AttrMap, CellLog};
 use crate::deletions::What;
 use crate::fragments::one_attr;
 use crate::undo::EntryUndo;
-use crate::update::{OwnUpdate, UpdateRefusal, refuse_if};
+use crate::update::{Accepted, OwnUpdate, UpdateRefusal, refuse_if};
 use attr_sets::{AttrCell, CellChange, Value};
 use cds_stamps::{AttrName, DirId, Lattice, SimpleName, Stamp};
 use cell_names::{ChildPointer, FullName};
@@ -81,6 +82,10 @@ pub struct Fragment {
     pub name: SimpleName,
     pub entry: EntryCell,
 }
+
+/// What is answered to an update whose fragment is asked for: that, or why it is refused; or that
+/// there is no memory.
+pub(crate) type Told = Result<Result<Fragment, UpdateRefusal>, AllocError>;
 
 impl Clone for EntryCell {
     ghost is_clone = { λ x y. y ≡ x };
@@ -222,12 +227,7 @@ impl EntryCell {
     }
 
     /// Adds the marks of an update, in place, or refuses it.
-    pub(crate) fn accept(
-        &mut self,
-        alloc: Global,
-        update: &OwnUpdate,
-        stamp: Stamp,
-    ) -> Result<Result<(), UpdateRefusal>, AllocError>
+    pub(crate) fn accept(&mut self, alloc: Global, update: &OwnUpdate, stamp: Stamp) -> Accepted
         ensures { AcceptsEntry self.old self.new update.now stamp result }
     {
         if let Err(refusal) = self.check(update) {
@@ -245,7 +245,7 @@ impl EntryCell {
         name: &SimpleName,
         update: &OwnUpdate,
         stamp: Stamp,
-    ) -> Result<Result<Fragment, UpdateRefusal>, AllocError>
+    ) -> Told
         ensures accepts { AcceptsEntry self.old self.new update.now stamp result }
         ensures name { IfOk result (λ answer. IfOk answer (λ f. f.name ≡ name.now)) }
         ensures entry { IfOk result
@@ -366,16 +366,8 @@ impl EntryCell {
         alloc: Global,
         other: &EntryCell,
     ) -> Result<EntryUndo, AllocError>
-        ensures ok { OnOk result (IsValidEntry self.old → IsValidEntry other.now
-            → self.new ≡ join_entries self.old other.now) }
-        ensures birth { OnOk result (self.new.birth ≡ (join_entries self.old other.now).birth) }
-        ensures kind { OnOk result (self.new.kind ≡ (join_entries self.old other.now).kind) }
-        ensures death { OnOk result (self.new.death ≡ (join_entries self.old other.now).death) }
-        ensures whole { OnOk result (self.old.birth ≢ other.now.birth
-            → self.new ≡ join_entries self.old other.now) }
-        ensures stays { is_earlier other.now.birth self.old.birth ≡ true → IsOk result }
+        ensures joined { JoinsWith self.old self.new other.now result }
         ensures back { IfOk result (λ undo. undo_entry undo self.new ≡ self.old) }
-        ensures err { OnErr result (self.new ≡ self.old) }
     {
         match self.birth.cmp(&other.birth) {
             Ordering::Less => {
@@ -392,13 +384,7 @@ impl EntryCell {
 
     /// Joins an entry of the same birth in.
     fn join_tied(&mut self, alloc: Global, other: &EntryCell) -> Result<(), AllocError>
-        ensures ok { OnOk result (IsValidEntry self.old → IsValidEntry other.now
-            → self.new ≡ join_tied self.old other.now) }
-        ensures birth { OnOk result (self.new.birth ≡ self.old.birth) }
-        ensures kind { OnOk result (self.new.kind ≡ greater kind_cmp self.old.kind other.now.kind) }
-        ensures death { OnOk result
-            (self.new.death ≡ maybe earlier_stamp self.old.death other.now.death) }
-        ensures err { OnErr result (self.new ≡ self.old) }
+        ensures { JoinsTied self.old self.new other.now result }
     {
         self.attrs.join(alloc, &other.attrs)?;
         let kind = greater_kind(self.kind, other.kind);
@@ -414,14 +400,8 @@ impl EntryCell {
         alloc: Global,
         other: &EntryCell,
     ) -> Result<EntryUndo, AllocError>
-        ensures ok { OnOk result (IsValidEntry self.old → IsValidEntry other.now
-            → self.new ≡ join_tied self.old other.now) }
-        ensures birth { OnOk result (self.new.birth ≡ self.old.birth) }
-        ensures kind { OnOk result (self.new.kind ≡ greater kind_cmp self.old.kind other.now.kind) }
-        ensures death { OnOk result
-            (self.new.death ≡ maybe earlier_stamp self.old.death other.now.death) }
+        ensures joined { JoinsTied self.old self.new other.now result }
         ensures back { IfOk result (λ undo. undo_entry undo self.new ≡ self.old) }
-        ensures err { OnErr result (self.new ≡ self.old) }
     {
         let log = self.attrs.join_logged(alloc, &other.attrs)?;
         let kind = greater_kind(self.kind, other.kind);

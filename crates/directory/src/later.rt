@@ -3,11 +3,9 @@ ghost use Rattle.std.specs.Prelude.{◌≡◌, ℕ, List, IsTrue, IfSome, IfOk, 
 ghost use Rattle.std.specs.FinMap as map;
 ghost use Rattle.cds_stamps.specs.Semilattice.{maybe};
 ghost use Rattle.cds_stamps.specs.Octets.{is_octets};
-ghost use Rattle.cds_stamps.specs.Undos.{LogsChange};
 ghost use Rattle.directory.specs.Applied.{JoinsEntry, LeavesOthers};
 ghost use Rattle.directory.specs.Entries.{join_entries, IsValidEntry, IsValidTable};
-ghost use Rattle.directory.specs.EntryUndoWords.{undo_entry};
-ghost use Rattle.directory.specs.IndexWords.{IsIndexed, IsKnown, Keeps, KnowsAll, insert_each};
+ghost use Rattle.directory.specs.IndexWords.{IsIndexed, IsKnown, IsLogged, Keeps, KnowsAll, insert_each};
 ghost use Rattle.directory.specs.Purges.{delta_entry, delta_table, holds, is_passed, take_entry, take_table};
 
 use crate::deletions::Deletions;
@@ -31,34 +29,13 @@ pub(crate) fn take_later(
     ensures err { OnErr result (entries.new ≡ entries.old) }
     ensures index { IsIndexed deletions.old entries.old → IsIndexed deletions.new entries.new }
 {
-    let taken = take_all(entries, deletions, alloc, other, t);
-    deletions.settle(entries);
-    taken
-}
-
-/// Joins in what of other entries is later than t, and adds its deletions. Where memory runs out
-/// the entries are as before.
-fn take_all(
-    entries: &mut EntryMap,
-    deletions: &mut Deletions,
-    alloc: Global,
-    other: &EntryMap,
-    t: Stamp,
-) -> Result<(), AllocError>
-    requires { IsValidTable other.now }
-    ensures ok { OnOk result (IsValidTable entries.old
-        → entries.new ≡ take_table t entries.old other.now) }
-    ensures knows { OnOk result (IsKnown deletions.old entries.old
-        → IsKnown deletions.new entries.new) }
-    ensures err { OnErr result (entries.new ≡ entries.old) }
-    ensures keeps { Keeps deletions.old deletions.new }
-    ensures room { deletions.new.most ≡ deletions.old.most }
-{
     let mut log = Vec::new(alloc);
     if let Err(error) = take_each(entries, deletions, alloc, other, t, &mut log) {
         entries.take_back(log);
+        deletions.settle(entries);
         return Err(error);
     }
+    deletions.settle(entries);
     Ok(())
 }
 
@@ -76,9 +53,8 @@ fn take_each(
         → entries.new ≡ take_table t entries.old other.now) }
     ensures knows { OnOk result (IsValidTable other.now → IsKnown deletions.old entries.old
         → IsKnown deletions.new entries.new) }
-    ensures back { LogsChange undo_entry entries.old entries.new log.old.items log.new.items }
-    ensures keeps { Keeps deletions.old deletions.new }
-    ensures room { deletions.new.most ≡ deletions.old.most }
+    ensures logged { IsLogged entries.old entries.new deletions.old deletions.new log.old.items
+        log.new.items }
 {
     let t = &t;
     for (name, entry) in other.iter() {
@@ -105,9 +81,8 @@ fn take_one(
         (if is_octets q name.now then Some entry.now else None)) }
     ensures knows { OnOk result (IsKnown deletions.old entries.old → IsValidEntry entry.now
         → IsKnown deletions.new entries.new) }
-    ensures back { LogsChange undo_entry entries.old entries.new log.old.items log.new.items }
-    ensures keeps { Keeps deletions.old deletions.new }
-    ensures room { deletions.new.most ≡ deletions.old.most }
+    ensures logged { IsLogged entries.old entries.new deletions.old deletions.new log.old.items
+        log.new.items }
 {
     let t = &t;
     if is_known(entries.get(name), entry, *t) {
@@ -132,9 +107,8 @@ fn raise_known(
     ensures ok { OnOk result (JoinsEntry entries.old entries.new name.now entry.now) }
     ensures knows { OnOk result (IsKnown deletions.old entries.old → IsValidEntry entry.now
         → IsKnown deletions.new entries.new) }
-    ensures back { LogsChange undo_entry entries.old entries.new log.old.items log.new.items }
-    ensures keeps { Keeps deletions.old deletions.new }
-    ensures room { deletions.new.most ≡ deletions.old.most }
+    ensures logged { IsLogged entries.old entries.new deletions.old deletions.new log.old.items
+        log.new.items }
 {
     deletions.add_entry(alloc, name, entry)?;
     entries.raise_logged(alloc, name, entry, log)

@@ -20,7 +20,7 @@ ghost use Rattle.directory.specs.Applied.{TakesIn};
 ghost use Rattle.directory.specs.Purges.{purged_entries, purged_table, take_table};
 ghost use Rattle.directory.specs.Histories.{Mark, name_in, entry_of, table_of, HasBirths, IsHistory, IsBefore, SameMarks, CanMerge};
 ghost use Rattle.directory.specs.EntryChanges.{creation, ChangesValue, AreAccepted};
-ghost use Rattle.directory.specs.Shown.{is_readable, lead_of, shown_of_name, shown_in, shown_dir, refusal_of, marks_of, Shown, ChangesValues};
+ghost use Rattle.directory.specs.Shown.{is_readable, lead_of, shown_of_name, shown_in, new_pointer, refusal_of, marks_of, Shown, ChangesValues};
 
 /// The table of two histories together is the join of their tables.
 pub fn joins_are_unions()
@@ -142,10 +142,9 @@ pub fn accepted_updates_show()
     ensures repointed { (h : List Mark) (n : List ℕ) (e : Shown) → shown_of_name h n ≡ Some e
         → (s : Stamp) (master : ℕ) (others : List ℕ) → IsBefore h s →
         refusal_of (Some e) (Repoint n master others) ≡ None →
-        let p : Pointer = record { dir = shown_dir e; master = master; others = others } in
         IsHouses (record { master = master; others = others }) →
         IsSomeAnd (shown_of_name (h ++ marks_of (shown_of_name h n) (Repoint n master others) s) n)
-        (ChangesValues e replicas (λ w. w ≡ pointer_octets p)) }
+        (ChangesValues e replicas (λ w. w ≡ pointer_octets (new_pointer e master others))) }
     ensures deleted { (h : List Mark) (n : List ℕ) (e : Shown) → shown_of_name h n ≡ Some e
         → (s : Stamp) → shown_of_name (h ++ marks_of (shown_of_name h n) (Delete n) s) n ≡ None }
 {}
@@ -165,10 +164,9 @@ pub fn accepted_updates_lead()
     ensures repointed { (h : List Mark) (n : List ℕ) (e : Shown) → shown_of_name h n ≡ Some e
         → (s : Stamp) (master : ℕ) (others : List ℕ) → IsBefore h s →
         refusal_of (Some e) (Repoint n master others) ≡ None →
-        let p : Pointer = record { dir = shown_dir e; master = master; others = others } in
         IsHouses (record { master = master; others = others }) →
         IsSomeAnd (shown_of_name (h ++ marks_of (shown_of_name h n) (Repoint n master others) s) n)
-        (λ f. lead_of f ≡ Some (pointer_octets p)) }
+        (λ f. lead_of f ≡ Some (pointer_octets (new_pointer e master others))) }
     ensures led { (h : List Mark) (n : List ℕ) (e : Shown) → shown_of_name h n ≡ Some e
         → e.kind ≢ Object → IsSome (lead_of e) }
     ensures read { (e : Shown) (v : List ℕ) → lead_of e ≡ Some v → is_readable e.kind v ≡ true }

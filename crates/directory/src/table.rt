@@ -19,15 +19,15 @@ ghost use Rattle.directory.specs.Histories.{Mark, entry_of};
 ghost use Rattle.directory.specs.IndexWords.{IsIndexed};
 ghost use Rattle.directory.specs.Purges.{delta_table, purged_table, purged_entries, take_table};
 ghost use Rattle.directory.specs.Shown.{face_of, shown_in, live_count, refusal_of, marks_of};
-ghost use Rattle.directory.specs.ToldWords.{AcceptsUpdate, TellsUpdate};
+ghost use Rattle.directory.specs.ToldWords.{IsAccepted, TakesMarksOf, AcceptsUpdate, TellsUpdate};
 ghost use Rattle.directory.specs.Updates.{change_of, changed_name};
 
 use crate::deletions::Deletions;
-use crate::entry::{EntryCell, Fragment};
+use crate::entry::{EntryCell, Fragment, Told};
 use crate::entry_map::EntryMap;
 use crate::excerpt::Excerpt;
 use crate::later::{add_deletions, later_entries, take_later};
-use crate::update::{Update, UpdateRefusal};
+use crate::update::{Accepted, Update, UpdateRefusal};
 use attr_sets::Value;
 use cds_stamps::{AttrName, Lattice, SimpleName, Stamp};
 use std::alloc::{AllocError, Global};
@@ -352,13 +352,7 @@ impl Table {
         ensures ok { OnOk result (self.new ≡ take_table t self.old other.now) }
         ensures err { OnErr result (self.new ≡ self.old) }
     {
-        take_later(
-            &mut self.entries,
-            &mut self.deletions,
-            alloc,
-            &other.entries,
-            t,
-        )
+        self.take_entries(alloc, &other.entries, t)
     }
 
     /// The same of an excerpt.
@@ -371,13 +365,16 @@ impl Table {
         ensures ok { OnOk result (self.new ≡ take_table t self.old other.now) }
         ensures err { OnErr result (self.new ≡ self.old) }
     {
-        take_later(
-            &mut self.entries,
-            &mut self.deletions,
-            alloc,
-            &other.entries,
-            t,
-        )
+        self.take_entries(alloc, &other.entries, t)
+    }
+
+    /// Takes of other entries what is later than t.
+    fn take_entries(&mut self, alloc: Global, other: &EntryMap, t: Stamp) -> Result<(), AllocError>
+        requires { IsValidTable other.now }
+        ensures ok { OnOk result (self.new ≡ take_table t self.old other.now) }
+        ensures err { OnErr result (self.new ≡ self.old) }
+    {
+        take_later(&mut self.entries, &mut self.deletions, alloc, other, t)
     }
 
     /// Joins an excerpt in.
@@ -426,11 +423,8 @@ fn apply_update(
     update: &Update,
     stamp: Stamp,
 ) -> Result<(), AllocError>
-    requires { refusal_of (shown_in entries.old (changed_name (change_of update.now)))
-        (change_of update.now) ≡ None }
-    ensures ok { let n = changed_name (change_of update.now) in
-        OnOk result (TakesIn entries.old entries.new n
-        (marks_of (shown_in entries.old n) (change_of update.now) stamp)) }
+    requires { IsAccepted entries.old (change_of update.now) }
+    ensures ok { OnOk result (TakesMarksOf entries.old entries.new (change_of update.now) stamp) }
     ensures others { LeavesOthers entries.old entries.new (changed_name (change_of update.now)) }
     ensures err { OnErr result (entries.new ≡ entries.old) }
     ensures index { IsIndexed deletions.old entries.old → IsIndexed deletions.new entries.new }
@@ -449,7 +443,7 @@ fn accept_update(
     alloc: Global,
     update: &Update,
     stamp: Stamp,
-) -> Result<Result<(), UpdateRefusal>, AllocError>
+) -> Accepted
     ensures accepts { AcceptsUpdate entries.old entries.new (change_of update.now) stamp result }
     ensures index { IsIndexed deletions.old entries.old → IsIndexed deletions.new entries.new }
 {
@@ -467,7 +461,7 @@ fn tell_update(
     alloc: Global,
     update: &Update,
     stamp: Stamp,
-) -> Result<Result<Fragment, UpdateRefusal>, AllocError>
+) -> Told
     ensures told { TellsUpdate entries.old entries.new (change_of update.now) stamp result }
     ensures index { IsIndexed deletions.old entries.old → IsIndexed deletions.new entries.new }
 {

@@ -50,6 +50,10 @@ impl Drop for Update {
     }
 }
 
+/// What is answered to an update: nothing, if it is applied, or why it is refused; or that there is
+/// no memory.
+pub(crate) type Accepted = Result<Result<(), UpdateRefusal>, AllocError>;
+
 /// An update of an entry that the table has, whatever its name.
 #[derive(Drop)]
 pub(crate) enum OwnUpdate<'a> {

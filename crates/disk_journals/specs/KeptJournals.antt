@@ -1,5 +1,5 @@
 -- The journal of one house on its disk, the images in it, and what a stop of a put leaves.
-use Rattle.std.specs.Prelude.{◌≡◌, ◌⊎◌, ℕ, ◌+◌, ◌-◌, ◌^◌, ◌≤◌, nat_le, Bool, false, if◌then◌else◌, List, [], ◌∷◌, ◌++◌, length, Option, Some, None}
+use Rattle.std.specs.Prelude.{◌≡◌, ◌⊎◌, ℕ, ◌+◌, ◌-◌, ◌^◌, ◌≤◌, ◌<◌, nat_le, Bool, false, if◌then◌else◌, List, [], ◌∷◌, ◌++◌, length, Option, Some, None, Result, Err, OnOk}
 use Rattle.std.specs.List.{last_or}
 use Rattle.std.specs.Option.{option_map_or}
 use Rattle.std.specs.Str.{bytes_eq}
@@ -13,6 +13,8 @@ use Rattle.house_journal.specs.Tellings.{open_calls, put_calls, told_after, told
 use Rattle.house_journal.specs.declared.leave.Leave.{Leave}
 use Rattle.house_journal.specs.declared.leave.Leave.TheVariants.{Keep, Drop, Torn}
 use Rattle.house_journal.specs.declared.step.Stop.TheVariants.{Never, Stopped}
+use Rattle.disk_journals.specs.declared.faults.Unkept.{Unkept}
+use Rattle.disk_journals.specs.declared.faults.Unkept.TheVariants.{Full}
 use Rattle.disk_journals.specs.declared.kept.KeptHouse.{KeptHouse}
 
 -- ---- images
@@ -45,6 +47,23 @@ Holds m list = (c : List ℕ) → left_now m.steps m.octets c → (images c ≡ 
 -- one of these is
 abbrev pub HoldsEither : MemState → (list other : List (List ℕ)) → Type 0
 HoldsEither m list other = (c : List ℕ) → left_now m.steps m.octets c → ((images c ≡ list) ⊎ (images c ≡ other)) × IsOpenable c
+
+-- the images on a disk, and one more
+abbrev pub with_image : MemState → List ℕ → List (List ℕ)
+with_image m image = images m.octets ++ image ∷ []
+
+-- an image is put, unless it is the last, or there is no room for it, or no memory; a crash leaves
+-- the images that were there, or this one too
+pub record NotesImage (image : List ℕ) (old new : MemState)
+    (r : Result (Unit {0}) Unkept) : Type 0 where
+  pub list : OnOk r (images new.octets ≡ noted_image image (images old.octets))
+  pub crash : HoldsEither new (images old.octets) (noted_image image (images old.octets))
+  pub room : OnOk r (is_last image (images old.octets) ≡ false
+      → size_of (with_image old image) ≤ 2 ^ 40)
+  pub full : r ≡ Err Full
+      → (is_last image (images old.octets) ≡ false) × (2 ^ 40 < size_of (with_image old image))
+  pub lacking : is_last image (images old.octets) ≡ false → 2 ^ 40 < size_of (with_image old image)
+      → r ≡ Err Full
 
 -- a disk as it is made
 pub record IsNew (m : MemState) : Type 0 where

@@ -7,7 +7,7 @@ ghost use Rattle.house_journal.specs.Restarts.{CanBeOpened};
 ghost use Rattle.house_journal.specs.declared.step.Stop.TheVariants.{Never};
 ghost use Rattle.house_journal.specs.MemoryDisks.{left_now, told_of};
 ghost use Rattle.house_journal.specs.Restarts.{begun_with, disk_after_restart};
-ghost use Rattle.disk_journals.specs.KeptJournals.{Holds, HoldsEither, IsOpen, size_of, stops_after};
+ghost use Rattle.disk_journals.specs.KeptJournals.{Holds, HoldsEither, IsOpen, size_of, stops_after, with_image};
 ghost use Rattle.disk_journals.specs.KeptJournals.{StopsAndOpens, TellsPutAt, told_opened};
 ghost use Rattle.disk_journals.specs.declared.faults.Unkept.TheVariants as why;
 
@@ -47,15 +47,11 @@ pub fn put(
 ) -> Result<(), Unkept>
     requires { IsOpen journal.old disk.old }
     ensures open { OnOk result (IsOpen journal.new disk.new) }
-    ensures images { OnOk result
-        (images disk.new.octets ≡ images disk.old.octets ++ image.now ∷ []) }
-    ensures crash { HoldsEither disk.new (images disk.old.octets)
-        (images disk.old.octets ++ image.now ∷ []) }
-    ensures room { OnOk result (size_of (images disk.old.octets ++ image.now ∷ []) ≤ 2 ^ 40) }
-    ensures full { result ≡ Err why.Full
-        → 2 ^ 40 < size_of (images disk.old.octets ++ image.now ∷ []) }
-    ensures lacking { 2 ^ 40 < size_of (images disk.old.octets ++ image.now ∷ [])
-        → result ≡ Err why.Full }
+    ensures images { OnOk result (images disk.new.octets ≡ with_image disk.old image.now) }
+    ensures crash { HoldsEither disk.new (images disk.old.octets) (with_image disk.old image.now) }
+    ensures room { OnOk result (size_of (with_image disk.old image.now) ≤ 2 ^ 40) }
+    ensures full { result ≡ Err why.Full → 2 ^ 40 < size_of (with_image disk.old image.now) }
+    ensures lacking { 2 ^ 40 < size_of (with_image disk.old image.now) → result ≡ Err why.Full }
     ensures told { OnOk result (TellsPutAt journal.old.place image.now disk.old disk.new) }
     ensures never { disk.new.stop ≡ Never }
 {
@@ -84,15 +80,12 @@ pub fn stopped_put(
     requires last { call ≤ 4 }
     ensures open { IfOk result (λ r. IsOpen r.0 disk.new) }
     ensures images { OnOk result (images disk.new.octets ≡ (if stops_after call leave
-        then images disk.old.octets ++ image.now ∷ [] else images disk.old.octets)) }
+        then with_image disk.old image.now else images disk.old.octets)) }
     ensures last { IfOk result (λ r. option_map (λ v. v.items) r.1 ≡ last_image disk.new.octets) }
-    ensures crash { HoldsEither disk.new (images disk.old.octets)
-        (images disk.old.octets ++ image.now ∷ []) }
-    ensures room { OnOk result (size_of (images disk.old.octets ++ image.now ∷ []) ≤ 2 ^ 40) }
-    ensures full { result ≡ Err why.Full
-        → 2 ^ 40 < size_of (images disk.old.octets ++ image.now ∷ []) }
-    ensures lacking { 2 ^ 40 < size_of (images disk.old.octets ++ image.now ∷ [])
-        → result ≡ Err why.Full }
+    ensures crash { HoldsEither disk.new (images disk.old.octets) (with_image disk.old image.now) }
+    ensures room { OnOk result (size_of (with_image disk.old image.now) ≤ 2 ^ 40) }
+    ensures full { result ≡ Err why.Full → 2 ^ 40 < size_of (with_image disk.old image.now) }
+    ensures lacking { 2 ^ 40 < size_of (with_image disk.old image.now) → result ≡ Err why.Full }
     ensures stops { OnOk result
         (StopsAndOpens journal.old.place image.now call leave disk.old disk.new) }
     ensures never { disk.new.stop ≡ Never }

@@ -2,7 +2,7 @@
 ghost use Rattle.std.specs.Prelude.{◌≡◌, ◌^◌, ◌<◌, ◌≤◌, ◌++◌, ◌∷◌, [], false, Some, Err, IfOk, OnOk};
 ghost use Rattle.house_journal.specs.JournalRecords.{images};
 ghost use Rattle.house_journal.specs.declared.step.Stop.TheVariants.{Never};
-ghost use Rattle.disk_journals.specs.KeptJournals.{HoldsEither, IsKept, IsNew, is_last, noted_image, size_of};
+ghost use Rattle.disk_journals.specs.KeptJournals.{HoldsEither, IsKept, IsNew, NotesImage, is_last, noted_image, size_of, with_image};
 ghost use Rattle.disk_journals.specs.declared.faults.Unkept.TheVariants as why;
 
 use crate::calls::{open, put};
@@ -55,15 +55,11 @@ pub fn keep(
 fn keep_first(alloc: Global, disk: &mut MemDisk, image: Vec<u8>) -> Result<KeptHouse, Unkept>
     requires { IsNew disk.old }
     ensures kept { IfOk result (λ k. IsKept (Some k) disk.new) }
-    ensures images { OnOk result
-        (images disk.new.octets ≡ images disk.old.octets ++ image.items ∷ []) }
-    ensures crash { HoldsEither disk.new (images disk.old.octets)
-        (images disk.old.octets ++ image.items ∷ []) }
-    ensures room { OnOk result (size_of (images disk.old.octets ++ image.items ∷ []) ≤ 2 ^ 40) }
-    ensures full { result ≡ Err why.Full
-        → 2 ^ 40 < size_of (images disk.old.octets ++ image.items ∷ []) }
-    ensures lacking { 2 ^ 40 < size_of (images disk.old.octets ++ image.items ∷ [])
-        → result ≡ Err why.Full }
+    ensures images { OnOk result (images disk.new.octets ≡ with_image disk.old image.items) }
+    ensures crash { HoldsEither disk.new (images disk.old.octets) (with_image disk.old image.items) }
+    ensures room { OnOk result (size_of (with_image disk.old image.items) ≤ 2 ^ 40) }
+    ensures full { result ≡ Err why.Full → 2 ^ 40 < size_of (with_image disk.old image.items) }
+    ensures lacking { 2 ^ 40 < size_of (with_image disk.old image.items) → result ≡ Err why.Full }
     ensures never { disk.new.stop ≡ Never }
 {
     if image.len() as u64 > MOST_FIRST {
@@ -83,16 +79,7 @@ fn keep_next(
 ) -> Result<(), Unkept>
     requires { IsKept (Some kept.old) disk.old }
     ensures kept { OnOk result (IsKept (Some kept.new) disk.new) }
-    ensures images { OnOk result
-        (images disk.new.octets ≡ noted_image image.items (images disk.old.octets)) }
-    ensures crash { HoldsEither disk.new (images disk.old.octets)
-        (noted_image image.items (images disk.old.octets)) }
-    ensures room { OnOk result (is_last image.items (images disk.old.octets) ≡ false
-        → size_of (images disk.old.octets ++ image.items ∷ []) ≤ 2 ^ 40) }
-    ensures full { result ≡ Err why.Full → (is_last image.items (images disk.old.octets) ≡ false)
-        × (2 ^ 40 < size_of (images disk.old.octets ++ image.items ∷ [])) }
-    ensures lacking { is_last image.items (images disk.old.octets) ≡ false
-        → 2 ^ 40 < size_of (images disk.old.octets ++ image.items ∷ []) → result ≡ Err why.Full }
+    ensures noted { NotesImage image.items disk.old disk.new result }
     ensures never { disk.new.stop ≡ Never }
 {
     if image == kept.image {

@@ -4,7 +4,9 @@
 //
 // No clause sees the file: the clauses speak of the disk beside it. That the file holds the same
 // has to be believed of these bodies.
-ghost use Rattle.std.specs.Prelude.{◌≡◌, None};
+ghost use Rattle.std.specs.Prelude.{◌≡◌, None, IsErrOf};
+ghost use Rattle.house_journal.specs.Disks.{HasDiskCause};
+ghost use Rattle.house_journal.specs.declared.disk.DiskError.TheVariants as why;
 ghost use Rattle.file_disk.specs.FileDisks.{inner_of, failures_of};
 
 use cds_base::Failed;
@@ -31,6 +33,19 @@ impl<D: Disk> FileDisk<D> {
             inner,
             faults: 0,
         }
+    }
+
+    /// What a write or a cut answered, and if it failed, that is counted.
+    fn counted(&mut self, answer: Result<(), DiskError>) -> Result<(), DiskError>
+        ensures answer { result ≡ answer }
+        ensures inner { inner_of self.new ≡ inner_of self.old }
+        ensures memory { IsErrOf answer why.OutOfMemory → self.new ≡ self.old }
+        ensures cause { HasDiskCause (failures_of self.old) (failures_of self.new) answer }
+    {
+        if let Err(DiskError::Failed) = answer {
+            self.faults = self.faults.saturating_add(1);
+        }
+        answer
     }
 }
 
@@ -74,39 +89,21 @@ impl<D: Disk> Disk for FileDisk<D> {
     }
 
     fn write_at(&mut self, at: u64, piece: &[u8]) -> Result<(), DiskError> {
-        match self.inner.write_at(at, piece) {
-            Ok(()) => {}
-            Err(DiskError::OutOfMemory) => return Err(DiskError::OutOfMemory),
-            Err(DiskError::Failed) => {
-                self.faults = self.faults.saturating_add(1);
-                return Err(DiskError::Failed);
-            }
+        let beside = self.inner.write_at(at, piece);
+        self.counted(beside)?;
+        if self.file.write_all_at(piece, at).is_err() {
+            return self.counted(Err(DiskError::Failed));
         }
-        match self.file.write_all_at(piece, at) {
-            Ok(()) => Ok(()),
-            Err(_) => {
-                self.faults = self.faults.saturating_add(1);
-                Err(DiskError::Failed)
-            }
-        }
+        Ok(())
     }
 
     fn cut(&mut self, size: u64) -> Result<(), DiskError> {
-        match self.inner.cut(size) {
-            Ok(()) => {}
-            Err(DiskError::OutOfMemory) => return Err(DiskError::OutOfMemory),
-            Err(DiskError::Failed) => {
-                self.faults = self.faults.saturating_add(1);
-                return Err(DiskError::Failed);
-            }
+        let beside = self.inner.cut(size);
+        self.counted(beside)?;
+        if self.file.set_len(size).is_err() {
+            return self.counted(Err(DiskError::Failed));
         }
-        match self.file.set_len(size) {
-            Ok(()) => Ok(()),
-            Err(_) => {
-                self.faults = self.faults.saturating_add(1);
-                Err(DiskError::Failed)
-            }
-        }
+        Ok(())
     }
 
     // The file comes first: if it fails, the disk beside it must not say that it is synced.

@@ -9,7 +9,7 @@ ghost use Rattle.house_journal.specs.Restarts.{CanBeOpened, MayLose, MayLoseBy, 
 ghost use Rattle.house_journal.specs.ClockProofs.{reads_left_lem, counts_now_lem, only_now_lem};
 ghost use Rattle.house_journal.specs.declared.step.Stop.TheVariants.{Never};
 
-use crate::restart::{first_changed, synced, torn};
+use crate::restart::{first_changed, torn, unwound};
 use crate::step::{Step, Stop};
 use crate::{Disk, DiskError, Leave};
 use cds_base::Failed;
@@ -132,7 +132,7 @@ impl MemDisk {
             }
             Leave::Drop => {
                 let low = first_changed(&self.steps, self.octets.len());
-                let end = synced(self.alloc, &self.steps, &self.octets, low)?;
+                let (end, _) = unwound(self.alloc, &self.steps, &self.octets, low)?;
                 self.begin_with(low, &end)
             }
             Leave::Torn => {

@@ -86,9 +86,9 @@ fn note_half(
     Ok(())
 }
 
-// Goes back to the last sync: the octets then, from a place on, and the first halves of the writes
-// since, the newest first.
-fn unwound(
+/// Goes back to the last sync: the octets then, from a place on, and the first halves of the writes
+/// since, the newest first.
+pub(crate) fn unwound(
     alloc: Global,
     steps: &[Step],
     octets: &[u8],
@@ -149,23 +149,5 @@ pub(crate) fn torn(
     'tears: while let Some(write) = tears.pop() {
         apply(&mut end, low, &write)?;
     }
-    Ok(end)
-}
-
-/// The octets from a place on at the last sync.
-pub(crate) fn synced(
-    alloc: Global,
-    steps: &[Step],
-    octets: &[u8],
-    low: usize,
-) -> Result<Vec<u8>, AllocError>
-    requires fits { Fits (reverse steps.now) octets.now }
-    requires within { low ≤ length octets.now }
-    requires from { AreFrom low (reverse steps.now) }
-    requires small { low < 2 ^ 63 }
-    ensures { IfOk result (λ v. take low octets.now ++ v.items
-        ≡ synced_in (reverse steps.now) octets.now) }
-{
-    let (end, _) = unwound(alloc, steps, octets, low)?;
     Ok(end)
 }

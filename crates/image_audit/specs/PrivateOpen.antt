@@ -1,7 +1,7 @@
 -- Words of private contracts: the first open fact of a value, an attribute and an entry, beside
 -- what the other replica has.
-use Rattle.std.specs.Prelude.{ℕ, false, not, ◌&&◌, List, Option, Some, None, if◌then◌else◌}
-use Rattle.std.specs.Option.{option_map_or, option_and_then, option_or}
+use Rattle.std.specs.Prelude.{◌≡◌, ℕ, false, not, ◌&&◌, List, Option, Some, None, if◌then◌else◌}
+use Rattle.std.specs.Option.{option_map, option_map_or, option_and_then, option_or}
 use Rattle.std.specs.FinMap.{entries, get}
 use Rattle.cds_stamps.specs.declared.stamp.Stamp.{Stamp}
 use Rattle.cds_stamps.specs.Firsts.{first_some}
@@ -20,6 +20,10 @@ use Rattle.image_audit.specs.Facts.{answers_cell}
 abbrev pub fact_of : OpenFact → Fact
 fact_of (lent.Birth n k c) = Birth n.now k c
 fact_of (lent.Value n c a v s) = Value n.now c a.now v.now s
+
+-- the fact that is found, if there is one, is this
+abbrev pub IsFact : Option OpenFact → Option Fact → Type 0
+IsFact found fact = option_map fact_of found ≡ fact
 
 -- a value is reported, if it is present by a mark up to t, and the other's attribute of the same
 -- birth does not answer

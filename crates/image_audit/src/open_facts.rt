@@ -3,10 +3,10 @@
 ghost use Rattle.std.specs.Prelude.{◌≡◌, ◌∷◌, Some, option_copied};
 ghost use Rattle.std.specs.FinMap as map;
 ghost use Rattle.std.specs.List.{find};
-ghost use Rattle.std.specs.Option.{option_map, option_and_then};
+ghost use Rattle.std.specs.Option.{option_and_then};
 ghost use Rattle.cds_stamps.specs.Firsts.{first_some};
 ghost use Rattle.image_audit.specs.Facts.{facts, is_open};
-ghost use Rattle.image_audit.specs.PrivateOpen.{fact_of, open_value, open_attr, open_birth, open_beside, open_entry};
+ghost use Rattle.image_audit.specs.PrivateOpen.{IsFact, open_value, open_attr, open_birth, open_beside, open_entry};
 
 use crate::answers::is_answered;
 use crate::fact::OpenFact;
@@ -30,9 +30,9 @@ fn open_value<'a>(
     mark: &ValueMark,
     other: Option<&AttrCell>,
 ) -> Option<OpenFact<'a>>
-    ensures { option_map fact_of result
-        ≡ open_value t at.now.name.now at.now.birth at.now.attr.now (option_copied other.entry)
-        (value.now, mark.now) }
+    ensures { IsFact result
+        (open_value t at.now.name.now at.now.birth at.now.attr.now
+        (option_copied other.entry) (value.now, mark.now)) }
 {
     if mark.present && mark.stamp <= t && !is_answered(other, value, mark.stamp) {
         Some(OpenFact::Value(at.name, at.birth, at.attr, value, mark.stamp))
@@ -48,10 +48,9 @@ fn first_value<'a>(
     cell: &'a AttrCell,
     other: Option<&AttrCell>,
 ) -> Option<OpenFact<'a>>
-    ensures { option_map fact_of result
-        ≡ first_some
-        (open_value t at.now.name.now at.now.birth at.now.attr.now (option_copied other.entry))
-        (map.entries cell.now.values) }
+    ensures { IsFact result
+        (first_some (open_value t at.now.name.now at.now.birth at.now.attr.now (option_copied other.entry))
+        (map.entries cell.now.values)) }
 {
     let t = &t;
     for (value, mark) in cell.values.iter() {
@@ -70,9 +69,9 @@ fn first_attr<'a>(
     entry: &'a EntryCell,
     same: Option<&EntryCell>,
 ) -> Option<OpenFact<'a>>
-    ensures { option_map fact_of result
-        ≡ first_some (open_attr t name.now entry.now.birth (option_copied same.entry))
-        (map.entries entry.now.attrs) }
+    ensures { IsFact result
+        (first_some (open_attr t name.now entry.now.birth (option_copied same.entry))
+        (map.entries entry.now.attrs)) }
 {
     let t = &t;
     for (attr, cell) in entry.attrs.iter() {
@@ -105,8 +104,7 @@ fn open_birth<'a>(
     entry: &EntryCell,
     same: Option<&EntryCell>,
 ) -> Option<OpenFact<'a>>
-    ensures { option_map fact_of result
-        ≡ open_birth t name.now entry.now (option_copied same.entry) }
+    ensures { IsFact result (open_birth t name.now entry.now (option_copied same.entry)) }
 {
     match same {
         Some(other) if other.kind == entry.kind => None,
@@ -122,8 +120,7 @@ fn open_beside<'a>(
     entry: &'a EntryCell,
     same: Option<&EntryCell>,
 ) -> Option<OpenFact<'a>>
-    ensures { option_map fact_of result
-        ≡ open_beside t name.now entry.now (option_copied same.entry) }
+    ensures { IsFact result (open_beside t name.now entry.now (option_copied same.entry)) }
 {
     let t = &t;
     match open_birth(*t, name, entry, same) {
@@ -139,8 +136,7 @@ fn open_entry<'a>(
     entry: &'a EntryCell,
     other: Option<&EntryCell>,
 ) -> Option<OpenFact<'a>>
-    ensures { option_map fact_of result
-        ≡ open_entry t name.now entry.now (option_copied other.entry) }
+    ensures { IsFact result (open_entry t name.now entry.now (option_copied other.entry)) }
 {
     match other {
         Some(other) if entry.birth < other.birth => None,
@@ -151,7 +147,7 @@ fn open_entry<'a>(
 
 /// The first fact of a table up to t for which another table does not answer.
 pub(crate) fn first_open<'a>(t: Stamp, own: &'a Table, other: &Table) -> Option<OpenFact<'a>>
-    ensures { option_map fact_of result ≡ find (is_open other.now) (facts (Some t) own.now) }
+    ensures { IsFact result (find (is_open other.now) (facts (Some t) own.now)) }
 {
     let t = &t;
     for (name, entry) in own.iter() {

@@ -2,6 +2,9 @@
 -- (own, after C706, name service entries).
 use Rattle.std.specs.Prelude.{ℕ, true, is_none, List, Option, Some, None, Result, Ok, Err}
 use Rattle.std.specs.Option.{option_map}
+use Rattle.std.specs.Result.{result_map_both}
+use Rattle.cds_stamps.specs.declared.alloc_or.AllocOr.{AllocOr}
+use Rattle.cds_stamps.specs.Outcomes.{Answers}
 use Rattle.tower_codec.specs.declared.binding.StringBinding.{StringBinding}
 use Rattle.tower_codec.specs.declared.rpc.Interface.{Interface}
 use Rattle.directory.specs.declared.entry.Kind.{Kind}
@@ -40,6 +43,11 @@ Asks = Result Changes ScriptRefusal
 -- updates, as changes (own)
 abbrev pub changes_in : Updates → Changes
 changes_in u = record { house = u.house.0; dir = u.dir.0; list = changes u.list.items }
+
+-- the updates that are answered are those that a command asks for, or it is answered why it asks
+-- for nothing, unless memory runs out (own)
+abbrev pub AnswersAsk : Result Updates (AllocOr ScriptRefusal) → Asks → Type 0
+AnswersAsk result asks = Answers (result_map_both changes_in (λ e. e) result) asks
 
 -- ---- refusals
 

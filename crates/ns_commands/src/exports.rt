@@ -1,10 +1,8 @@
 // Commands about servers.
 ghost use Rattle.std.specs.Prelude.{◌≡◌, IfSome, option_copied};
-ghost use Rattle.std.specs.Result.{result_map_both};
-ghost use Rattle.cds_stamps.specs.Outcomes.{Answers};
 ghost use Rattle.cds_stamps.specs.declared.alloc_or.AllocOr.TheVariants.{Fault};
 ghost use Rattle.server_entries.specs.Exports.{export_fault, unexport_changes};
-ghost use Rattle.ns_commands.specs.Asks.{changes_in, export, refusal_of_export as refusal, unexport, unless_none};
+ghost use Rattle.ns_commands.specs.Asks.{AnswersAsk, export, refusal_of_export as refusal, unexport, unless_none};
 
 use crate::entries::{object, place_to_fill, values_of};
 use crate::refusals::refusal_of_export;
@@ -30,7 +28,7 @@ pub fn export<R: EntryReader>(
     bindings: &[StringBinding],
     objects: &[Uuid],
 ) -> Result<Updates, AllocOr<ScriptRefusal>>
-    ensures answer { Answers (result_map_both changes_in (λ e. e) result)
+    ensures answer { AnswersAsk result
         (export (R.tells reader.now) name.now interface.now bindings.now objects.now) }
     ensures faulty { IfSome (export_fault bindings.now objects.now)
         (λ fault. result ≡ Err (Fault (refusal fault))) }
@@ -54,7 +52,7 @@ pub fn unexport<R: EntryReader>(
     interface: Option<&Interface>,
     objects: &[Uuid],
 ) -> Result<Updates, AllocOr<ScriptRefusal>>
-    ensures { Answers (result_map_both changes_in (λ e. e) result)
+    ensures { AnswersAsk result
         (unexport (R.tells reader.now) name.now (option_copied interface.entry) objects.now) }
 {
     let entry = object(alloc, reader, name)?;
@@ -72,8 +70,7 @@ fn losses(
     interface: Option<&Interface>,
     objects: &[Uuid],
 ) -> Result<Updates, AllocOr<ScriptRefusal>>
-    ensures { Answers (result_map_both changes_in (λ e. e) result)
-        (unless_none entry.now
+    ensures { AnswersAsk result (unless_none entry.now
         (unexport_changes entry.now.name towers.now held.now
         (option_copied interface.entry) objects.now)) }
 {

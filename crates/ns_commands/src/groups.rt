@@ -1,7 +1,5 @@
 // Commands about groups.
-ghost use Rattle.std.specs.Result.{result_map_both};
-ghost use Rattle.cds_stamps.specs.Outcomes.{Answers};
-ghost use Rattle.ns_commands.specs.Asks.{add_member, changes_in, delete_member};
+ghost use Rattle.ns_commands.specs.Asks.{AnswersAsk, add_member, delete_member};
 
 use crate::entries::{object, place_to_fill, values_of};
 use crate::refusals::refusal_of_group;
@@ -20,8 +18,7 @@ pub fn add_member<R: EntryReader>(
     name: &FullName,
     member: &FullName,
 ) -> Result<Updates, AllocOr<ScriptRefusal>>
-    ensures { Answers (result_map_both changes_in (λ e. e) result)
-        (add_member (R.tells reader.now) name.now member.now) }
+    ensures { AnswersAsk result (add_member (R.tells reader.now) name.now member.now) }
 {
     let place = place_to_fill(alloc, reader, name)?;
     let list = add(alloc, &place.name, place.kind.is_none(), member)?;
@@ -35,8 +32,7 @@ pub fn delete_member<R: EntryReader>(
     name: &FullName,
     member: &FullName,
 ) -> Result<Updates, AllocOr<ScriptRefusal>>
-    ensures { Answers (result_map_both changes_in (λ e. e) result)
-        (delete_member (R.tells reader.now) name.now member.now) }
+    ensures { AnswersAsk result (delete_member (R.tells reader.now) name.now member.now) }
 {
     let entry = object(alloc, reader, name)?;
     let values = values_of(alloc, reader, &entry, GROUP)?;

@@ -1,12 +1,10 @@
 // Commands about profiles.
 ghost use Rattle.std.specs.Prelude.{◌≡◌, IfSome, IsTrue, option_copied};
 ghost use Rattle.std.specs.List.{list_all};
-ghost use Rattle.std.specs.Result.{result_map_both};
-ghost use Rattle.cds_stamps.specs.Outcomes.{Answers};
 ghost use Rattle.cds_stamps.specs.declared.alloc_or.AllocOr.TheVariants.{Fault};
 ghost use Rattle.ns_profiles.specs.Elements.{is_annotation_octet};
 ghost use Rattle.ns_profiles.specs.Profiles.{add_fault};
-ghost use Rattle.ns_commands.specs.Asks.{add_element, changes_in, delete_element, deleted_from, refusal_of_profile as refusal};
+ghost use Rattle.ns_commands.specs.Asks.{AnswersAsk, add_element, delete_element, deleted_from, refusal_of_profile as refusal};
 
 use crate::entries::{object, place_to_fill, values_of};
 use crate::refusals::refusal_of_profile;
@@ -33,7 +31,7 @@ pub fn add_element<R: EntryReader>(
     annotation: &[u8],
 ) -> Result<Updates, AllocOr<ScriptRefusal>>
     requires { IsTrue (list_all is_annotation_octet annotation.now) }
-    ensures answer { Answers (result_map_both changes_in (λ e. e) result)
+    ensures answer { AnswersAsk result
         (add_element (R.tells reader.now) name.now
         (option_copied interface.entry) member.now priority annotation.now) }
     ensures faulty { IfSome (add_fault
@@ -68,7 +66,7 @@ pub fn delete_element<R: EntryReader>(
     interface: Option<&Interface>,
     member: &FullName,
 ) -> Result<Updates, AllocOr<ScriptRefusal>>
-    ensures { Answers (result_map_both changes_in (λ e. e) result)
+    ensures { AnswersAsk result
         (delete_element (R.tells reader.now) name.now (option_copied interface.entry) member.now) }
 {
     let entry = object(alloc, reader, name)?;
@@ -84,7 +82,7 @@ fn deletions(
     interface: Option<&Interface>,
     member: &FullName,
 ) -> Result<Updates, AllocOr<ScriptRefusal>>
-    ensures { Answers (result_map_both changes_in (λ e. e) result)
+    ensures { AnswersAsk result
         (deleted_from (option_copied interface.entry) member.now entry.now values.now) }
 {
     match delete(alloc, &entry.name, values, interface, member) {

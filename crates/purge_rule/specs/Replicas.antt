@@ -1,5 +1,5 @@
 -- Replicas of histories (own, after C705, replicas and AllUpTo).
-use Rattle.std.specs.Prelude.{◌≡◌, List, Option, Some, None}
+use Rattle.std.specs.Prelude.{◌≡◌, List, Option, Some, None, Result, IfSome, OnOk, OnErr}
 use Rattle.std.specs.List.{AllByRecursion}
 use Rattle.cds_stamps.specs.declared.stamp.Stamp.{Stamp}
 use Rattle.cds_stamps.specs.Joins.{EachValue}
@@ -35,11 +35,26 @@ pub record IsDelta (d : Delta) : Type 0 where
 abbrev pub together : Option Stamp → Option Stamp → Option Stamp
 together = maybe later_stamp
 
+-- the replica of a history becomes its replica up to t, unless its AllUpTo is later (own)
+abbrev pub RaisesAllUpTo : Replica → Replica → Stamp → Type 0
+RaisesAllUpTo old new t =
+    (h : List Mark) → old ≡ replica_of h old.all_up_to → new ≡ replica_of h (together old.all_up_to (Some t))
+
+-- the deletions of a table are dropped up to the new AllUpTo, if there is one (own)
+abbrev pub DropsDeletions : Replica → Replica → Type 0
+DropsDeletions old new = IfSome new.all_up_to (λ u. new.table ≡ purged_table u old.table)
+
 -- two tables, merged up to an AllUpTo: of the other what is later is taken, and deletions up to it
 -- are dropped (own, after C705, skulks and AllUpTo)
 abbrev pub merged_table : Option Stamp → Entries → Entries → Entries
 merged_table None own other = join_tables own other
 merged_table (Some t) own other = purged_table t (take_table t own other)
+
+-- a valid table is merged in, up to an AllUpTo; or there is no memory, and nothing is merged (own)
+pub record MergesTable {E : Type 0} (t : Option Stamp) (old new other : Entries)
+    (r : Result (Unit {0}) E) : Type 0 where
+  pub ok : OnOk r (IsValidTable old → IsValidTable other → new ≡ merged_table t old other)
+  pub err : OnErr r (new ≡ old)
 
 -- an entry with what is taken up to an AllUpTo of another of its name (own)
 abbrev pub merged_entry : Option Stamp → Option EntryCell → Option EntryCell → Option EntryCell

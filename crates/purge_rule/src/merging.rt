@@ -3,9 +3,9 @@ ghost use Rattle.std.specs.Prelude.{◌≡◌, ℕ, List, Some, None, IfSome, On
 ghost use Rattle.std.specs.FinMap as map;
 ghost use Rattle.cds_stamps.specs.Octets.{is_octets};
 ghost use Rattle.directory.specs.Applied.{JoinsEntry, LeavesOthers};
-ghost use Rattle.directory.specs.Entries.{IsValidEntry, IsValidTable};
+ghost use Rattle.directory.specs.Entries.{IsValidEntry};
 ghost use Rattle.directory.specs.Purges.{after_entry, purged_table, take_entry, take_table};
-ghost use Rattle.purge_rule.specs.Replicas.{merged_table, merged_entry};
+ghost use Rattle.purge_rule.specs.Replicas.{merged_entry, MergesTable};
 
 use cds_stamps::{Lattice, Stamp};
 use directory::{Excerpt, Fragment, Table, is_passed};
@@ -18,9 +18,7 @@ pub(crate) fn merge_table(
     other: &Table,
     up_to: Option<Stamp>,
 ) -> Result<(), AllocError>
-    ensures ok { OnOk result (IsValidTable own.old → IsValidTable other.now
-        → own.new ≡ merged_table up_to own.old other.now) }
-    ensures err { OnErr result (own.new ≡ own.old) }
+    ensures { MergesTable up_to own.old own.new other.now result }
 {
     match up_to {
         Some(t) => take_table(own, alloc, other, t),
@@ -47,9 +45,7 @@ pub(crate) fn merge_excerpt(
     other: &Excerpt,
     up_to: Option<Stamp>,
 ) -> Result<(), AllocError>
-    ensures ok { OnOk result (IsValidTable own.old → IsValidTable other.now
-        → own.new ≡ merged_table up_to own.old other.now) }
-    ensures err { OnErr result (own.new ≡ own.old) }
+    ensures { MergesTable up_to own.old own.new other.now result }
 {
     match up_to {
         Some(t) => take_excerpt(own, alloc, other, t),

@@ -6,8 +6,7 @@ ghost use Rattle.directory.specs.declared.deletions.Deletion.{Deletion};
 ghost use Rattle.directory.specs.Deletions.{has_deletion, HasNone};
 ghost use Rattle.directory.specs.Entries.{IsValidEntry, IsValidTable};
 ghost use Rattle.directory.specs.Histories.{Mark, CanMerge};
-ghost use Rattle.purge_rule.specs.Replicas.{replica_of, together, merged_table, merged_entry, IsFragmentOf};
-ghost use Rattle.directory.specs.Purges.{purged_table};
+ghost use Rattle.purge_rule.specs.Replicas.{replica_of, together, merged_table, merged_entry, DropsDeletions, IsFragmentOf, RaisesAllUpTo};
 ghost use Rattle.directory.specs.Held.{held_in, most_held};
 ghost use Rattle.purge_rule.specs.Latest.{EntryUpTo, ReplicaUpTo, latest_time};
 
@@ -105,10 +104,8 @@ impl Replica {
     /// Raises AllUpTo to this stamp, if that is later, and drops the deletions up to it. It takes
     /// no memory.
     pub fn advance(&mut self, t: Stamp)
-        ensures merged { (h : List Mark) → self.old ≡ replica_of h self.old.all_up_to
-            → self.new ≡ replica_of h (together self.old.all_up_to (Some t)) }
-        ensures dropped { IfSome self.new.all_up_to
-            (λ u. self.new.table ≡ purged_table u self.old.table) }
+        ensures merged { RaisesAllUpTo self.old self.new t }
+        ensures dropped { DropsDeletions self.old self.new }
         ensures all_up_to { self.new.all_up_to ≡ together self.old.all_up_to (Some t) }
         ensures valid { IsValidTable self.old.table → IsValidTable self.new.table }
         ensures times { (n : ℕ) → ReplicaUpTo n self.old → t.time ≤ n → ReplicaUpTo n self.new }
@@ -120,10 +117,8 @@ impl Replica {
     /// The same, and its steps are counted: a deletion that the index of the table hands out is
     /// one, and so is each further record that is dropped with its entry.
     pub fn advance_counted<L: Ledger>(&mut self, t: Stamp, steps: &mut Steps<L>)
-        ensures merged { (h : List Mark) → self.old ≡ replica_of h self.old.all_up_to
-            → self.new ≡ replica_of h (together self.old.all_up_to (Some t)) }
-        ensures dropped { IfSome self.new.all_up_to
-            (λ u. self.new.table ≡ purged_table u self.old.table) }
+        ensures merged { RaisesAllUpTo self.old self.new t }
+        ensures dropped { DropsDeletions self.old self.new }
         ensures all_up_to { self.new.all_up_to ≡ together self.old.all_up_to (Some t) }
         ensures valid { IsValidTable self.old.table → IsValidTable self.new.table }
         ensures times { (n : ℕ) → ReplicaUpTo n self.old → t.time ≤ n → ReplicaUpTo n self.new }

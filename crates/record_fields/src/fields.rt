@@ -10,7 +10,7 @@ ghost use Rattle.attr_sets.specs.Values.{value_fault};
 ghost use Rattle.record_fields.specs.FieldReaders.{ReadsSurely};
 ghost use Rattle.record_fields.specs.Fields.{node_of, free, outside, is_cleared, above_rule, mark_rule, octets_order, name_rule, octet, number, node, stamp, optional_stamp};
 ghost use Rattle.record_fields.specs.Fields.{octets_of, simple_name, attr_name, value};
-ghost use Rattle.record_fields.specs.declared.fault.Rule.TheVariants.{Short, OutOfOrder};
+ghost use Rattle.record_fields.specs.declared.fault.Rule.TheVariants.{Short, OutOfOrder, BadName};
 
 use crate::fault::{Broken, Rule};
 use attr_sets::LONGEST_VALUE;
@@ -258,13 +258,10 @@ impl<'a> Reader<'a> {
     {
         let left = self.left();
         let own = self.take(size)?;
-        if !are_name_octets(own) {
-            return Err(broken(Rule::BadName, left));
+        match name_fault(own, are_name_octets(own), before) {
+            Some(rule) => Err(broken(rule, left)),
+            None => Ok(own),
         }
-        if is_unordered(own, before) {
-            return Err(broken(Rule::OutOfOrder, left));
-        }
-        Ok(own)
     }
 
     /// So many octets, each in names of attributes, above those before them.
@@ -278,13 +275,10 @@ impl<'a> Reader<'a> {
     {
         let left = self.left();
         let own = self.take(size)?;
-        if !are_attr_octets(own) {
-            return Err(broken(Rule::BadName, left));
+        match name_fault(own, are_attr_octets(own), before) {
+            Some(rule) => Err(broken(rule, left)),
+            None => Ok(own),
         }
-        if is_unordered(own, before) {
-            return Err(broken(Rule::OutOfOrder, left));
-        }
-        Ok(own)
     }
 
     /// So many octets, above those before them.
@@ -368,6 +362,21 @@ fn is_unordered(octets: &[u8], before: Option<&[u8]>) -> bool
         Some(before) => !before.cmp(octets).is_lt(),
         None => false,
     }
+}
+
+/// The rule that the octets of a name break, if they do: each of them is in names, and they are
+/// above those before them.
+fn name_fault(octets: &[u8], in_names: bool, before: Option<&[u8]>) -> Option<Rule>
+    ensures { result ≡ (if in_names
+        then octets_order (option_map (λ b. b.now) before.entry) octets.now else Some BadName) }
+{
+    if !in_names {
+        return Some(Rule::BadName);
+    }
+    if is_unordered(octets, before) {
+        return Some(Rule::OutOfOrder);
+    }
+    None
 }
 
 /// Whether each of the octets is in names.

@@ -4,6 +4,7 @@ ghost use Rattle.directory.specs.OwnUpdateWords.{is_own};
 ghost use Rattle.directory.specs.Updates.{Repoint, changed_name, change_of};
 ghost use Rattle.directory.specs.Histories.{entry_of};
 ghost use Rattle.directory.specs.Shown.{shown_in, refusal_of, marks_of};
+ghost use Rattle.directory.specs.ToldWords.{IsAccepted};
 
 use super::EntryMap;
 use crate::attr_map::AttrMap;
@@ -23,8 +24,7 @@ impl EntryMap {
         update: &Update,
         stamp: Stamp,
     ) -> Result<Fragment, AllocError>
-        requires { refusal_of (shown_in self.now (changed_name (change_of update.now)))
-            (change_of update.now) ≡ None }
+        requires { IsAccepted self.now (change_of update.now) }
         ensures name { IfOk result (λ f. f.name ≡ changed_name (change_of update.now)) }
         ensures entry { IfOk result (λ f. let u = change_of update.now in
             entry_of (marks_of (shown_in self.now (changed_name u)) u stamp) f.name
@@ -57,8 +57,7 @@ impl EntryMap {
         stamp: Stamp,
     ) -> Result<Fragment, AllocError>
         requires own { is_own (change_of update.now) ≡ true }
-        requires accepted { refusal_of (shown_in self.now (changed_name (change_of update.now)))
-            (change_of update.now) ≡ None }
+        requires accepted { IsAccepted self.now (change_of update.now) }
         ensures name { IfOk result (λ f. f.name ≡ changed_name (change_of update.now)) }
         ensures entry { IfOk result (λ f. let u = change_of update.now in
             entry_of (marks_of (shown_in self.now (changed_name u)) u stamp) f.name

@@ -5,7 +5,6 @@ ghost use Rattle.cds_stamps.specs.Octets.{octets_cmp};
 ghost use Rattle.cds_stamps.specs.Undos.{LogsChange, MendsAt, back_at};
 ghost use Rattle.directory.specs.Applied.{JoinsEntry, LeavesOthers};
 ghost use Rattle.directory.specs.Entries.{join_tables, IsValidTable};
-ghost use Rattle.directory.specs.EntryLawProofs.{table_join};
 ghost use Rattle.directory.specs.EntryUndoWords.{undo_entry};
 
 use super::EntryMap;
@@ -193,22 +192,13 @@ impl EntryMap {
     {
         self.entries.remove(name)
     }
-}
 
-impl Lattice for EntryMap {
-    ghost valid = { IsValidTable };
-
-    ghost joined = { join_tables };
-
-    ghost keeps_valid = { λ x y p q. table_join.keeps x y p q };
-
-    ghost commutative = { λ x y _ _. table_join.comm x y };
-
-    ghost associative = { λ x y z _ _ _. table_join.assoc x y z };
-
-    ghost idempotent = { λ x valid. table_join.idem x valid };
-
-    fn join(&mut self, alloc: Global, other: &Self) -> Result<(), AllocError> {
+    /// Joins the entries of another table in.
+    pub(crate) fn join(&mut self, alloc: Global, other: &EntryMap) -> Result<(), AllocError>
+        ensures ok { OnOk result (IsValidTable self.old → IsValidTable other.now
+            → self.new ≡ join_tables self.old other.now) }
+        ensures err { OnErr result (self.new ≡ self.old) }
+    {
         let mut log = Vec::new(alloc);
         if let Err(error) = self.raise_all(alloc, other, &mut log) {
             self.take_back(log);

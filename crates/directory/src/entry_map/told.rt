@@ -7,25 +7,20 @@ ghost use Rattle.directory.specs.Shown.{Shown, new_refusal, refusal_of};
 ghost use Rattle.directory.specs.ToldWords.{TellsUpdate};
 
 use super::EntryMap;
-use crate::entry::Fragment;
+use crate::entry::Told;
 use crate::update::{OwnUpdate, Update, UpdateRefusal};
 use cds_stamps::{SimpleName, Stamp};
-use std::alloc::{AllocError, Global};
+use std::alloc::Global;
 
 impl EntryMap {
     /// Adds the marks of an update with this stamp in place, and gives its fragment; or refuses it.
     /// The name of a deletion or of a change of an attribute is looked up once, and that of a new
     /// entry twice.
-    pub(crate) fn accept_told(
-        &mut self,
-        alloc: Global,
-        update: &Update,
-        stamp: Stamp,
-    ) -> Result<Result<Fragment, UpdateRefusal>, AllocError>
+    pub(crate) fn accept_told(&mut self, alloc: Global, update: &Update, stamp: Stamp) -> Told
         ensures { TellsUpdate self.old self.new (change_of update.now) stamp result }
     {
         if let Some(own) = update.own() {
-            return self.tell_own(alloc, update.name(), &own, stamp);
+            return self.tell(alloc, update.name(), &own, stamp);
         }
         match update {
             Update::Create(_) | Update::MakeLink(_, _) | Update::MakeChild(_, _) => {
@@ -37,12 +32,7 @@ impl EntryMap {
 
     /// The same for an update that makes an entry. A name that has none, live or not, gets a copy
     /// of its fragment.
-    fn create_told(
-        &mut self,
-        alloc: Global,
-        update: &Update,
-        stamp: Stamp,
-    ) -> Result<Result<Fragment, UpdateRefusal>, AllocError>
+    fn create_told(&mut self, alloc: Global, update: &Update, stamp: Stamp) -> Told
         requires { (e : Option Shown) → refusal_of e (change_of update.now) ≡ new_refusal e }
         ensures { TellsUpdate self.old self.new (change_of update.now) stamp result }
     {
@@ -57,12 +47,7 @@ impl EntryMap {
     }
 
     /// The same for any update, with look-ups for each of its parts.
-    fn remake_told(
-        &mut self,
-        alloc: Global,
-        update: &Update,
-        stamp: Stamp,
-    ) -> Result<Result<Fragment, UpdateRefusal>, AllocError>
+    fn remake_told(&mut self, alloc: Global, update: &Update, stamp: Stamp) -> Told
         ensures { TellsUpdate self.old self.new (change_of update.now) stamp result }
     {
         if let Err(refusal) = self.check(update) {
@@ -75,13 +60,7 @@ impl EntryMap {
 
     /// Adds the marks of an update of it to the entry of a name, and gives its fragment; or refuses
     /// it.
-    fn tell_own(
-        &mut self,
-        alloc: Global,
-        name: &SimpleName,
-        update: &OwnUpdate,
-        stamp: Stamp,
-    ) -> Result<Result<Fragment, UpdateRefusal>, AllocError>
+    fn tell(&mut self, alloc: Global, name: &SimpleName, update: &OwnUpdate, stamp: Stamp) -> Told
         ensures accepts { AcceptsOwn self.old self.new name.now update.now stamp result }
         ensures name { IfOk result (λ answer. IfOk answer (λ f. f.name ≡ name.now)) }
         ensures entry { IfOk result

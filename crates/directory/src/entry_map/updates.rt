@@ -1,14 +1,14 @@
 // Updates that are applied in place.
-ghost use Rattle.std.specs.Prelude.{◌≡◌, Option, None, OnOk, OnErr};
-ghost use Rattle.directory.specs.Applied.{TakesOwn, TakesIn, JoinsEntry, LeavesOthers};
+ghost use Rattle.std.specs.Prelude.{◌≡◌, Option, OnOk, OnErr};
+ghost use Rattle.directory.specs.Applied.{TakesOwn, JoinsEntry, LeavesOthers};
 ghost use Rattle.directory.specs.OwnUpdateWords.{own_made, AcceptsOwn};
 ghost use Rattle.directory.specs.Updates.{changed_name, change_of};
-ghost use Rattle.directory.specs.Shown.{Shown, shown_in, new_refusal, refusal_of, marks_of};
-ghost use Rattle.directory.specs.ToldWords.{AcceptsUpdate};
+ghost use Rattle.directory.specs.Shown.{Shown, new_refusal, refusal_of};
+ghost use Rattle.directory.specs.ToldWords.{IsAccepted, TakesMarksOf, AcceptsUpdate};
 
 use super::EntryMap;
 use crate::entry::Fragment;
-use crate::update::{OwnUpdate, Update, UpdateRefusal};
+use crate::update::{Accepted, OwnUpdate, Update, UpdateRefusal};
 use cds_stamps::{SimpleName, Stamp};
 use std::alloc::{AllocError, Global};
 
@@ -21,11 +21,8 @@ impl EntryMap {
         update: &Update,
         stamp: Stamp,
     ) -> Result<(), AllocError>
-        requires { refusal_of (shown_in self.old (changed_name (change_of update.now)))
-            (change_of update.now) ≡ None }
-        ensures ok { let n = changed_name (change_of update.now) in
-            OnOk result (TakesIn self.old self.new n
-            (marks_of (shown_in self.old n) (change_of update.now) stamp)) }
+        requires { IsAccepted self.old (change_of update.now) }
+        ensures ok { OnOk result (TakesMarksOf self.old self.new (change_of update.now) stamp) }
         ensures others { LeavesOthers self.old self.new (changed_name (change_of update.now)) }
         ensures err { OnErr result (self.new ≡ self.old) }
     {
@@ -38,12 +35,7 @@ impl EntryMap {
 
     /// Adds the marks of an update with this stamp in place, or refuses it: as check and apply do,
     /// but that the name of a deletion or of a change of an attribute is looked up once.
-    pub(crate) fn accept(
-        &mut self,
-        alloc: Global,
-        update: &Update,
-        stamp: Stamp,
-    ) -> Result<Result<(), UpdateRefusal>, AllocError>
+    pub(crate) fn accept(&mut self, alloc: Global, update: &Update, stamp: Stamp) -> Accepted
         ensures { AcceptsUpdate self.old self.new (change_of update.now) stamp result }
     {
         if let Some(own) = update.own() {
@@ -59,12 +51,7 @@ impl EntryMap {
 
     /// The same for an update that makes an entry. A name that has none, live or not, is looked up
     /// twice, the second time to insert it.
-    fn accept_new(
-        &mut self,
-        alloc: Global,
-        update: &Update,
-        stamp: Stamp,
-    ) -> Result<Result<(), UpdateRefusal>, AllocError>
+    fn accept_new(&mut self, alloc: Global, update: &Update, stamp: Stamp) -> Accepted
         requires { (e : Option Shown) → refusal_of e (change_of update.now) ≡ new_refusal e }
         ensures { AcceptsUpdate self.old self.new (change_of update.now) stamp result }
     {
@@ -77,12 +64,7 @@ impl EntryMap {
     }
 
     /// The same for any update, with look-ups for each of the two.
-    fn check_and_apply(
-        &mut self,
-        alloc: Global,
-        update: &Update,
-        stamp: Stamp,
-    ) -> Result<Result<(), UpdateRefusal>, AllocError>
+    fn check_and_apply(&mut self, alloc: Global, update: &Update, stamp: Stamp) -> Accepted
         ensures { AcceptsUpdate self.old self.new (change_of update.now) stamp result }
     {
         match self.check(update) {
@@ -101,7 +83,7 @@ impl EntryMap {
         name: &SimpleName,
         update: &OwnUpdate,
         stamp: Stamp,
-    ) -> Result<Result<(), UpdateRefusal>, AllocError>
+    ) -> Accepted
         ensures { AcceptsOwn self.old self.new name.now update.now stamp result }
     {
         match self.entries.get_mut(name) {

@@ -7,7 +7,7 @@ use Rattle.cds_stamps.specs.Octets.{octets_cmp, octets_exact}
 use Rattle.attr_sets.proofs.PartLoops.{each_starts}
 use Rattle.attr_sets.proofs.ShownLaws.{keys_rise}
 use Rattle.directory.specs.Entries.{IsValidEntry, IsValidTable}
-use Rattle.directory.proofs.LaterLaws.{IsTaken, of_entries, turns_start, take_step, take_end}
+use Rattle.directory.proofs.LaterLaws.{IsTaken, of_entries, turns_start, take_step, take_end, then_logged}
 use Rattle.directory.proofs.later.take_each.Goals as goal
 
 pub loop-name-init : goal.loop-name-init
@@ -20,9 +20,7 @@ loop-name-init c =
       takes = λ mine theirs. turns_start nat_list_cmp_total octets_exact c.args.entries.now (IsTaken c.args.t c.args.entries.now other) other
           c.args.entries.now _ items refl;
       knows = λ theirs known. known;
-      back = λ q. refl;
-      keeps = λ d known. known;
-      room = refl;
+      logged = record { back = λ q. refl; keeps = λ d known. known; room = refl };
     }
 
 pub loop-name-preserved : goal.loop-name-preserved
@@ -37,10 +35,11 @@ loop-name-preserved c =
           take_step c.args.t c.args.entries.now c.args.other.now c.loop-name.entries c.take_one.new.entries c.in-Some.name.now c.in-Some.entry.now
           c.loop-name.name-iterator c.next.new.self c.in-Some.ensures.steps mine c.in_ok-take_one.ensures.ok (comes theirs).0 (c.loop-name.invariant.takes mine theirs);
       knows = λ theirs known. c.in_ok-take_one.ensures.knows (c.loop-name.invariant.knows theirs known) (comes theirs).0;
-      back = λ q. c.take_one.ensures.back q ∙ c.loop-name.invariant.back q;
-      keeps = λ d known. c.take_one.ensures.keeps d (c.loop-name.invariant.keeps d known);
-      room = c.take_one.ensures.room ∙ c.loop-name.invariant.room;
+      logged = then_logged c.loop-name.invariant.logged c.take_one.ensures.logged;
     }
+
+pub returns-in_err-take_one-clause-logged : goal.returns-in_err-take_one-clause-logged
+returns-in_err-take_one-clause-logged c = then_logged c.loop-name.invariant.logged c.take_one.ensures.logged
 
 pub returns-clause-ok : goal.returns-clause-ok
 returns-clause-ok c = λ mine theirs.

@@ -11,31 +11,23 @@ pub invariant_of-self : goal.invariant_of-self
 invariant_of-self g c = rw c.remove-value.ensures.items
     (removed_ordered g.met.K.Ord.total c.args.key.now c.self.inside.entries.items c.in-Ok.at (rw c.self.view_is c.in-Ok.ensures.place) c.self.invariant)
 
-pub returns-in-Ok-clause-value : goal.returns-in-Ok-clause-value
-returns-in-Ok-clause-value g c = rw (← c.self.view_is)
-    (value_there g.met.K.Ord.total c.args.key.now c.self.inside.entries.items c.in-Ok.at (rw c.self.view_is c.in-Ok.ensures.place)
-    c.remove-value.result c.remove-value.ensures.value)
+pub returns-in-Ok : goal.returns-in-Ok
+returns-in-Ok g c =
+    record {
+      value = rw (← c.self.view_is) (value_there g.met.K.Ord.total c.args.key.now c.self.inside.entries.items c.in-Ok.at (rw c.self.view_is c.in-Ok.ensures.place) c.remove-value.result c.remove-value.ensures.value);
+      updates = rw (c.remove-value.ensures.items, ← c.self.view_is) (removed_updates g.met.K.Ord.total c.args.key.now c.self.inside.entries.items c.in-Ok.at (rw c.self.view_is c.in-Ok.ensures.place) c.self.invariant);
+      entries = rw (c.remove-value.ensures.items, ← c.self.view_is) (removed g.met.K.Ord.total c.args.key.now c.self.inside.entries.items c.in-Ok.at (rw c.self.view_is c.in-Ok.ensures.place));
+      ordered = rw c.remove-value.ensures.items (removed_ordered g.met.K.Ord.total c.args.key.now c.self.inside.entries.items c.in-Ok.at (rw c.self.view_is c.in-Ok.ensures.place) c.self.invariant);
+    }
 
-pub returns-in-Ok-clause-updates : goal.returns-in-Ok-clause-updates
-returns-in-Ok-clause-updates g c = rw (c.remove-value.ensures.items, ← c.self.view_is)
-    (removed_updates g.met.K.Ord.total c.args.key.now c.self.inside.entries.items c.in-Ok.at (rw c.self.view_is c.in-Ok.ensures.place) c.self.invariant)
-
-pub returns-in-Ok-clause-entries : goal.returns-in-Ok-clause-entries
-returns-in-Ok-clause-entries g c = rw (c.remove-value.ensures.items, ← c.self.view_is)
-    (removed g.met.K.Ord.total c.args.key.now c.self.inside.entries.items c.in-Ok.at (rw c.self.view_is c.in-Ok.ensures.place))
-
-pub returns-in-Ok-clause-ordered : goal.returns-in-Ok-clause-ordered
-returns-in-Ok-clause-ordered g c = rw c.remove-value.ensures.items
-    (removed_ordered g.met.K.Ord.total c.args.key.now c.self.inside.entries.items c.in-Ok.at (rw c.self.view_is c.in-Ok.ensures.place) c.self.invariant)
-
-pub returns-in-Err-clause-value : goal.returns-in-Err-clause-value
-returns-in-Err-clause-value g c =
-    none_there g.met.K.Ord.total c.args.key.now c.args.self.now c.find.ensures.ordered c.in-Err.field-0 c.in-Err.ensures.place
-
-pub returns-in-Err-clause-updates : goal.returns-in-Err-clause-updates
-returns-in-Err-clause-updates g c =
-    none_removed_updates g.met.K.Ord.total c.args.key.now c.args.self.now c.find.ensures.ordered c.in-Err.field-0 c.in-Err.ensures.place
-
-pub returns-in-Err-clause-entries : goal.returns-in-Err-clause-entries
-returns-in-Err-clause-entries g c =
-    none_removed g.met.K.Ord.total c.args.key.now c.args.self.now c.find.ensures.ordered c.in-Err.field-0 c.in-Err.ensures.place
+pub returns-in-Err : goal.returns-in-Err
+returns-in-Err g c =
+    let o = g.met.K.Ord.total in
+    let k = c.args.key.now in
+    let es = c.args.self.now in
+    record {
+      value = none_there o k es c.find.ensures.ordered c.in-Err.field-0 c.in-Err.ensures.place;
+      updates = none_removed_updates o k es c.find.ensures.ordered c.in-Err.field-0 c.in-Err.ensures.place;
+      entries = none_removed o k es c.find.ensures.ordered c.in-Err.field-0 c.in-Err.ensures.place;
+      ordered = c.find.ensures.ordered;
+    }

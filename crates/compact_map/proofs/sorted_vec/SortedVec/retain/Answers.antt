@@ -42,9 +42,11 @@ returns-clause-filtered g c =
     ended (CalledAtPair g.F.FnMut) (TakesPair g.F.FnMut) c.args.f c.args.self.now c.loop-at.invariant
     (omega (arith, c.loop-at-test.false, c.len.ensures, c.loop-at.self-inside.entries.ok.0))
 
-pub returns-clause-ordered : goal.returns-clause-ordered
-returns-clause-ordered g c =
-    kept_ordered (CalledAtPair g.F.FnMut) g.K.Ord.cmp c.args.f c.args.self.now _
-    (ended (CalledAtPair g.F.FnMut) (TakesPair g.F.FnMut) c.args.f c.args.self.now c.loop-at.invariant
-    (omega (arith, c.loop-at-test.false, c.len.ensures, c.loop-at.self-inside.entries.ok.0)))
-    (subst (IsOrdered g.K.Ord.cmp) c.self.view_is c.self.invariant)
+pub returns-clause-in_order : goal.returns-clause-in_order
+returns-clause-in_order g c = (
+  subst (IsOrdered g.K.Ord.cmp) c.self.view_is c.self.invariant,
+  kept_ordered (CalledAtPair g.F.FnMut) g.K.Ord.cmp c.args.f c.args.self.now _
+      (ended (CalledAtPair g.F.FnMut) (TakesPair g.F.FnMut) c.args.f c.args.self.now c.loop-at.invariant
+      (omega (arith, c.loop-at-test.false, c.len.ensures, c.loop-at.self-inside.entries.ok.0)))
+      (subst (IsOrdered g.K.Ord.cmp) c.self.view_is c.self.invariant),
+)

@@ -4,6 +4,6 @@ use Rattle.directory.proofs.entry_map.EntryMap.accept_told.Goals as goal
 
 pub returns-in-Some : goal.returns-in-Some
 returns-in-Some c =
-    let told = rw c.name.ensures at c.tell_own.ensures in
-    tells_own c.args.self.now c.tell_own.new.self (change_of c.args.update.now) c.in-Some.own c.args.stamp c.in-Some.ensures.own
-    c.tell_own.result told.accepts told.name told.entry
+    let told = rw c.name.ensures at c.tell.ensures in
+    tells_own c.args.self.now c.tell.new.self (change_of c.args.update.now) c.in-Some.own c.args.stamp c.in-Some.ensures.own
+    c.tell.result told.accepts told.name told.entry

@@ -65,14 +65,14 @@ returns-in_err-undo-clause-back c =
     let own = c.join_logged.new.self in
     unlogged c.args.self.now _ c.args.log.now.items c.reserve.new.self.items
     (stays c.args.self.now c.self.inside.entries.entries (c.get_mut.follows.lender own).entries c.args.name.now own c.self.view_is
-    (ap Some c.in_err-undo.ensures.err ∙ c.in-Some.ensures.value) (c.get_mut.follows.holds own).0) c.reserve.ensures.items
+    (ap Some c.in_err-undo.ensures.joined.err ∙ c.in-Some.ensures.value) (c.get_mut.follows.holds own).0) c.reserve.ensures.items
 
 both : (c : goal.After-unwrap) → JoinsEntry c.args.self.now (map.from_entries (c.get_mut.follows.lender c.join_logged.new.self).entries) c.args.name.now
     c.args.entry.now × TakesBack undo_entry c.args.self.now (map.from_entries (c.get_mut.follows.lender c.join_logged.new.self).entries)
     ((c.args.name.now, Some c.in_ok-undo.undo) ∷ [])
 both c = raised_valid nat_list_cmp_total IsValidEntry octets_exact join_entries undo_entry c.args.self.now c.self.inside.entries.entries
     (c.get_mut.follows.lender c.join_logged.new.self).entries c.args.name.now c.in-Some.own.now c.args.entry.now c.join_logged.new.self
-    c.in_ok-undo.undo c.self.view_is c.in-Some.ensures.value (λ own other. sym (c.in_ok-undo.ensures.ok own other)) c.in_ok-undo.ensures.back
+    c.in_ok-undo.undo c.self.view_is c.in-Some.ensures.value (λ own other. sym (c.in_ok-undo.ensures.joined.ok own other)) c.in_ok-undo.ensures.back
     ((c.get_mut.follows.holds c.join_logged.new.self).3 (rw (← c.in-Some.ensures.value) refl)).0
 
 pub returns-clause-ok : goal.returns-clause-ok

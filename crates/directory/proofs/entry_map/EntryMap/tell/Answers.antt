@@ -3,8 +3,8 @@ use Rattle.std.specs.Prelude.{IfSome}
 use Rattle.directory.specs.OwnUpdateWords.{own_made}
 use Rattle.directory.proofs.Dropping.{found}
 use Rattle.directory.proofs.Telling.{accepts_here, accepts_none}
-use Rattle.directory.proofs.entry_map.EntryMap.tell_own.Goals.{in-Some, in-None}
-use Rattle.directory.proofs.entry_map.EntryMap.tell_own.Goals as goal
+use Rattle.directory.proofs.entry_map.EntryMap.tell.Goals.{in-Some, in-None}
+use Rattle.directory.proofs.entry_map.EntryMap.tell.Goals as goal
 
 pub returns-clause-accepts : goal.returns-clause-accepts
 returns-clause-accepts c = elim c.match-get_mut.branch [
