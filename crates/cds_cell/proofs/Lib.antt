@@ -16,6 +16,7 @@ pub mod ImagesStay
 pub mod KeptImages
 pub mod KeptNodes
 pub mod LoneSteps
+pub mod LentCells
 pub mod Listings
 pub mod Losses
 pub mod MadeHouses

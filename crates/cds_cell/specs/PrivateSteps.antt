@@ -1,11 +1,12 @@
 -- Words of private functions alone: steps of a cell, and what acts leave of it.
-use Rattle.std.specs.Prelude.{◌≡◌, ◌≢◌, ℕ, zero, suc, Bool, List, [], ◌∷◌, Some, Result, IfOk, OnOk}
+use Rattle.std.specs.Prelude.{◌≡◌, ◌≢◌, ℕ, zero, suc, Bool, List, [], ◌∷◌, Some, None, Result, IfOk, OnOk}
 use Rattle.std.specs.Option.{option_map}
 use Rattle.std.specs.Result.{result_err}
 use Rattle.std.specs.declared.alloc.AllocError.{AllocError}
 use Rattle.directory.specs.Updates.{change_of}
+use Rattle.cell_model.specs.Cells as model
 use Rattle.cell_model.specs.Commands as command
-use Rattle.cell_model.specs.Steps.{Outcome, first_refusal}
+use Rattle.cell_model.specs.Steps.{Outcome, effect, first_refusal, refusals_of}
 use Rattle.cell_script.specs.Listings.{houses_in, secondaries_in}
 use Rattle.script_answers.specs.declared.answer.Answer.{Answer}
 use Rattle.script_answers.specs.declared.answer.ScriptRefusal.{ScriptRefusal}
@@ -13,7 +14,7 @@ use Rattle.house_directory.specs.HouseMessages.{numbers_of}
 use Rattle.cds_cell.specs.declared.cell.Cell.{Cell}
 use Rattle.cds_cell.specs.declared.house.CellHouse.{CellHouse}
 use Rattle.cds_cell.specs.Scripted.{answer_of, refusal_of}
-use Rattle.cds_cell.specs.ModelCells.{GrowsBy, StandsAs, UnlessDone}
+use Rattle.cds_cell.specs.ModelCells.{GrowsBy, Stands, StandsAs, UnlessDone}
 
 -- the house of a number is at this place, and none before it
 abbrev pub IsPlaceOf : List CellHouse → ℕ → ℕ → Type 0
@@ -24,6 +25,10 @@ IsPlaceOf (h ∷ hs) x (suc i) = (h.house.0 ≢ x) × IsPlaceOf hs x i
 -- a step is allowed by these tests, or the first refusal is told whose test holds
 abbrev pub IsAllowed : {T : Type 0} → Result T ScriptRefusal → List (Bool × command.Refusal) → Type 0
 IsAllowed result tests = result_err result ≡ option_map refusal_of (first_refusal tests)
+
+-- a command is allowed as by the model, or its first refusal is answered
+abbrev pub AllowsCommand : {T : Type 0} → command.Command → Cell → Result T ScriptRefusal → Type 0
+AllowsCommand c m result = (g : model.Cell) → Stands m g → IsAllowed result (refusals_of g c)
 
 -- an answer and a cell are those of a step of the model; it is not said that a list of commands
 -- leads there
@@ -41,3 +46,9 @@ pub record Leaves (old new : Cell) (result : Result Answer AllocError) : Type 0 
 -- what comes of an act is this outcome, or memory ran out
 abbrev pub ComesTo : Result Answer AllocError → Cell → Outcome → Type 0
 ComesTo result c o = IfOk result (λ a. IsStepAs a c o)
+
+-- a command that the model does not refuse is done as by the model, or memory ran out
+abbrev pub DoesCommand : command.Command → Cell → Cell → Result Answer AllocError → Type 0
+DoesCommand c old new result =
+    (g : model.Cell) → Stands old g → first_refusal (refusals_of g c) ≡ None
+    → ComesTo result new (effect g c)

@@ -13,7 +13,7 @@ ghost use Rattle.house_directory.specs.DirectorySteps.{IsBegunAnswer, IsEpochAns
 ghost use Rattle.cds_cell.specs.declared.house.CellHouse.{CellHouse};
 ghost use Rattle.cds_cell.specs.PrivateActs.{ActsAt, KeepsRest, Posts};
 ghost use Rattle.cds_cell.specs.PrivateHouses.{IsNewEpoch, leaves_by, posted_at};
-ghost use Rattle.cds_cell.specs.PrivateSteps.{ComesTo, IsPlaceOf, Leaves};
+ghost use Rattle.cds_cell.specs.PrivateSteps.{ComesTo, DoesCommand, IsPlaceOf, Leaves};
 ghost use Rattle.cds_cell.specs.Scripted.{step_of};
 ghost use Rattle.cds_cell.specs.ModelCells.{HasRoom, IsStep, Stands};
 
@@ -33,9 +33,7 @@ impl Cell {
     pub(crate) fn act(&mut self, alloc: Global, command: Command) -> Result<Answer, AllocError>
         requires room { HasRoom self.old }
         ensures leaves { Leaves self.old self.new result }
-        ensures step { (g : model.Cell) → Stands self.old g
-            → first_refusal (refusals_of g (step_of command)) ≡ None
-            → ComesTo result self.new (effect g (step_of command)) }
+        ensures step { DoesCommand (step_of command) self.old self.new result }
     {
         match command {
             Command::House(house, node) => self.make_house(alloc, house, node),
@@ -88,11 +86,8 @@ impl Cell {
     ) -> Result<Answer, AllocError>
         requires room { HasRoom self.old }
         ensures leaves { Leaves self.old self.new result }
-        ensures step { (g : model.Cell) → Stands self.old g
-            → first_refusal (refusals_of g (command.Accept house.0 dir.0 (change_of update.now)))
-            ≡ None
-            → ComesTo result self.new
-            (effect g (command.Accept house.0 dir.0 (change_of update.now))) }
+        ensures step { DoesCommand (command.Accept house.0 dir.0 (change_of update.now))
+            self.old self.new result }
     {
         let Some(at) = self.position(house) else {
             return Ok(Answer::Refused(ScriptRefusal::NoHouse));
@@ -187,9 +182,7 @@ impl Cell {
     ) -> Result<Answer, AllocError>
         requires room { HasRoom self.old }
         ensures leaves { Leaves self.old self.new result }
-        ensures step { (g : model.Cell) → Stands self.old g
-            → first_refusal (refusals_of g (command.Skulk house.0 dir.0)) ≡ None
-            → ComesTo result self.new (effect g (command.Skulk house.0 dir.0)) }
+        ensures step { DoesCommand (command.Skulk house.0 dir.0) self.old self.new result }
     {
         let Some(at) = self.position(house) else {
             return Ok(Answer::Refused(ScriptRefusal::NoHouse));
@@ -232,9 +225,8 @@ impl Cell {
     ) -> Result<Answer, AllocError>
         requires room { HasRoom self.old }
         ensures leaves { Leaves self.old self.new result }
-        ensures step { (g : model.Cell) → Stands self.old g
-            → let epoch = command.Epoch dir.0 master.0 (numbers_of (houses_in others.now)) (numbers_of (secondaries_in others.now)) in
-            first_refusal (refusals_of g epoch) ≡ None → ComesTo result self.new (effect g epoch) }
+        ensures step { DoesCommand (command.Epoch dir.0 master.0 (numbers_of (houses_in others.now))
+            (numbers_of (secondaries_in others.now))) self.old self.new result }
     {
         let Some(place) = self.directory_place(dir) else {
             return Ok(Answer::Refused(ScriptRefusal::NoDirectory));

@@ -9,7 +9,7 @@ ghost use Rattle.cell_model.specs.Steps.{sorted_houses, effect, first_refusal, i
 ghost use Rattle.cell_script.specs.Listings.{houses_in, secondaries_in};
 ghost use Rattle.house_directory.specs.HouseMessages.{numbers_of};
 ghost use Rattle.cds_cell.specs.PrivateActs.{CanFound, Founds, GrowsByOne, KeepsRest, MasterFounds, child_outcome};
-ghost use Rattle.cds_cell.specs.PrivateSteps.{ComesTo, IsPlaceOf, IsStepAs, Leaves};
+ghost use Rattle.cds_cell.specs.PrivateSteps.{ComesTo, DoesCommand, IsPlaceOf, IsStepAs, Leaves};
 ghost use Rattle.cds_cell.specs.ModelCells.{HasRoom, Stands, StandsAs};
 
 use crate::answers::refusal_in_script;
@@ -57,9 +57,7 @@ impl Cell {
     ) -> Result<Answer, AllocError>
         requires room { HasRoom self.old }
         ensures leaves { Leaves self.old self.new result }
-        ensures step { (g : model.Cell) → Stands self.old g
-            → first_refusal (refusals_of g (command.House house.0 node)) ≡ None
-            → ComesTo result self.new (effect g (command.House house.0 node)) }
+        ensures step { DoesCommand (command.House house.0 node) self.old self.new result }
     {
         self.houses.push(CellHouse {
             house,
@@ -92,9 +90,8 @@ impl Cell {
     ) -> Result<Answer, AllocError>
         requires room { HasRoom self.old }
         ensures leaves { Leaves self.old self.new result }
-        ensures step { (g : model.Cell) → Stands self.old g
-            → let root = command.Root master.0 (numbers_of (houses_in others.now)) (numbers_of (secondaries_in others.now)) in
-            first_refusal (refusals_of g root) ≡ None → ComesTo result self.new (effect g root) }
+        ensures step { DoesCommand (command.Root master.0 (numbers_of (houses_in others.now))
+            (numbers_of (secondaries_in others.now))) self.old self.new result }
     {
         let Some(members) = member_list(alloc, &[], EpochNo(1), master, others)? else {
             return Ok(Answer::Refused(ScriptRefusal::BadMembers));
@@ -164,9 +161,9 @@ impl Cell {
     ) -> Result<Answer, AllocError>
         requires room { HasRoom self.old }
         ensures leaves { Leaves self.old self.new result }
-        ensures step { (g : model.Cell) → Stands self.old g
-            → let mkdir = command.Mkdir house.0 dir.0 name master.0 (numbers_of (houses_in others.now)) (numbers_of (secondaries_in others.now)) in
-            first_refusal (refusals_of g mkdir) ≡ None → ComesTo result self.new (effect g mkdir) }
+        ensures step { DoesCommand (command.Mkdir house.0 dir.0 name master.0
+            (numbers_of (houses_in others.now))
+            (numbers_of (secondaries_in others.now))) self.old self.new result }
     {
         let Some(at) = self.position(house) else {
             return Ok(Answer::Refused(ScriptRefusal::NoHouse));

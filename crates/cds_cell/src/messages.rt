@@ -1,9 +1,9 @@
 // Messages that are delivered or lost, and houses that go down and start again.
-ghost use Rattle.std.specs.Prelude.{◌≡◌, ◌≤◌, ◌<◌, ◌+◌, ℕ, None, Ok, IfOk, OnOk, MatchResult, length, map};
+ghost use Rattle.std.specs.Prelude.{◌≡◌, ◌≤◌, ◌<◌, ◌+◌, ℕ, Ok, IfOk, OnOk, MatchResult, length, map};
 ghost use Rattle.cds_messages.specs.Validity.{IsValidMessage};
 ghost use Rattle.cell_model.specs.Cells as model;
 ghost use Rattle.cell_model.specs.Commands as command;
-ghost use Rattle.cell_model.specs.Steps.{effect, first_refusal, refusals_of, replay_from};
+ghost use Rattle.cell_model.specs.Steps.{effect, replay_from};
 ghost use Rattle.cell_model.specs.Taking.{CanTake};
 ghost use Rattle.cell_model.specs.Turns as turns;
 ghost use Rattle.house_directory.specs.HouseMessages.{StandsMessage};
@@ -11,7 +11,7 @@ ghost use Rattle.house_directory.specs.DirectorySteps.{IsTakeAnswer, UnlessTaken
 ghost use Rattle.script_answers.specs.declared.answer.Answer.TheVariants as answer;
 ghost use Rattle.cds_cell.specs.CommandImages.{serials_after};
 ghost use Rattle.cds_cell.specs.PrivateActs.{ActsAt, Delivers, KeepsRest};
-ghost use Rattle.cds_cell.specs.PrivateSteps.{ComesTo, IsPlaceOf, IsStepAs, Leaves};
+ghost use Rattle.cds_cell.specs.PrivateSteps.{ComesTo, DoesCommand, IsPlaceOf, IsStepAs, Leaves};
 ghost use Rattle.cds_cell.specs.ModelCells.{HasRoom, Stands};
 
 use crate::answers::taken_in_script;
@@ -148,9 +148,7 @@ impl Cell {
         ensures leaves { Leaves self.old self.new result }
         ensures rest { KeepsRest self.old self.new }
         ensures bag { self.new.bag ≡ self.old.bag }
-        ensures step { (g : model.Cell) → Stands self.old g
-            → first_refusal (refusals_of g (command.Crash house.0)) ≡ None
-            → ComesTo result self.new (effect g (command.Crash house.0)) }
+        ensures step { DoesCommand (command.Crash house.0) self.old self.new result }
     {
         let Some(at) = self.position(house) else {
             return Ok(Answer::Refused(ScriptRefusal::NoHouse));
@@ -162,9 +160,7 @@ impl Cell {
     /// A house that is down starts again.
     pub(crate) fn start(&mut self, alloc: Global, house: HouseNo) -> Result<Answer, AllocError>
         ensures leaves { Leaves self.old self.new result }
-        ensures step { (g : model.Cell) → Stands self.old g
-            → first_refusal (refusals_of g (command.Start house.0)) ≡ None
-            → ComesTo result self.new (effect g (command.Start house.0)) }
+        ensures step { DoesCommand (command.Start house.0) self.old self.new result }
     {
         let Some(at) = self.position(house) else {
             return Ok(Answer::Refused(ScriptRefusal::NoHouse));

@@ -7,10 +7,10 @@ ghost use Rattle.cell_names.specs.ChildPointers.{is_child_pointer, pointer_of};
 ghost use Rattle.cell_names.specs.FullNames.{is_full_name};
 ghost use Rattle.directory.specs.Shown.{is_readable, shown_entry, shown_in};
 ghost use Rattle.cell_model.specs.Sets.{has};
-ghost use Rattle.resolver.specs.Readers.{sight_of};
+ghost use Rattle.resolver.specs.Readers.{sight_of, values_by};
 ghost use Rattle.house_directory.specs.HouseMessages.{numbers_of};
 ghost use Rattle.cds_cell.specs.Asking.{answer_of_house, house_to_ask};
-ghost use Rattle.cds_cell.specs.PrivateTelling.{asked_of};
+ghost use Rattle.cds_cell.specs.PrivateTelling.{ShowsValues, asked_of};
 ghost use Rattle.cds_cell.specs.Readings.{child_sight, led_sight, link_sight, shown_sight, values_of};
 ghost use Rattle.cds_cell.specs.Telling.{held_view, program_reader, told_objects, told_views};
 ghost use Rattle.cds_cell.specs.TellingProofs.{told_shows_only};
@@ -81,6 +81,18 @@ impl EntryReader for CellReader<'_> {
         let held = held(self.cell, at.dir, at.house)?;
         let entry = held.replica.table.live(&at.name)?;
         Some(&entry.attrs)
+    }
+
+    fn lookup_lent(
+        &self,
+        alloc: Global,
+        at: &ChildPointer,
+        name: &SimpleName,
+    ) -> Result<(Seen, Option<&AttrMap>), AllocError> {
+        match asked(self.cell, at, self.prefer, self.high) {
+            Some(holder) => see_lent(alloc, holder.house, &holder.held.replica.table, name),
+            None => Ok((Seen::Unreachable, None)),
+        }
     }
 }
 
@@ -202,6 +214,24 @@ fn see(alloc: Global, house: HouseNo, table: &Table, name: &SimpleName) -> Resul
     match table.get(name) {
         Some(entry) => see_entry(alloc, house, entry),
         None => Ok(Seen::Absent(house)),
+    }
+}
+
+// Likewise, and the cells of the entry's attributes, if an entry is there.
+fn see_lent<'a>(
+    alloc: Global,
+    house: HouseNo,
+    table: &'a Table,
+    name: &SimpleName,
+) -> Result<(Seen, Option<&'a AttrMap>), AllocError>
+    ensures seen { IfOk result
+        (λ found. sight_of found.0 ≡ shown_sight house.0 (shown_in table.now name.now)) }
+    ensures cells { IfOk result (λ found. IfSome (option_copied found.1)
+        (λ cells. ShowsValues house.0 (shown_in table.now name.now) (values_by cells))) }
+{
+    match table.get(name) {
+        Some(entry) => Ok((see_entry(alloc, house, entry)?, Some(&entry.attrs))),
+        None => Ok((Seen::Absent(house), None)),
     }
 }
 

@@ -1,15 +1,15 @@
 // Which steps are allowed, but for what the house that acts says to them. Nothing here takes
 // memory.
-ghost use Rattle.std.specs.Prelude.{◌≡◌, [], ◌∷◌, ◌++◌, IfOk, is_none, is_some, not};
+ghost use Rattle.std.specs.Prelude.{◌≡◌, [], ◌∷◌, IfOk, is_none, is_some, not};
 ghost use Rattle.std.specs.List.{list_any};
 ghost use Rattle.std.specs.Option.{option_map};
 ghost use Rattle.cds_stamps.specs.Members.{is_listed};
 ghost use Rattle.cell_model.specs.Cells as model;
 ghost use Rattle.cell_model.specs.Commands as command;
-ghost use Rattle.cell_model.specs.Steps.{is_bad_list, is_down, is_missing, is_taken, is_unknown, refusals_of};
+ghost use Rattle.cell_model.specs.Steps.{is_bad_list, is_down, is_missing, is_taken, is_unknown};
 ghost use Rattle.house_directory.specs.HouseMessages.{numbers_of};
 ghost use Rattle.cds_cell.specs.CellHouses.{is_up_state};
-ghost use Rattle.cds_cell.specs.PrivateSteps.{IsAllowed, IsPlaceOf};
+ghost use Rattle.cds_cell.specs.PrivateSteps.{AllowsCommand, IsAllowed, IsPlaceOf};
 ghost use Rattle.cds_cell.specs.Scripted.{step_of};
 ghost use Rattle.cds_cell.specs.ModelCells.{Stands, directory_of, house_of};
 
@@ -23,8 +23,7 @@ use script_answers::ScriptRefusal;
 impl Cell {
     /// That a step is allowed, or the first reason against it.
     pub(crate) fn allows(&self, command: &Command) -> Result<(), ScriptRefusal>
-        ensures { (g : model.Cell) → Stands self.now g
-            → IsAllowed result (refusals_of g (step_of command.now)) }
+        ensures { AllowsCommand (step_of command.now) self.now result }
     {
         match command {
             Command::House(house, node) => self.untaken(*house, *node),
@@ -50,8 +49,7 @@ impl Cell {
     }
 
     fn allows_root(&self, master: HouseNo, others: &[HouseNo]) -> Result<(), ScriptRefusal>
-        ensures { (g : model.Cell) → Stands self.now g
-            → IsAllowed result (refusals_of g (command.Root master.0 (numbers_of others.now) [])) }
+        ensures { AllowsCommand (command.Root master.0 (numbers_of others.now) []) self.now result }
     {
         if !self.is_unknown(DirId::ROOT) {
             return Err(ScriptRefusal::DirectoryExists);
@@ -67,9 +65,8 @@ impl Cell {
         master: HouseNo,
         others: &[HouseNo],
     ) -> Result<(), ScriptRefusal>
-        ensures { (g : model.Cell) → Stands self.now g
-            → IsAllowed result
-            (refusals_of g (command.Mkdir house.0 dir.0 [] master.0 (numbers_of others.now) [])) }
+        ensures { AllowsCommand (command.Mkdir house.0 dir.0 [] master.0 (numbers_of others.now) [])
+            self.now result }
     {
         self.pointed(house, dir, master, others)?;
         self.up(house)?;
@@ -83,9 +80,8 @@ impl Cell {
         master: HouseNo,
         others: &[HouseNo],
     ) -> Result<(), ScriptRefusal>
-        ensures { (g : model.Cell) → Stands self.now g
-            → IsAllowed result
-            (refusals_of g (command.Repoint house.0 dir.0 [] master.0 (numbers_of others.now))) }
+        ensures { AllowsCommand (command.Repoint house.0 dir.0 [] master.0 (numbers_of others.now))
+            self.now result }
     {
         self.pointed(house, dir, master, others)?;
         self.up(house)
@@ -93,8 +89,7 @@ impl Cell {
 
     // An update or a skulk.
     fn allows_at(&self, house: HouseNo, dir: DirId) -> Result<(), ScriptRefusal>
-        ensures { (g : model.Cell) → Stands self.now g
-            → IsAllowed result (refusals_of g (command.Skulk house.0 dir.0)) }
+        ensures { AllowsCommand (command.Skulk house.0 dir.0) self.now result }
     {
         self.acting_place(house, dir)?;
         Ok(())
@@ -103,8 +98,7 @@ impl Cell {
     /// Where the house is that takes an update or a skulk, or the first reason against that.
     pub(crate) fn acting_place(&self, house: HouseNo, dir: DirId) -> Result<usize, ScriptRefusal>
         ensures place { IfOk result (IsPlaceOf self.now.houses.items house.0) }
-        ensures allowed { (g : model.Cell) → Stands self.now g
-            → IsAllowed result (refusals_of g (command.Skulk house.0 dir.0)) }
+        ensures allowed { AllowsCommand (command.Skulk house.0 dir.0) self.now result }
     {
         self.known(dir)?;
         self.place_up(house)
@@ -133,9 +127,8 @@ impl Cell {
         master: HouseNo,
         others: &[HouseNo],
     ) -> Result<(), ScriptRefusal>
-        ensures { (g : model.Cell) → Stands self.now g
-            → IsAllowed result
-            (refusals_of g (command.Epoch dir.0 master.0 (numbers_of others.now) [])) }
+        ensures { AllowsCommand (command.Epoch dir.0 master.0 (numbers_of others.now) [])
+            self.now result }
     {
         self.known(dir)?;
         self.listable(master, others)?;
@@ -146,16 +139,14 @@ impl Cell {
     }
 
     fn allows_crash(&self, house: HouseNo) -> Result<(), ScriptRefusal>
-        ensures { (g : model.Cell) → Stands self.now g
-            → IsAllowed result (refusals_of g (command.Crash house.0)) }
+        ensures { AllowsCommand (command.Crash house.0) self.now result }
     {
         self.place_up(house)?;
         Ok(())
     }
 
     fn allows_start(&self, house: HouseNo) -> Result<(), ScriptRefusal>
-        ensures { (g : model.Cell) → Stands self.now g
-            → IsAllowed result (refusals_of g (command.Start house.0)) }
+        ensures { AllowsCommand (command.Start house.0) self.now result }
     {
         self.made(house, &[])?;
         if !self.is_down(house) {

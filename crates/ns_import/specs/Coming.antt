@@ -1,6 +1,7 @@
 -- Words of private contracts alone: what an importer still gives, by how far its search has come.
 -- Own.
-use Rattle.std.specs.Prelude.{ℕ, List, ◌++◌, length, reverse}
+use Rattle.std.specs.Prelude.{ℕ, List, ◌++◌, length, reverse, Option}
+use Rattle.std.specs.Option.{option_map}
 use Rattle.tower_codec.specs.declared.rpc.Interface.{Interface}
 use Rattle.server_entries.specs.Clients.{entry_bindings}
 use Rattle.server_entries.specs.Exports.{tower_attribute, object_attribute}
@@ -9,6 +10,7 @@ use Rattle.ns_profiles.specs.Profiles.{profile, search_order}
 use Rattle.std.specs.List.{filter_map, flat_map}
 use Rattle.tower_codec.specs.declared.binding.StringBinding.{StringBinding}
 use Rattle.resolver.specs.declared.seen.Found.{Found}
+use Rattle.resolver.specs.declared.seen.LentEntry.{LentEntry}
 use Rattle.resolver.specs.Readers.{Reader}
 use Rattle.server_entries.specs.declared.client.Wanted.{Wanted}
 use Rattle.ns_import.specs.declared.progress.Progress.{Progress}
@@ -26,6 +28,10 @@ bindings_in values wanted = entry_bindings wanted (values tower_attribute) (valu
 -- the objects that names lead to, in the order of the names
 abbrev pub objects_of_names : Reader → List (List (List ℕ)) → List Found
 objects_of_names reader names = filter_map (object_of reader) names
+
+-- the entry that comes next, whatever is lent of it
+abbrev pub next_at : Option LentEntry → Option Found
+next_at next = option_map (λ entry. entry.at) next
 
 -- the bindings of the entries that a search still comes to, where these were searched and these
 -- names wait

@@ -3,3 +3,4 @@ pub mod DepthFirst
 pub mod Imports
 pub mod Coming
 pub mod Waitings
+pub mod Saying

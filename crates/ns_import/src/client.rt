@@ -1,13 +1,15 @@
 // What a client wants to find, and what an entry says of it.
-ghost use Rattle.std.specs.Prelude.{◌≡◌, ◌++◌, map, filter, reverse, IfOk};
+ghost use Rattle.std.specs.Prelude.{◌≡◌, ◌++◌, map, filter, IfOk};
 ghost use Rattle.cell_names.specs.FullNames.{components_of, is_full_name};
 ghost use Rattle.attr_sets.specs.AttributeCells.{cell_values};
+ghost use Rattle.resolver.specs.LentEntries.{HasItsCells};
 ghost use Rattle.resolver.specs.Readers.{values_by};
 ghost use Rattle.ns_groups.specs.Groups.{members_of};
 ghost use Rattle.ns_profiles.specs.Elements.{element_of_octets};
 ghost use Rattle.ns_profiles.specs.Profiles.{is_sought, search_order};
 ghost use Rattle.ns_import.specs.Imports.{names_of, bindings_at};
 ghost use Rattle.ns_import.specs.Coming.{names_in, bindings_in};
+ghost use Rattle.ns_import.specs.Saying.{SaysNames, SaysBindings};
 
 use crate::waiting::Waiting;
 use attr_sets::{AttrCell, Value};
@@ -15,7 +17,7 @@ use cds_stamps::AttrName;
 use directory::AttrMap;
 use ns_groups::{GROUP, members, members_in_order};
 use ns_profiles::{PROFILE, elements_for, elements_in_order};
-use resolver::{EntryReader, Found};
+use resolver::{EntryReader, Found, LentEntry};
 use server_entries::{OBJECTS, TOWERS, Wanted, bindings, bindings_in_order};
 use std::alloc::{AllocError, Global};
 use std::marker::Model;
@@ -62,10 +64,8 @@ impl<'a> Said<'a> {
         mut elements: Vec<Waiting<'a>>,
         mut bindings: Vec<StringBinding>,
     ) -> Result<Said<'a>, AllocError>
-        ensures names { IfOk result
-            (λ said. reverse said.names.items ≡ members.entry.items ++ elements.entry.items) }
-        ensures bindings { IfOk result
-            (λ said. reverse said.bindings.items ≡ bindings.items) }
+        ensures names { SaysNames result (members.entry.items ++ elements.entry.items) }
+        ensures bindings { SaysBindings result bindings.items }
     {
         members.reverse();
         elements.reverse();
@@ -97,14 +97,29 @@ impl Client {
         &self,
         alloc: Global,
         reader: &'a R,
+        entry: &LentEntry<'a>,
+    ) -> Result<Said<'a>, AllocError>
+        requires { HasItsCells (R.tells reader.now) entry.now }
+        ensures names { SaysNames result
+            (names_of (R.tells reader.now) self.now.interface entry.now.at) }
+        ensures bindings { SaysBindings result
+            (bindings_at (R.tells reader.now) self.now entry.now.at) }
+    {
+        match entry.cells {
+            Some(cells) => self.read_cells(alloc, cells),
+            None => self.read_found(alloc, reader, &entry.at),
+        }
+    }
+
+    // What an entry says of which no cells are lent.
+    fn read_found<'a, R: EntryReader>(
+        &self,
+        alloc: Global,
+        reader: &'a R,
         at: &Found,
     ) -> Result<Said<'a>, AllocError>
-        ensures names { IfOk result
-            (λ said. reverse said.names.items
-            ≡ names_of (R.tells reader.now) self.now.interface at.now) }
-        ensures bindings { IfOk result
-            (λ said. reverse said.bindings.items
-            ≡ bindings_at (R.tells reader.now) self.now at.now) }
+        ensures names { SaysNames result (names_of (R.tells reader.now) self.now.interface at.now) }
+        ensures bindings { SaysBindings result (bindings_at (R.tells reader.now) self.now at.now) }
     {
         match reader.attributes(at) {
             Some(cells) => self.read_cells(alloc, cells),
@@ -114,10 +129,8 @@ impl Client {
 
     // What the cells of an entry's attributes say.
     fn read_cells<'a>(&self, alloc: Global, cells: &'a AttrMap) -> Result<Said<'a>, AllocError>
-        ensures names { IfOk result
-            (λ said. reverse said.names.items ≡ names_in (values_by cells.now) self.now.interface) }
-        ensures bindings { IfOk result
-            (λ said. reverse said.bindings.items ≡ bindings_in (values_by cells.now) self.now) }
+        ensures names { SaysNames result (names_in (values_by cells.now) self.now.interface) }
+        ensures bindings { SaysBindings result (bindings_in (values_by cells.now) self.now) }
     {
         let towers = values_in(alloc, cells, &self.towers)?;
         let objects = values_in(alloc, cells, &self.objects)?;
@@ -136,12 +149,8 @@ impl Client {
         reader: &R,
         at: &Found,
     ) -> Result<Said<'a>, AllocError>
-        ensures names { IfOk result
-            (λ said. reverse said.names.items
-            ≡ names_of (R.tells reader.now) self.now.interface at.now) }
-        ensures bindings { IfOk result
-            (λ said. reverse said.bindings.items
-            ≡ bindings_at (R.tells reader.now) self.now at.now) }
+        ensures names { SaysNames result (names_of (R.tells reader.now) self.now.interface at.now) }
+        ensures bindings { SaysBindings result (bindings_at (R.tells reader.now) self.now at.now) }
     {
         let towers = reader.values(alloc, at, &self.towers)?;
         let objects = reader.values(alloc, at, &self.objects)?;

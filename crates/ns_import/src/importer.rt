@@ -12,7 +12,7 @@ use crate::progress::Progress;
 use crate::waiting::object;
 use cds_stamps::AllocOr;
 use cell_names::FullName;
-use resolver::EntryReader;
+use resolver::{EntryReader, LentEntry};
 use server_entries::Wanted;
 use std::alloc::{AllocError, Global};
 use std::marker::Model;
@@ -54,10 +54,10 @@ impl<'a, R: EntryReader> Importer<'a, R> {
             → Answers result
             (begin_import (import_list (R.tells reader.now) objects wanted name.now)) }
     {
-        let entry = object(alloc, reader, name)?;
+        let at = object(alloc, reader, name)?;
         let client = Client::new(alloc, wanted)?;
         let mut progress = Progress::new(alloc);
-        progress.enter(alloc, reader, &client, entry)?;
+        progress.enter(alloc, reader, &client, LentEntry { at, cells: None })?;
         Ok(Importer {
             reader,
             client,

@@ -1,17 +1,18 @@
 // How far a search has come.
-ghost use Rattle.std.specs.Prelude.{◌≡◌, ◌∷◌, ◌++◌, [], None, false, drop, reverse, slice_get, IfOk, IfNone, OnOk};
+ghost use Rattle.std.specs.Prelude.{◌≡◌, ◌∷◌, ◌++◌, [], None, false, drop, reverse, slice_get, IfOk, IfNone, IfSome, OnOk};
 ghost use Rattle.std.specs.Option.{option_to_list};
 ghost use Rattle.cds_stamps.specs.Firsts.{has};
+ghost use Rattle.resolver.specs.LentEntries.{HasItsCells};
 ghost use Rattle.resolver.specs.Nears.{Knows};
 ghost use Rattle.ns_import.specs.Imports.{same_entry, names_of, bindings_at};
 ghost use Rattle.ns_import.specs.DepthFirst.{behind_seen};
-ghost use Rattle.ns_import.specs.Coming.{bindings_to_come, objects_of_names};
+ghost use Rattle.ns_import.specs.Coming.{bindings_to_come, next_at, objects_of_names};
 
 use crate::client::{Client, Said};
 use crate::waiting::Waiting;
 use cds_stamps::AllocOr;
 use indexmap::IndexSet;
-use resolver::{EntryReader, Found, Near};
+use resolver::{EntryReader, Found, LentEntry, Near};
 use std::alloc::{AllocError, Global};
 use tower_codec::StringBinding;
 
@@ -78,50 +79,53 @@ impl<'a> Progress<'a> {
         alloc: Global,
         reader: &'a R,
         client: &Client,
-        entry: Found,
+        lent: LentEntry<'a>,
     ) -> Result<(), AllocError>
-        requires { has same_entry entry self.old.searched.keys ≡ false }
+        requires lent { HasItsCells (R.tells reader.now) lent }
+        requires new { has same_entry lent.at self.old.searched.keys ≡ false }
         ensures near { self.new.near ≡ self.old.near }
         ensures searched { OnOk result
-            (self.new.searched.keys ≡ self.old.searched.keys ++ entry ∷ []) }
+            (self.new.searched.keys ≡ self.old.searched.keys ++ lent.entry.at ∷ []) }
         ensures names { OnOk result (reverse self.new.names.items
-            ≡ names_of (R.tells reader.now) client.now.interface entry
+            ≡ names_of (R.tells reader.now) client.now.interface lent.entry.at
             ++ reverse self.old.names.items) }
         ensures ready { OnOk result
-            (reverse self.new.ready.items ≡ bindings_at (R.tells reader.now) client.now entry) }
+            (reverse self.new.ready.items
+            ≡ bindings_at (R.tells reader.now) client.now lent.entry.at) }
     {
         let Said {
             mut names,
             bindings,
-        } = client.read(alloc, reader, &entry)?;
+        } = client.read(alloc, reader, &lent)?;
         self.ready = bindings;
         self.names.append(&mut names)?;
-        self.searched.insert(entry)?;
+        self.searched.insert(lent.at)?;
         Ok(())
     }
 }
 
 // Takes names off the stack up to the first that leads to an object which was not searched.
-fn next_object<R: EntryReader>(
+fn next_object<'r, R: EntryReader>(
     alloc: Global,
-    reader: &R,
+    reader: &'r R,
     searched: &IndexSet<Found>,
     names: &mut Vec<Waiting<'_>>,
     near: &mut Option<Near>,
-) -> Result<Option<Found>, AllocError>
+) -> Result<Option<LentEntry<'r>>, AllocError>
     requires { Knows (R.tells reader.now) near.old }
     ensures near { Knows (R.tells reader.now) near.new }
+    ensures lent { IfOk result (λ next. IfSome next (HasItsCells (R.tells reader.now))) }
     ensures next { IfOk result
-        (λ next. option_to_list next
+        (λ next. option_to_list (next_at next)
         ++ objects_of_names (R.tells reader.now) (reverse names.new.items)
         ≡ behind_seen same_entry searched.now.keys
         (objects_of_names (R.tells reader.now) (reverse names.old.items))) }
-    ensures end { IfOk result (λ next. IfNone next (names.new.items ≡ [])) }
+    ensures end { IfOk result (λ next. IfNone (next_at next) (names.new.items ≡ [])) }
 {
     'names: while let Some(name) = names.pop() {
         match name.object(alloc, reader, near) {
             Ok(entry) => {
-                if !searched.contains(&entry) {
+                if !searched.contains(&entry.at) {
                     return Ok(Some(entry));
                 }
             }

@@ -1,10 +1,13 @@
 -- What is found in a directory that was entered child by child is what the walk finds.
-use Rattle.std.proofs.Common.{◌≡◌, ℕ, ◌+◌, ◌<◌, ◌≤◌, length, get_or, Bool, true, false, List, [], ◌∷◌}
+use Rattle.std.proofs.Common.{◌≡◌, ℕ, ◌+◌, ◌<◌, ◌≤◌, length, get_or, Bool, Bor, true, false, List, [], ◌∷◌}
 use Rattle.std.proofs.Common.{◌++◌, drop, Option, Some, None, Ok, refl, sym, ap, subst, ◌∙◌, arith}
-use Rattle.std.specs.Prelude.{Result, IfOk, IfSome, nat_lt}
+use Rattle.std.specs.Prelude.{Result, IfOk, IfSome, nat_lt, option_copied}
+use Rattle.std.specs.FinMap.{FinMap}
 use Rattle.std.specs.declared.alloc.AllocError.{AllocError}
 use Rattle.std.proofs.lemmas.List.{at_drop_more, at_drop_all, same_from_push}
 use Rattle.std.proofs.lemmas.Result.{IfOk-weaker}
+use Rattle.cds_stamps.specs.Octets.{octets_cmp}
+use Rattle.attr_sets.specs.declared.cell.AttrCell.{AttrCell}
 use Rattle.cell_names.specs.FullNames.{full_name_octets, longest_name, is_name, IsComponentList}
 use Rattle.cell_names.specs.ChildPointers.{Pointer}
 use Rattle.cell_names.proofs.FullNameLaws.{is_name-Decides}
@@ -12,7 +15,8 @@ use Rattle.resolver.specs.declared.refusal.Refusal.{Refusal}
 use Rattle.resolver.specs.declared.walk.End.{End}
 use Rattle.resolver.specs.declared.walk.End.TheVariants as ends
 use Rattle.resolver.specs.declared.seen.Found.{Found}
-use Rattle.resolver.specs.Readers.{Reader, Sight, Unreachable, Absent, Object, Link, Child, object_found}
+use Rattle.resolver.specs.declared.seen.LentEntry.{LentEntry}
+use Rattle.resolver.specs.Readers.{AreCellsOf, Reader, Sight, Unreachable, Absent, Object, Link, Child, object_found}
 use Rattle.resolver.specs.Walks.{Walker, link_refusal, follow_unless, follow, at_last, at_inner, in_directory, step_from, step, EndsFrom, goes}
 use Rattle.resolver.specs.PassWords.{EndsBy}
 use Rattle.resolver.specs.WalkEndProofs.{behind, from_step_at}
@@ -163,19 +167,26 @@ object_leads reader front c c' p house entered same sees =
       found = refl;
     })
 
+-- cells that are lent of an object that is seen are the object's
+pub object_lends : (reader : Reader) (p : Pointer) (house : ℕ) (name : List ℕ) (cells : Option (Bor (FinMap octets_cmp AttrCell))) → Object house ≡ reader.sees p name
+    → IfSome (option_copied cells) (λ cells. (x : ℕ) → reader.sees p name ≡ Object x → AreCellsOf reader (object_found p.dir x name) cells)
+    → IfSome cells (λ cells. AreCellsOf reader (object_found p.dir house name) cells.now)
+object_lends reader p house name None sees lent = tt
+object_lends reader p house name (Some cells) sees lent = lent house (sym sees)
+
 -- what a link there leads to, by what was found of its target
 pub link_leads : (reader : Reader) (front : List (List ℕ)) (c c' : List ℕ) (p : Pointer) (house : ℕ) (target lent : List (List ℕ))
-    (answer : Result (Option Found) AllocError) → children reader front reader.root ≡ Some p → c' ≡ c → Link house target ≡ reader.sees p c' → lent ≡ target
-    → IsComponentList lent → IfOk answer (λ found. IfSome found (IsDirect reader lent))
-    → IfOk answer (λ found. IfSome found (λ f. walk_end reader true (front ++ c ∷ []) ≡ Ok f))
+    (answer : Result (Option LentEntry) AllocError) → children reader front reader.root ≡ Some p → c' ≡ c → Link house target ≡ reader.sees p c' → lent ≡ target
+    → IsComponentList lent → IfOk answer (λ found. IfSome found (λ f. IsDirect reader lent f.at))
+    → IfOk answer (λ found. IfSome found (λ f. walk_end reader true (front ++ c ∷ []) ≡ Ok f.at))
 link_leads reader front c c' p house target lent answer entered same sees is lawful there =
-    IfOk-weaker answer (λ found. IfSome found (IsDirect reader lent)) (λ found. IfSome found (λ f. walk_end reader true (front ++ c ∷ []) ≡ Ok f)) found_so there
+    IfOk-weaker answer (λ found. IfSome found (λ f. IsDirect reader lent f.at)) (λ found. IfSome found (λ f. walk_end reader true (front ++ c ∷ []) ≡ Ok f.at)) found_so there
   where
-    found_so : (found : Option Found) → IfSome found (IsDirect reader lent) → IfSome found (λ f. walk_end reader true (front ++ c ∷ []) ≡ Ok f)
+    found_so : (found : Option LentEntry) → IfSome found (λ f. IsDirect reader lent f.at) → IfSome found (λ f. walk_end reader true (front ++ c ∷ []) ≡ Ok f.at)
     found_so None h = tt
     found_so (Some f) h =
-        linked_found reader front c p house target f entered (ap (reader.sees p) (sym same) ∙ sym sees) (subst IsComponentList is lawful)
-        (subst (λ (n : List (List ℕ)). IsDirect reader n f) is h)
+        linked_found reader front c p house target f.at entered (ap (reader.sees p) (sym same) ∙ sym sees) (subst IsComponentList is lawful)
+        (subst (λ (n : List (List ℕ)). IsDirect reader n f.at) is h)
 
 -- what a look-up in a directory answers that was entered so
 pub direct_answers : (reader : Reader) (name front : List (List ℕ)) (c : List ℕ) (p : Pointer) (answer : Result (Option Found) AllocError) → name ≡ front ++ c ∷ []
@@ -198,7 +209,7 @@ direct_answers reader name front c p answer parted entered there =
     found_so (Some f) e = by_sight f (reader.sees p c) refl e
 
 -- what was found of a name, by its parts
-pub same_name : (reader : Reader) (name : List (List ℕ)) (parts : List (List ℕ)) (answer : Result (Option Found) AllocError) → name ≡ parts
-    → IfOk answer (λ found. IfSome found (λ f. walk_end reader true parts ≡ Ok f)) → IfOk answer (λ found. IfSome found (λ f. walk_end reader true name ≡ Ok f))
+pub same_name : (reader : Reader) (name : List (List ℕ)) (parts : List (List ℕ)) (answer : Result (Option LentEntry) AllocError) → name ≡ parts
+    → IfOk answer (λ found. IfSome found (λ f. walk_end reader true parts ≡ Ok f.at)) → IfOk answer (λ found. IfSome found (λ f. walk_end reader true name ≡ Ok f.at))
 same_name reader name parts answer is there =
-    subst (λ (n : List (List ℕ)). IfOk answer (λ found. IfSome found (λ f. walk_end reader true n ≡ Ok f))) (sym is) there
+    subst (λ (n : List (List ℕ)). IfOk answer (λ found. IfSome found (λ f. walk_end reader true n ≡ Ok f.at))) (sym is) there

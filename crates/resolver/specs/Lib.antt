@@ -10,3 +10,4 @@ pub mod SeenEnds
 pub mod ListedReaders
 pub mod ListedReaderProofs
 pub mod Nears
+pub mod LentEntries

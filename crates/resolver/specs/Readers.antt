@@ -34,6 +34,10 @@ pub record Reader : Type 0 where
 abbrev pub values_by : FinMap octets_cmp AttrCell → List ℕ → List (List ℕ)
 values_by cells attr = option_map_or cell_values (get cells attr) []
 
+-- by these cells of attributes the values of an entry show (own, after C705, attributes)
+abbrev pub AreCellsOf : Reader → Found → FinMap octets_cmp AttrCell → Type 0
+AreCellsOf reader at cells = (attr : List ℕ) → values_by cells attr ≡ reader.values at attr
+
 -- what is seen, as the program tells it (own)
 abbrev pub sight_of : Seen → Sight
 sight_of seen.Unreachable = Unreachable

@@ -15,5 +15,5 @@ pub use near::{Near, resolve_near};
 pub use reader::EntryReader;
 pub use refusal::Refusal;
 pub use resolution::{place, resolve};
-pub use seen::{Found, Place, Seen};
+pub use seen::{Found, LentEntry, Place, Seen};
 pub use walk::{End, Walk};

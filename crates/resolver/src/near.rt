@@ -5,13 +5,14 @@ ghost use Rattle.cds_stamps.specs.Names.{simple_name_fault};
 ghost use Rattle.cds_stamps.specs.Outcomes.{Answers};
 ghost use Rattle.cell_names.specs.ChildPointers.{pointer_in};
 ghost use Rattle.resolver.specs.Readers.{sight_of};
+ghost use Rattle.resolver.specs.LentEntries.{HasItsCells, found_at};
 ghost use Rattle.resolver.specs.Nears.{Knows, IsEntered, IsDirect, child_seen, children, house_seen, object_there};
 ghost use Rattle.resolver.specs.WalkEnds.{walk_end};
 
 use crate::reader::EntryReader;
 use crate::refusal::Refusal;
 use crate::resolution::resolve;
-use crate::seen::{Found, Seen};
+use crate::seen::{Found, LentEntry, Seen};
 use cds_stamps::{AllocOr, HouseNo, SimpleName};
 use cell_names::{ChildPointer, FullName, LentName};
 use directory::Kind;
@@ -36,34 +37,39 @@ impl Drop for Near {
 /// The entry that a full name leads to, links followed to the last: the same that `resolve` finds.
 /// The directory of the name is kept, so that the next name is looked up there at once if it has
 /// the same.
-pub fn resolve_near<R: EntryReader>(
+pub fn resolve_near<'r, R: EntryReader>(
     alloc: Global,
-    reader: &R,
+    reader: &'r R,
     near: &mut Option<Near>,
     name: &LentName<'_>,
-) -> Result<Found, AllocOr<Refusal>>
+) -> Result<LentEntry<'r>, AllocOr<Refusal>>
     requires { Knows (R.tells reader.now) near.old }
     ensures near { Knows (R.tells reader.now) near.new }
-    ensures walked { Answers result (walk_end (R.tells reader.now) true name.now) }
+    ensures walked { Answers (found_at result) (walk_end (R.tells reader.now) true name.now) }
+    ensures lent { IfOk result (HasItsCells (R.tells reader.now)) }
 {
     match object_near(alloc, reader, near, name)? {
-        Some(found) => Ok(found),
-        None => resolve(alloc, reader, &name.copy(alloc)?, true),
+        Some(entry) => Ok(entry),
+        None => Ok(LentEntry {
+            at: resolve(alloc, reader, &name.copy(alloc)?, true)?,
+            cells: None,
+        }),
     }
 }
 
 // The object that a full name leads to, if its directory and that of a link that it is are entered
 // child by child.
-fn object_near<R: EntryReader>(
+fn object_near<'r, R: EntryReader>(
     alloc: Global,
-    reader: &R,
+    reader: &'r R,
     near: &mut Option<Near>,
     name: &LentName<'_>,
-) -> Result<Option<Found>, AllocError>
+) -> Result<Option<LentEntry<'r>>, AllocError>
     requires { Knows (R.tells reader.now) near.old }
     ensures near { Knows (R.tells reader.now) near.new }
     ensures walked { IfOk result
-        (λ found. IfSome found (λ f. walk_end (R.tells reader.now) true name.now ≡ Ok f)) }
+        (λ found. IfSome found (λ f. walk_end (R.tells reader.now) true name.now ≡ Ok f.at)) }
+    ensures lent { IfOk result (λ found. IfSome found (HasItsCells (R.tells reader.now))) }
 {
     if let Some(dir) = near {
         if let Some(last) = name.last_behind(&dir.name) {
@@ -79,15 +85,16 @@ fn object_near<R: EntryReader>(
 }
 
 // Likewise where the directory is known.
-fn object_in<R: EntryReader>(
+fn object_in<'r, R: EntryReader>(
     alloc: Global,
-    reader: &R,
+    reader: &'r R,
     dir: &Near,
     name: &LentName<'_>,
-) -> Result<Option<Found>, AllocError>
+) -> Result<Option<LentEntry<'r>>, AllocError>
     requires { IsEntered (R.tells reader.now) dir.now }
-    ensures { IfOk result
-        (λ found. IfSome found (λ f. walk_end (R.tells reader.now) true name.now ≡ Ok f)) }
+    ensures walked { IfOk result
+        (λ found. IfSome found (λ f. walk_end (R.tells reader.now) true name.now ≡ Ok f.at)) }
+    ensures lent { IfOk result (λ found. IfSome found (HasItsCells (R.tells reader.now))) }
 {
     match name.last_behind(&dir.name) {
         Some(last) => dir.object(alloc, reader, last),
@@ -98,27 +105,32 @@ fn object_in<R: EntryReader>(
 impl Near {
     // The object that these octets are in the directory, or to which they lead as a link. Where
     // more links lead there, or another, none is told.
-    fn object<R: EntryReader>(
+    fn object<'r, R: EntryReader>(
         &self,
         alloc: Global,
-        reader: &R,
+        reader: &'r R,
         octets: &[u8],
-    ) -> Result<Option<Found>, AllocError>
+    ) -> Result<Option<LentEntry<'r>>, AllocError>
         requires simple { simple_name_fault octets.now ≡ None }
         requires entered { IsEntered (R.tells reader.now) self.now }
-        ensures { IfOk result
-            (λ found. IfSome found
-            (λ f. walk_end (R.tells reader.now) true (self.now.name ++ octets.now ∷ []) ≡ Ok f)) }
+        ensures walked { IfOk result
+            (λ found. IfSome found (λ f.
+            walk_end (R.tells reader.now) true (self.now.name ++ octets.now ∷ []) ≡ Ok f.at)) }
+        ensures lent { IfOk result (λ found. IfSome found (HasItsCells (R.tells reader.now))) }
     {
         let name = SimpleName::known(alloc, octets)?;
-        match reader.lookup(alloc, &self.at, &name)? {
-            Seen::Object(house) => Ok(Some(Found {
-                dir: self.at.dir,
-                house,
-                name,
-                kind: Kind::Object,
+        let (seen, cells) = reader.lookup_lent(alloc, &self.at, &name)?;
+        match seen {
+            Seen::Object(house) => Ok(Some(LentEntry {
+                at: Found {
+                    dir: self.at.dir,
+                    house,
+                    name,
+                    kind: Kind::Object,
+                },
+                cells,
             })),
-            Seen::Link(_, target) => object_at(alloc, reader, target.components()),
+            Seen::Link(_, target) => lent_object_at(alloc, reader, target.components()),
             Seen::Unreachable => Ok(None),
             Seen::Absent(_) => Ok(None),
             Seen::Child(_, _) => Ok(None),
@@ -139,6 +151,22 @@ fn object_at<R: EntryReader>(
             Some(at) => object_of(alloc, reader, &at, last),
             None => Ok(None),
         },
+        None => Ok(None),
+    }
+}
+
+// Likewise, with nothing lent of it.
+fn lent_object_at<'r, R: EntryReader>(
+    alloc: Global,
+    reader: &'r R,
+    components: &[SimpleName],
+) -> Result<Option<LentEntry<'r>>, AllocError>
+    ensures direct { IfOk result
+        (λ found. IfSome found (λ f. IsDirect (R.tells reader.now) components.now f.at)) }
+    ensures lent { IfOk result (λ found. IfSome found (HasItsCells (R.tells reader.now))) }
+{
+    match object_at(alloc, reader, components)? {
+        Some(at) => Ok(Some(LentEntry { at, cells: None })),
         None => Ok(None),
     }
 }

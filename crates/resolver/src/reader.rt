@@ -5,7 +5,7 @@ ghost use Rattle.std.specs.Option.{option_map};
 ghost use Rattle.cds_stamps.specs.Octets.{octets_cmp};
 ghost use Rattle.cell_names.specs.ChildPointers.{pointer_in};
 ghost use Rattle.resolver.specs.declared.seen.Found.{Found};
-ghost use Rattle.resolver.specs.Readers.{Reader, ShowsOnly, sight_of, values_by};
+ghost use Rattle.resolver.specs.Readers.{Reader, AreCellsOf, Object, ShowsOnly, object_found, sight_of};
 
 use crate::seen::{Found, Seen};
 use attr_sets::Value;
@@ -45,10 +45,27 @@ pub trait EntryReader {
     /// The cells of an entry's attributes, by which the same values show, where the reader keeps
     /// them: they are read in place. A reader need keep none.
     fn attributes(&self, at: &Found) -> Option<&AttrMap>
-        ensures { IfSome (option_copied result) (λ cells. (attr : List ℕ)
-            → values_by cells attr ≡ (tells self.now).values at.now attr) }
+        ensures { IfSome (option_copied result) (AreCellsOf (tells self.now) at.now) }
     {
         None
+    }
+
+    /// What `lookup` sees, and if that is an object, the cells that `attributes` lends of it, where
+    /// both take one look-up. A reader need lend none.
+    fn lookup_lent(
+        &self,
+        alloc: Global,
+        at: &ChildPointer,
+        name: &SimpleName,
+    ) -> Result<(Seen, Option<&AttrMap>), AllocError>
+        ensures seen { IfOk result
+            (λ found. sight_of found.0 ≡ (tells self.now).sees (pointer_in at.now) name.now) }
+        ensures cells { IfOk result (λ found. IfSome (option_copied found.1)
+            (λ cells. (house : ℕ)
+            → (tells self.now).sees (pointer_in at.now) name.now ≡ Object house
+            → AreCellsOf (tells self.now) (object_found at.now.dir.0 house name.now) cells)) }
+    {
+        Ok((self.lookup(alloc, at, name)?, None))
     }
 
     /// It shows no other objects.

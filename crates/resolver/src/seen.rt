@@ -3,7 +3,7 @@ ghost use Rattle.std.specs.Prelude.{◌≡◌, IfOk};
 
 use cds_stamps::{DirId, HouseNo, SimpleName};
 use cell_names::{ChildPointer, FullName};
-use directory::Kind;
+use directory::{AttrMap, Kind};
 use std::alloc::{AllocError, Global};
 
 /// What is seen of a simple name in a directory: that no house of the directory answers, that the
@@ -39,6 +39,13 @@ pub struct Found {
     pub house: HouseNo,
     pub name: SimpleName,
     pub kind: Kind,
+}
+
+/// An entry, and the cells of its attributes where the reader lends them.
+#[derive(Drop)]
+pub struct LentEntry<'a> {
+    pub at: Found,
+    pub cells: Option<&'a AttrMap>,
 }
 
 /// Where an entry of a simple name is, or could be: the directory, the house that was asked, and

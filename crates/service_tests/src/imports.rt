@@ -185,7 +185,7 @@ fn house_near(
     ensures { Knows (pair reader.now.tower reader.now.member) near.new }
 {
     let name = LentName::of(name)?;
-    Ok(resolve_near(alloc, reader, near, &name)?.house)
+    Ok(resolve_near(alloc, reader, near, &name)?.at.house)
 }
 
 #[test]

@@ -12,6 +12,10 @@ use std::alloc::{AllocError, Global};
 use std::fmt;
 use uuid::Uuid;
 
+// Room for the text of a binding, the longest one: an object and its mark, 37 octets, a protocol
+// sequence and its mark, 13, an address, 15, and a port in brackets, 7.
+const LONGEST: usize = 72;
+
 /// Where a server is reached, and for which of its objects.
 #[derive(Clone, Copy, Debug, PartialEq, Eq)]
 pub struct StringBinding {
@@ -220,7 +224,9 @@ impl StringBinding {
     pub fn print(&self, alloc: Global) -> Result<Vec<u8>, AllocError>
         ensures { IfOk result (λ text. text.items ≡ binding_text self.now) }
     {
-        Ok(format!(in alloc; "{self}")?.into_bytes())
+        let mut text = String::with_capacity(alloc, LONGEST)?;
+        write!(text, "{self}")?;
+        Ok(text.into_bytes())
     }
 }
 

@@ -7,7 +7,7 @@ pub returns-then-not-contains-clause-next : goal.returns-then-not-contains-claus
 returns-then-not-contains-clause-next g c =
     let searched = c.args.searched.now.keys in
     popped_new (g.R.EntryReader.tells c.args.reader.now) searched c.names.names.items c.pop.new.self.items c.in-Some.name c.in-Some.ensures.items
-    c.in-Ok.entry c.in-Ok.ensures.answer (has_by c.in-Ok.entry searched false c.if-not-contains.ensures)
+    c.in-Ok.entry.at c.in-Ok.ensures.answer (has_by c.in-Ok.entry.at searched false c.if-not-contains.ensures)
     ∙ c.names.invariant.same
 
 pub names-preserved-in-Ok : goal.names-preserved-in-Ok
@@ -16,7 +16,7 @@ names-preserved-in-Ok g c =
     record {
       same =
           popped_old (g.R.EntryReader.tells c.args.reader.now) searched c.names.names.items c.pop.new.self.items c.in-Some.name c.in-Some.ensures.items
-          c.in-Ok.entry c.in-Ok.ensures.answer (has_by c.in-Ok.entry searched true c.if-not-contains.ensures)
+          c.in-Ok.entry.at c.in-Ok.ensures.answer (has_by c.in-Ok.entry.at searched true c.if-not-contains.ensures)
           ∙ c.names.invariant.same;
       near = c.object.ensures.near;
     }

@@ -6,4 +6,4 @@ use Rattle.ns_import.proofs.progress.Progress.enter.Goals as goal
 pub returns-clause-searched : goal.returns-clause-searched
 returns-clause-searched g c =
     let old = c.args.self.now.searched.keys in
-    c.in_ok-insert.ensures.keys ∙ ap (λ b. if b then old else old ++ c.args.entry ∷ []) (has-derived c.args.entry old ∙ c.requires)
+    c.in_ok-insert.ensures.keys ∙ ap (λ b. if b then old else old ++ c.args.lent.at ∷ []) (has-derived c.args.lent.at old ∙ c.requires.new)
