@@ -1,5 +1,5 @@
 -- Imports over readers that agree with what was heard are one, if the search is closed.
-use Rattle.std.proofs.Common.{◌≡◌, ℕ, zero, suc, ◌+◌, ◌≤◌, Bool, true, false, cond, not, List, [], ◌∷◌, ◌++◌, length, filter, refl, sym, ap, ap₂, subst, ◌∙◌, inl, inr, ⊎_elim, arith}
+use Rattle.std.proofs.Common.{◌≡◌, ℕ, zero, suc, ◌+◌, Bool, true, false, cond, not, List, [], ◌∷◌, ◌++◌, length, filter, refl, sym, ap, ap₂, subst, ◌∙◌, inl, inr, ⊎_elim, arith}
 use Rattle.std.specs.Prelude.{Option, Some, None, Result, Ok, Err, IfSome}
 use Rattle.std.specs.List.{Contains, cons_option, filter_map, flat_map}
 use Rattle.std.specs.List.Sorted.{IsStrictlySortedBy}
@@ -7,13 +7,10 @@ use Rattle.std.specs.Result.{result_map_both, result_ok}
 use Rattle.cds_stamps.proofs.ListMembers.{Contains-cases, Contains-head, Contains-none, Contains-tail}
 use Rattle.cds_stamps.specs.Firsts.{firsts, has}
 use Rattle.cds_stamps.specs.Octets.{octets_cmp}
-use Rattle.tower_codec.specs.declared.binding.StringBinding.{StringBinding}
-use Rattle.tower_codec.specs.declared.rpc.Interface.{Interface}
 use Rattle.resolver.specs.declared.seen.Found.{Found}
 use Rattle.resolver.specs.declared.walk.End.{End}
 use Rattle.resolver.specs.Readers.{Reader, ShowsOnly}
-use Rattle.resolver.specs.Walks.{Ends, found_of}
-use Rattle.resolver.specs.WalkEnds.{end_of}
+use Rattle.resolver.specs.Walks.{found_of}
 use Rattle.server_entries.specs.declared.client.Wanted.{Wanted}
 use Rattle.server_entries.specs.Clients.{entry_bindings}
 use Rattle.server_entries.specs.Exports.{object_attribute, tower_attribute}
@@ -21,13 +18,12 @@ use Rattle.ns_groups.specs.Groups.{group, members_of}
 use Rattle.ns_profiles.specs.Profiles.{profile, search_order}
 use Rattle.ns_import.specs.declared.fault.ImportFault.{ImportFault}
 use Rattle.ns_import.specs.Imports.{bindings_at, edges, import_list, imports_from, names_of, object_at, object_of, object_walked, order_from, same_entry}
-use Rattle.ns_import.specs.Orders.{Reaches, here, order, there, unfold_paths}
+use Rattle.ns_import.specs.Orders.{Reaches, here, there, unfold_paths}
 use Rattle.ns_import.proofs.Importing.{searched_reached, steps_enough}
 use Rattle.ns_import.proofs.Landing.{shown_lead}
 use Rattle.ns_commands.specs.Imported.{bindings_told, import_answer}
 use Rattle.cds_clerk.specs.declared.heard.Heard.{Heard}
 use Rattle.cds_clerk.specs.Agreements.{Agrees}
-use Rattle.cds_clerk.specs.HeardProofs.{least_shows_only, told_objects}
 use Rattle.cds_clerk.specs.Readings.{least_reader}
 use Rattle.cds_clerk.specs.Searches.{IsClosed, IsFollowed, IsSettled, object_in}
 use Rattle.cds_clerk.proofs.HeardLaws.{end_is, least_agrees, values_alike}
@@ -43,7 +39,7 @@ filter_same f g [] same = refl
 filter_same f g (x ∷ xs) same =
     ap₂ (λ (o : Option _) (rest : List _). cons_option o rest) (same x (Contains-head x xs)) (filter_same f g xs (λ y c. same y (Contains-tail x xs y c)))
 
-filter_from : {A B : Type 0} (f : A → Option B) (xs : List A) (y : B) → Contains (filter_map f xs) y → (x : A) × Contains xs x × (f x ≡ Some y)
+pub filter_from : {A B : Type 0} (f : A → Option B) (xs : List A) (y : B) → Contains (filter_map f xs) y → (x : A) × Contains xs x × (f x ≡ Some y)
 filter_from f [] y c = absurd (Contains-none y c)
 filter_from {A} {B} f (x ∷ xs) y c = by_found (f x) refl (filter_from f xs y) c
   where

@@ -1,7 +1,6 @@
 -- Inquiries over readers that agree with what was heard.
 use Rattle.std.proofs.Common.{◌≡◌, ℕ, true, List, [], ◌∷◌, refl, sym, ap, ap₂, ◌∙◌}
-use Rattle.std.specs.Prelude.{◌≢◌}
-use Rattle.std.specs.List.{All, IsDistinct}
+use Rattle.std.specs.List.{IsDistinct}
 use Rattle.std.proofs.lemmas.List.Elements.{All-nil, All-push}
 use Rattle.directory.specs.declared.entry.Kind.{Kind}
 use Rattle.directory.specs.declared.entry.Kind.TheVariants as kind
@@ -10,7 +9,7 @@ use Rattle.resolver.specs.declared.walk.End.{End}
 use Rattle.resolver.specs.declared.walk.End.TheVariants as ends
 use Rattle.resolver.specs.Readers.{Reader}
 use Rattle.resolver.specs.SeenEnds.{IsSeenEnd}
-use Rattle.resolver.specs.Walks.{Ends, found_of}
+use Rattle.resolver.specs.Walks.{found_of}
 use Rattle.server_entries.specs.Exports.{tower_attribute, object_attribute}
 use Rattle.ns_groups.specs.Groups.{group, members_of}
 use Rattle.ns_profiles.specs.Profiles.{profile}
@@ -25,7 +24,7 @@ use Rattle.cds_clerk.specs.Agreements.{Agrees}
 use Rattle.cds_clerk.specs.Heards.{IsUnheard}
 use Rattle.cds_clerk.specs.Inquirings.{IsEnded, inquiry_answer}
 use Rattle.cds_clerk.specs.Readings.{IfFound, IsShown, least_reader}
-use Rattle.cds_clerk.specs.Searches.{AreAsked, same_lack}
+use Rattle.cds_clerk.specs.Searches.{AreAsked}
 use Rattle.cds_clerk.proofs.HeardLaws.{end_is, ended_shown, least_agrees, values_alike}
 
 -- what is listed of an entry that was shown is the same by two readers; so is what is listed by the

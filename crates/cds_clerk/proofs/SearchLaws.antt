@@ -29,7 +29,7 @@ use Rattle.cds_clerk.specs.Agreements.{Agrees, IsNeeded}
 use Rattle.cds_clerk.specs.Heards.{IsUnheard, heard_root}
 use Rattle.cds_clerk.specs.HeardProofs.{same_name, same_number}
 use Rattle.cds_clerk.specs.Readings.{IfFound, IsShown, least_reader}
-use Rattle.cds_clerk.specs.Searches.{AreAll, AreAsked, IfClosed, IsAhead, IsClosed, IsFollowed, IsKnown, IsSearch, IsSettled, IsSought, IsUnderWay, IsVisited, IsWaiting, Settles, begins, goes_on, object_in, same_lack, with_lack}
+use Rattle.cds_clerk.specs.Searches.{AreAll, AreAsked, AreReached, IfClosed, IsAhead, IsClosed, IsFollowed, IsKnown, IsReached, IsSearch, IsSettled, IsSought, IsUnderWay, IsVisited, IsWaiting, Settles, begins, goes_on, object_in, same_lack, with_lack}
 use Rattle.cds_clerk.proofs.HeardLaws.{end_is, values_alike}
 
 -- objects of one directory, house and name are one
@@ -64,7 +64,7 @@ object_shown h (ends.Refused why) shown = tt
 -- ---- lists
 
 -- what is made of an item is in what is made of the list
-Contains-filter_map : {A B : Type 0} (f : A → Option B) (xs : List A) (x : A) (y : B) → Contains xs x → f x ≡ Some y → Contains (filter_map f xs) y
+pub Contains-filter_map : {A B : Type 0} (f : A → Option B) (xs : List A) (x : A) (y : B) → Contains xs x → f x ≡ Some y → Contains (filter_map f xs) y
 Contains-filter_map f [] x y c is = absurd (Contains-none x c)
 Contains-filter_map {A} {B} f (z ∷ zs) x y c is = ⊎_elim first (λ rest. later (f z) (Contains-filter_map f zs x y rest is)) (Contains-cases z zs x c)
   where
@@ -161,7 +161,7 @@ module _ (h : Heard) (wanted : Interface) where
   -- nothing, if it is no object, or one that is known
   pub settles_same : (end : End) (entries : List Found) (names : Names) → IfSome (object_in end) (Contains entries)
       → Settles h wanted end entries names entries names
-  settles_same end entries names among = record { kept = λ e c. c; waiting = λ n c. c; among = among; added = λ e c. inl c; ahead = λ n c. inl c }
+  settles_same end entries names among = record { kept = λ e c. c; waiting = λ n c. c; among = among; added = λ e c. inl c; ahead = λ n c. inl c; only = λ e c. inl c }
 
   -- another object
   pub settles_new : (end : End) (f : Found) (entries entries' : List Found) (names names' : Names) → object_in end ≡ Some f → IsShown h f
@@ -175,11 +175,16 @@ module _ (h : Heard) (wanted : Interface) where
         among = subst (λ (o : Option Found). IfSome o (Contains entries')) (sym is) (subst (λ (es : List Found). Contains es f) (sym entries_are) there);
         added = λ e c. by_cases e (Contains-append_cases entries (f ∷ []) e (subst (λ (es : List Found). Contains es e) entries_are c));
         ahead = λ n c. on_ahead n (Contains-append_cases names more n (subst (λ (ns : Names). Contains ns n) names_are c));
+        only = λ e c. on_only e (Contains-append_cases entries (f ∷ []) e (subst (λ (es : List Found). Contains es e) entries_are c));
       }
     where
       on_ahead : (n : List (List ℕ)) → Contains names n ⊎ Contains (names_of (least_reader h) wanted f) n → Contains names n ⊎ IsAhead h wanted end n
       on_ahead n (inl c) = inl c
       on_ahead n (inr c) = inr (record { entry = f; is = is; shown = shown; goes_on = c })
+
+      on_only : (e : Found) → Contains entries e ⊎ Contains (f ∷ []) e → Contains entries e ⊎ (object_in end ≡ Some e)
+      on_only e (inl c) = inl c
+      on_only e (inr c) = inr (is ∙ ap Some (sym (only_of f e c)))
 
       new_one : (e : Found) → e ≡ f → IsKnown h wanted entries names' e
       new_one e same = inr (
@@ -264,7 +269,7 @@ module _ (h : Heard) (wanted : Interface) where
   -- ---- what the search visits
 
   -- of an entry that was shown readers that agree have the same names
-  names_alike : (r : Reader) → Agrees r h → (e : Found) → IsShown h e → names_of r wanted e ≡ names_of (least_reader h) wanted e
+  pub names_alike : (r : Reader) → Agrees r h → (e : Found) → IsShown h e → names_of r wanted e ≡ names_of (least_reader h) wanted e
   names_alike r agrees e shown =
       ap₂ (λ (g p : List (List ℕ)). members_of g ++ search_order wanted p) (values_alike h r agrees e group shown) (values_alike h r agrees e profile shown)
 
@@ -276,6 +281,15 @@ module _ (h : Heard) (wanted : Interface) where
       goes_on start e n leads
       (reaches_more (edges r wanted) start d e reached (Contains-filter_map (object_of r) (names_of r wanted d) other e among is)) c
 
+  -- the object to which a name leads is reached
+  reached_by : (r : Reader) (first name : List (List ℕ)) (e : Found) → IsVisited r wanted first name → object_of r name ≡ Some e → IsReached r wanted first e
+  reached_by r first name e begins is = record { start = e; begins = is; reached = here e }
+  reached_by r first name e (goes_on start d other leads reached among) is = record {
+    start = start;
+    begins = leads;
+    reached = reaches_more (edges r wanted) start d e reached (Contains-filter_map (object_of r) (names_of r wanted d) other e among is);
+  }
+
   module _ (first : List (List ℕ)) (entries : List Found) (names : Names) (name : List (List ℕ)) (lacks : List Lack)
       (way : IsUnderWay h wanted first entries (names ++ name ∷ []) lacks) where
     -- on from the end of a walk
@@ -284,11 +298,18 @@ module _ (h : Heard) (wanted : Interface) where
     way_ended end entries' names' walked settles = record {
       so_far = searched_on end entries entries' names names' lacks name walked settles first way.so_far;
       comes = λ n c r agrees. by_ahead n r agrees (settles.ahead n c);
+      reached = record { each = λ e c r agrees. by_only e r agrees (settles.only e c) };
       once = way.once;
       unheard = way.unheard;
       sought = way.sought;
     }
       where
+        by_only : (e : Found) (r : Reader) → Agrees r h → Contains entries e ⊎ (object_in end ≡ Some e) → IsReached r wanted first e
+        by_only e r agrees (inl c) = way.reached.each e c r agrees
+        by_only e r agrees (inr is) =
+            reached_by r first name e (way.comes name (Contains-append_right names (name ∷ []) name (Contains-head name [])) r agrees)
+            (ap object_in (end_is r true name end (walked r agrees)) ∙ is)
+
         by_ahead : (n : List (List ℕ)) (r : Reader) → Agrees r h → Contains names n ⊎ IsAhead h wanted end n → IsVisited r wanted first n
         by_ahead n r agrees (inl c) = way.comes n (Contains-append_left names (name ∷ []) n c) r agrees
         by_ahead n r agrees (inr ahead) =
@@ -302,6 +323,7 @@ module _ (h : Heard) (wanted : Interface) where
     way_missed q unheard needs = record {
       so_far = searched_past entries names lacks name q needs first way.so_far;
       comes = λ n c r agrees. way.comes n (Contains-append_left names (name ∷ []) n c) r agrees;
+      reached = way.reached;
       once = with_once lacks q way.once;
       unheard = with_all lacks q (IsUnheard h) way.unheard unheard;
       sought = with_all lacks q (IsSought h wanted first) way.sought (record {
@@ -317,6 +339,7 @@ module _ (h : Heard) (wanted : Interface) where
   way_begins first = record {
     so_far = search_begins first;
     comes = λ n c r agrees. subst (IsVisited r wanted first) (sym (only_of first n c)) begins;
+    reached = record { each = λ e c r agrees. absurd (Contains-none e c) };
     once = tt;
     unheard = All-nil (IsUnheard h);
     sought = All-nil (IsSought h wanted first);
@@ -338,6 +361,10 @@ module _ (h : Heard) (wanted : Interface) (first : List (List ℕ)) (entries : L
   way_closed none_lacks =
       subst (IsSearch h wanted first entries []) none_lacks
       (subst (λ (ns : List (List (List ℕ))). IsSearch h wanted first entries ns lacks) none_waits way.so_far)
+
+  -- it came to each of its entries
+  pub way_reached : AreReached h wanted first entries
+  way_reached = way.reached
 
   -- or else with all that lacks
   pub way_all : AreAll h wanted first lacks

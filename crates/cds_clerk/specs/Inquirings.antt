@@ -1,5 +1,5 @@
 -- Inquiries by what was heard.
-use Rattle.std.specs.Prelude.{◌≡◌, ℕ, true, List, Option, Some}
+use Rattle.std.specs.Prelude.{◌≡◌, ℕ, true, List, Some}
 use Rattle.cell_names.specs.ChildPointers.{Pointer}
 use Rattle.resolver.specs.declared.walk.End.{End}
 use Rattle.resolver.specs.PassWords.{first_walker}

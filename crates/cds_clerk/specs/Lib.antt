@@ -3,6 +3,7 @@ pub mod Agreements
 pub mod Readings
 pub mod HeardProofs
 pub mod Searches
+pub mod Unreached
 pub mod Inquirings
 pub mod Links
 pub mod Plans

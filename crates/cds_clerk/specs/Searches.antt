@@ -1,5 +1,5 @@
 -- Searches over what was heard.
-use Rattle.std.specs.Prelude.{◌≡◌, ◌≢◌, ◌⊎◌, ℕ, Bool, true, ◌&&◌, ◌==◌, if◌then◌else◌, List, [], ◌∷◌, ◌++◌, nat_eq, Option, Some, IfSome}
+use Rattle.std.specs.Prelude.{◌≡◌, ◌≢◌, ◌⊎◌, ℕ, Bool, true, ◌&&◌, ◌==◌, if◌then◌else◌, List, [], ◌∷◌, ◌++◌, nat_eq, Option, Some, None, IfSome}
 use Rattle.std.specs.Cmp.Lexicographic.{pointwise}
 use Rattle.std.specs.List.{All, Contains, IsDistinct, list_any}
 use Rattle.std.specs.Result.{result_ok}
@@ -72,6 +72,19 @@ pub data IsVisited (r : Reader) (wanted : Interface) (first : List (List ℕ))
       → Reaches (edges r wanted) start e → Contains (names_of r wanted e) name
       → IsVisited r wanted first name
 
+-- over a reader a search that begins at a name comes to this entry
+pub record IsReached (r : Reader) (wanted : Interface) (first : List (List ℕ)) (e : Found)
+    : Type 0 where
+  pub start : Found
+  pub begins : object_of r first ≡ Some start
+  pub reached : Reaches (edges r wanted) start e
+
+-- over each reader that agrees with what was heard it comes to these entries
+pub record AreReached (h : Heard) (wanted : Interface) (first : List (List ℕ))
+    (entries : List Found) : Type 0 where
+  pub each : (e : Found) → Contains entries e → (r : Reader) → Agrees r h
+      → IsReached r wanted first e
+
 -- a search needs this: over each reader that agrees with what was heard it comes to a name of which
 -- the walk needs it
 pub record IsSought (h : Heard) (wanted : Interface) (first : List (List ℕ)) (q : Lack)
@@ -112,6 +125,16 @@ IfLost (searched.Closed x) P = Unit {0}
 IfLost searched.LacksRoot P = P
 IfLost (searched.Lacks qs) P = Unit {0}
 
+-- what a search is answered by what was heard: if it is closed, that it is done; else all that it
+-- lacks, each once: none of that was heard, each is wanted, and no other can be known so far; and
+-- where the root directory is, if that was not heard
+pub record IsSearched {T : Type 0} (h : Heard) (wanted : Interface) (first : List (List ℕ))
+    (IsDone : T → Type 0) (answer : Searched T) : Type 0 where
+  pub done : IfClosed answer IsDone
+  pub asks : IfMisses answer (AreAsked h (IsSought h wanted first))
+  pub all : IfMisses answer (AreAll h wanted first)
+  pub root : IfLost answer (heard_root h.root ≡ None)
+
 -- ---- words of private contracts
 
 -- one question more, unless it is asked
@@ -142,6 +165,7 @@ pub record Settles (h : Heard) (wanted : Interface) (end : End) (entries : List 
   pub among : IfSome (object_in end) (Contains entries')
   pub added : (e : Found) → Contains entries' e → IsKnown h wanted entries names' e
   pub ahead : (n : List (List ℕ)) → Contains names' n → Contains names n ⊎ IsAhead h wanted end n
+  pub only : (e : Found) → Contains entries' e → Contains entries e ⊎ (object_in end ≡ Some e)
 
 -- a search under way, with what it asked for so far: it comes to each name that is still to walk
 pub record IsUnderWay (h : Heard) (wanted : Interface) (first : List (List ℕ))
@@ -149,6 +173,7 @@ pub record IsUnderWay (h : Heard) (wanted : Interface) (first : List (List ℕ))
   pub so_far : IsSearch h wanted first entries names lacks
   pub comes : (n : List (List ℕ)) → Contains names n → (r : Reader) → Agrees r h
       → IsVisited r wanted first n
+  pub reached : AreReached h wanted first entries
   pub once : IsDistinct same_lack lacks
   pub unheard : All (IsUnheard h) lacks
   pub sought : All (IsSought h wanted first) lacks

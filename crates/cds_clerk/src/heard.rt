@@ -107,6 +107,17 @@ pub struct Lack {
     pub name: SimpleName,
 }
 
+impl Lack {
+    /// A list of one question.
+    pub fn alone(self, alloc: Global) -> Result<Vec<Lack>, AllocError>
+        ensures { IfOk result (λ v. v.items ≡ self ∷ []) }
+    {
+        let mut lacks = Vec::new(alloc);
+        lacks.push(self)?;
+        Ok(lacks)
+    }
+}
+
 /// What is seen of a name, or the house that has to be asked first.
 #[derive(Drop)]
 pub enum Looked {

@@ -1,5 +1,5 @@
 // An import by what was heard.
-ghost use Rattle.std.specs.Prelude.{◌≡◌, [], List, None, IfOk};
+ghost use Rattle.std.specs.Prelude.{◌≡◌, [], List, IfOk};
 ghost use Rattle.std.specs.List.Sorted.{IsStrictlySortedBy};
 ghost use Rattle.cds_stamps.specs.Octets.{octets_cmp};
 ghost use Rattle.resolver.specs.declared.seen.Found.{Found};
@@ -7,9 +7,8 @@ ghost use Rattle.resolver.specs.Readers.{Reader, ShowsOnly};
 ghost use Rattle.ns_commands.specs.Imported.{import_answer};
 ghost use Rattle.clerk_lines.specs.ShownEntries.{attr_values};
 ghost use Rattle.cds_clerk.specs.Agreements.{Agrees};
-ghost use Rattle.cds_clerk.specs.Heards.{heard_root};
 ghost use Rattle.cds_clerk.specs.HeardProofs.{least_shows_only, told_objects};
-ghost use Rattle.cds_clerk.specs.Searches.{AreAll, AreAsked, IfClosed, IfLost, IfMisses, IsClosed, IsSought};
+ghost use Rattle.cds_clerk.specs.Searches.{IsClosed, IsSearched};
 ghost use Rattle.cds_clerk.specs.Readings.{least_reader};
 
 use crate::heard::{Heard, Looked, Root};
@@ -123,13 +122,9 @@ pub fn import(
     name: &FullName,
     wanted: Wanted,
 ) -> Result<Searched<Answer>, AllocError>
-    ensures done { IfOk result (λ x. IfClosed x (λ a. (r : Reader) (objects : List Found)
-        → Agrees r heard.now → ShowsOnly r objects → a ≡ import_answer r objects wanted name.now)) }
-    ensures asks { IfOk result (λ x. IfMisses x
-        (AreAsked heard.now (IsSought heard.now wanted.interface name.now))) }
-    ensures all { IfOk result (λ x. IfMisses x
-        (AreAll heard.now wanted.interface name.now)) }
-    ensures root { IfOk result (λ x. IfLost x (heard_root heard.now.root ≡ None)) }
+    ensures { IfOk result (IsSearched heard.now wanted.interface name.now
+        (λ a. (r : Reader) (objects : List Found) → Agrees r heard.now → ShowsOnly r objects
+        → a ≡ import_answer r objects wanted name.now)) }
 {
     let searched = search(alloc, heard, name, &wanted.interface)?;
     match searched {

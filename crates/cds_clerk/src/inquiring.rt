@@ -1,14 +1,14 @@
 // Inquiries by what was heard.
-ghost use Rattle.std.specs.Prelude.{◌≡◌, ◌≤◌, ◌∷◌, [], List, None, IfOk};
+ghost use Rattle.std.specs.Prelude.{◌≡◌, ◌≤◌, List, None, IfOk};
 ghost use Rattle.resolver.specs.declared.seen.Found.{Found};
 ghost use Rattle.resolver.specs.Readers.{Reader, ShowsOnly};
 ghost use Rattle.inquire_forms.specs.Inquired.{batches_listed, inquired_answer};
 ghost use Rattle.cds_clerk.specs.Agreements.{Agrees};
 ghost use Rattle.cds_clerk.specs.Heards.{heard_root};
 ghost use Rattle.cds_clerk.specs.Inquirings.{IsAtName, IsEnded, inquiry_answer};
-ghost use Rattle.cds_clerk.specs.Searches.{AreAll, AreAsked, IfClosed, IfLost, IfMisses, IsClosed, IsSought};
+ghost use Rattle.cds_clerk.specs.Searches.{AreAsked, IfClosed, IfLost, IfMisses, IsClosed, IsSearched};
 
-use crate::heard::{Heard, Lack};
+use crate::heard::Heard;
 use crate::importing::HeardReader;
 use crate::searching::{Searched, search};
 use crate::walking::{Walked, walk};
@@ -65,15 +65,6 @@ fn list_at(
     listing.answer(alloc, &HeardReader { heard }, name)
 }
 
-// One question.
-fn alone(alloc: Global, lack: Lack) -> Result<Vec<Lack>, AllocError>
-    ensures { IfOk result (λ v. v.items ≡ lack ∷ []) }
-{
-    let mut lacks = Vec::new(alloc);
-    lacks.push(lack)?;
-    Ok(lacks)
-}
-
 /// The answer to an inquiry of the entry of a name by what was heard: the members of a group, the
 /// interfaces and objects of a server, or elements of a profile. Each reader that agrees with what
 /// was heard has that answer, whatever else it tells. What lacks was not heard, and the walk comes
@@ -94,7 +85,7 @@ pub fn inquire(
     match walked {
         Walked::Ended(_end) => Ok(Searched::Closed(list_at(alloc, heard, name, listing)?)),
         Walked::LacksRoot => Ok(Searched::LacksRoot),
-        Walked::Lacks(lack) => Ok(Searched::Lacks(alone(alloc, lack)?)),
+        Walked::Lacks(lack) => Ok(Searched::Lacks(lack.alone(alloc)?)),
     }
 }
 
@@ -128,14 +119,9 @@ pub fn lookup(
     most: u16,
 ) -> Result<Searched<InquireAnswer>, AllocError>
     requires { 1 ≤ most }
-    ensures done { IfOk result (λ x. IfClosed x (λ a. (r : Reader) (objects : List Found)
-        → Agrees r heard.now → ShowsOnly r objects
+    ensures { IfOk result (IsSearched heard.now wanted.interface name.now
+        (λ a. (r : Reader) (objects : List Found) → Agrees r heard.now → ShowsOnly r objects
         → inquired_answer a ≡ batches_listed r objects wanted most name.now)) }
-    ensures asks { IfOk result (λ x. IfMisses x
-        (AreAsked heard.now (IsSought heard.now wanted.interface name.now))) }
-    ensures all { IfOk result (λ x. IfMisses x
-        (AreAll heard.now wanted.interface name.now)) }
-    ensures root { IfOk result (λ x. IfLost x (heard_root heard.now.root ≡ None)) }
 {
     let searched = search(alloc, heard, name, &wanted.interface)?;
     match searched {

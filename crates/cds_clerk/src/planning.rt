@@ -139,7 +139,8 @@ fn told(asked: Result<Updates, AllocOr<ScriptRefusal>>) -> Result<Planned, Alloc
 
 // What a plan asks for whose walk came to this end.
 fn plan_at(alloc: Global, heard: &Heard, plan: &Plan, end: &End) -> Result<Planned, AllocError>
-    requires walked { (r : Reader) → Agrees r heard.now → Ends r true (name_of plan.now) end.now }
+    requires walked { (r : Reader) → Agrees r heard.now
+        → Ends r true (name_of plan.now) end.now }
     requires shown { IfFound end.now (IsShown heard.now) }
     ensures asked { IfOk result (λ x. IfPlanned x (λ asks. (r : Reader) → Agrees r heard.now
         → asks ≡ asks_of r plan.now)) }

@@ -1,11 +1,11 @@
 // The entries that a search comes to by what was heard.
-ghost use Rattle.std.specs.Prelude.{◌≡◌, [], ◌∷◌, ◌++◌, List, ℕ, true, None, IfOk, IfSome, OnOk};
+ghost use Rattle.std.specs.Prelude.{◌≡◌, [], ◌∷◌, ◌++◌, true, None, IfOk, IfSome, OnOk};
 ghost use Rattle.std.specs.List.{Contains, list_any};
 ghost use Rattle.cds_stamps.specs.Names.{attr_fault};
 ghost use Rattle.ns_import.specs.Imports.{names_of};
 ghost use Rattle.cds_clerk.specs.Heards.{heard_root};
 ghost use Rattle.cds_clerk.specs.Readings.{IsShown, least_reader};
-ghost use Rattle.cds_clerk.specs.Searches.{AreAll, AreAsked, IfClosed, IfLost, IfMisses, IsClosed, IsSought, Settles, object_in, same_lack, with_lack};
+ghost use Rattle.cds_clerk.specs.Searches.{AreAll, AreAsked, AreReached, IfClosed, IfLost, IfMisses, IsClosed, IsSought, Settles, object_in, same_lack, with_lack};
 
 use crate::heard::{Heard, Lack};
 use crate::reading::values_in;
@@ -78,7 +78,7 @@ fn shown_in(alloc: Global, heard: &Heard, found: &Found, attr: &[u8]) -> Result<
 }
 
 // The names at which a search goes on from an entry.
-fn names_in(
+pub(crate) fn names_in(
     alloc: Global,
     heard: &Heard,
     found: &Found,
@@ -178,7 +178,7 @@ fn begun(alloc: Global, first: &FullName) -> Result<Vec<FullName>, AllocError>
 
 /// Searches from a name on, by what was heard. A name whose walk lacks something is passed over, so
 /// that what lacks of others is found, too.
-#[tactic(auto, using(crate::proofs::SearchLaws::way_all, crate::proofs::SearchLaws::way_asks, crate::proofs::SearchLaws::way_closed))]
+#[tactic(auto, using(crate::proofs::SearchLaws::way_all, crate::proofs::SearchLaws::way_asks, crate::proofs::SearchLaws::way_closed, crate::proofs::SearchLaws::way_reached))]
 pub(crate) fn search(
     alloc: Global,
     heard: &Heard,
@@ -187,6 +187,8 @@ pub(crate) fn search(
 ) -> Result<Searched<Vec<Found>>, AllocError>
     ensures closed { IfOk result (λ s. IfClosed s
         (λ entries. IsClosed heard.now interface.now first.now entries.items)) }
+    ensures reached { IfOk result (λ s. IfClosed s
+        (λ entries. AreReached heard.now interface.now first.now entries.items)) }
     ensures asks { IfOk result (λ s. IfMisses s
         (AreAsked heard.now (IsSought heard.now interface.now first.now))) }
     ensures all { IfOk result (λ s. IfMisses s (AreAll heard.now interface.now first.now)) }

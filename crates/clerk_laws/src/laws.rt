@@ -45,8 +45,9 @@ pub fn shows_are_read_back()
 
 /// If what a clerk heard is what houses of a cell show between two steps, then its answer is the
 /// reply of `run` there: to a read, to where a link leads, and to an import. The house that it
-/// prefers is that of the line, and a house of the cell. What it plans for a command that changes
-/// an entry is what `run` does there; for that it trusts masters alone, and prefers no house.
+/// prefers is that of the line, and a house of the cell. What it plans for a command that changes a
+/// server, a group or a profile is what `run` does there; for that it trusts masters alone, and
+/// prefers no house.
 pub fn clerks_answer_as_cells()
     ensures reads { (g : Cell) (x : HouseNo) (high : Bool) (h : Heard)
         → IsHeardIn g (Some x.0) high h → has x.0 g.made ≡ true

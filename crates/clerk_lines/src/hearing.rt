@@ -31,8 +31,8 @@ pub enum Hearing {
     Nonsense,
 }
 
-// The first word of a line.
-fn first_word(line: &[u8]) -> &[u8]
+/// The octets of a line before its first space, or all of it.
+pub fn first_word(line: &[u8]) -> &[u8]
     ensures { result.now ≡ word_of line.now }
 {
     match split_at_mark(line, b' ') {

@@ -11,7 +11,7 @@ mod status;
 mod writing;
 
 pub use answer::{AnswerLine, parse_answer_line};
-pub use hearing::{Hearing, Told, is_last};
+pub use hearing::{Hearing, Told, first_word, is_last};
 pub use line::{ClerkLine, ClerkWord, read_clerk_line};
 pub use shown::{Lead, ShownAttr, ShownAttrs, ShownEntry, ShownValues};
 pub use status::{RootList, read_root};

@@ -1,5 +1,6 @@
 -- A run between two lines, and how it ends.
-use Rattle.std.proofs.Common.{◌≡◌, ◌≢◌, ℕ, ◌+◌, ◌<◌, ◌≤◌, List, [], ◌∷◌, ◌++◌, length, take, drop, inl, inr, refl, sym, ◌∙◌, ap, subst, append_assoc, append-nil, length-append, take-append-drop, length-take, get_or, arith}
+use Rattle.std.proofs.Common.{◌≡◌, ◌≢◌, ℕ, ◌+◌, ◌<◌, ◌≤◌, List, [], ◌∷◌, ◌++◌, length, take, drop, get_or, inl, inr}
+use Rattle.std.proofs.Common.{refl, sym, ◌∙◌, ap, subst, append_assoc, append-nil, length-append, take-append-drop, length-take, arith}
 use Rattle.std.specs.Prelude.{Option, Some, None, Result, Ok, Err}
 use Rattle.std.specs.Io.KnownBytes.{Consumes, Appends}
 use Rattle.cds_base.specs.Counts.{Rose}
@@ -131,7 +132,9 @@ module _ (first at : Clerk) (lines lines' : Lines) (run : Run) (b : IsBetween fi
     text = b.text ++ takes.0;
     talk = goes_on line.1 takes.0 after b.talk (is_line line next) takes.1;
     taken =
-        subst (Consumes run.left left') (sym (append_assoc (text_of b.given) (line.1 ++ 10 ∷ []) (octets_ahead lines')) ∙ ap (λ (t : List ℕ). t ++ octets_ahead lines') (sym (text_more b.given line.1)))
+        subst (Consumes run.left left')
+        (sym (append_assoc (text_of b.given) (line.1 ++ 10 ∷ []) (octets_ahead lines'))
+        ∙ ap (λ (t : List ℕ). t ++ octets_ahead lines') (sym (text_more b.given line.1)))
         (given_one line next);
     written = appends_more run.written run.written' written' b.text takes.0 b.written takes.2;
     count = next.number ∙ ap (λ n. n + 1) b.count ∙ sym (length_more b.given line.1);
@@ -225,7 +228,8 @@ module _ (first at : Clerk) (lines lines' : Lines) (run : Run) (b : IsBetween fi
     (quiet ∙ b.quiet, calm ∙ b.calm),
   )
 
-  pub ends_at_fault : (f : LineFault) → IsNext run.left' left' lines lines' (Err f) → HasLineCause run.reads' reads' (let e : Result (Option (ℕ × List ℕ)) LineFault = Err f in e) → written' ≡ run.written'
+  pub ends_at_fault : (f : LineFault) → IsNext run.left' left' lines lines' (Err f)
+      → HasLineCause run.reads' reads' (let e : Result (Option (ℕ × List ℕ)) LineFault = Err f in e) → written' ≡ run.written'
       → writes' ≡ run.writes' → RunEnds first ends (status_of f)
   ends_at_fault fault.ReadFault next cause same calm = (
     record {

@@ -3,7 +3,11 @@
 #![tactic(auto)]
 
 #[cfg(test)]
+mod inquiries;
+#[cfg(test)]
 mod lines;
+#[cfg(test)]
+mod reaches;
 #[cfg(test)]
 mod reads;
 #[cfg(test)]

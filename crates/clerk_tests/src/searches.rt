@@ -1,6 +1,6 @@
 // Imports over what was heard.
 use crate::reads::shown;
-use cds_clerk::{Answered, Answers, Heard, Root, Searched, import};
+use cds_clerk::{Answered, Answers, Heard, Lack, Root, Searched, import};
 use cds_stamps::{DirId, HouseNo, SimpleName};
 use cell_names::{ChildPointer, FullName, HouseList};
 use clerk_lines::Told;
@@ -10,8 +10,8 @@ use std::alloc::Global;
 use std::test::Fail;
 use tower_codec::{Interface, read_uuid};
 
-// Nothing was heard but where the root directory is, at house 1.
-fn rooted(alloc: Global) -> Result<Heard, Fail> {
+/// Nothing was heard but where the root directory is, at house 1.
+pub(crate) fn rooted(alloc: Global) -> Result<Heard, Fail> {
     Ok(Heard {
         near: None,
         root: Root::At(ChildPointer {
@@ -22,8 +22,8 @@ fn rooted(alloc: Global) -> Result<Heard, Fail> {
     })
 }
 
-// House 1 says this of a name of the root directory.
-fn says(alloc: Global, heard: &mut Heard, name: &[u8], told: Told) -> Result<(), Fail> {
+/// House 1 says this of a name of the root directory.
+pub(crate) fn says(alloc: Global, heard: &mut Heard, name: &[u8], told: Told) -> Result<(), Fail> {
     heard.answers.push(Answered {
         dir: DirId::ROOT,
         house: HouseNo(1),
@@ -33,8 +33,8 @@ fn says(alloc: Global, heard: &mut Heard, name: &[u8], told: Told) -> Result<(),
     Ok(())
 }
 
-// The interface e1af8308-5d1f-11c9-91a4-08002b14a0fa 3.0, over TCP, without an object.
-fn wanted() -> Result<Wanted, Fail> {
+/// The interface e1af8308-5d1f-11c9-91a4-08002b14a0fa 3.0, over TCP, without an object.
+pub(crate) fn wanted() -> Result<Wanted, Fail> {
     let uuid = read_uuid(b"e1af8308-5d1f-11c9-91a4-08002b14a0fa").ok_or("a UUID")?;
     Ok(Wanted {
         interface: Interface {
@@ -58,6 +58,11 @@ fn asked(alloc: Global, heard: &Heard) -> Result<Vec<u8>, Fail> {
     let Searched::Lacks(lacks) = &searched else {
         return Err("questions".into());
     };
+    names_of(alloc, lacks)
+}
+
+/// The names of questions, each after a space.
+pub(crate) fn names_of(alloc: Global, lacks: &[Lack]) -> Result<Vec<u8>, Fail> {
     let mut text = Vec::new(alloc);
     for lack in lacks {
         text.push(b' ')?;
@@ -66,8 +71,8 @@ fn asked(alloc: Global, heard: &Heard) -> Result<Vec<u8>, Fail> {
     Ok(text)
 }
 
-// A group of /.:/a, /.:/b and two names below /.:/d.
-const GROUP: [&[u8]; 6] = [
+/// A group of /.:/a, /.:/b and two names below /.:/d.
+pub(crate) const GROUP: [&[u8]; 6] = [
     b"object",
     b"attr RPC_Group",
     b"value 2f2e3a2f61",
@@ -76,8 +81,8 @@ const GROUP: [&[u8]; 6] = [
     b"value 2f2e3a2f642f79",
 ];
 
-// A server of the wanted interface at TCP port 135 of an address without a host.
-const SERVER: [&[u8]; 3] = [
+/// A server of the wanted interface at TCP port 135 of an address without a host.
+pub(crate) const SERVER: [&[u8]; 3] = [
     b"object",
     b"attr CDS_Towers",
     b"value 050013000d0883afe11f5dc91191a408002b14a0fa030002000000\

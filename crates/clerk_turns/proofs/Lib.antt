@@ -1,5 +1,7 @@
 pub mod Texts
+pub mod Coming
 pub mod RootAsks
 pub mod Goings
 pub mod Places
 pub mod Refusing
+pub mod Waiting

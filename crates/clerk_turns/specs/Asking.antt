@@ -5,7 +5,6 @@ use Rattle.cds_stamps.specs.declared.numbers.HouseNo.{HouseNo}
 use Rattle.clerk_lines.specs.declared.hearing.Hearing.TheVariants.{Begun}
 use Rattle.clerk_lines.specs.ClerkTexts.{ask_text, show_text}
 use Rattle.cds_clerk.specs.declared.heard.Lack.{Lack}
-use Rattle.clerk_turns.specs.declared.clerk.Question.{Question}
 use Rattle.clerk_turns.specs.declared.clerk.Clerk.{Clerk}
 use Rattle.clerk_turns.specs.declared.clerk.Job.{Job}
 use Rattle.clerk_turns.specs.declared.clerk.Topic.{Topic}

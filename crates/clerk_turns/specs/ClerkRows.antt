@@ -1,12 +1,16 @@
 -- What a command of a clerk says: the table of the first words.
-use Rattle.std.specs.Prelude.{ℕ, List, [], ◌∷◌, Err, Result, codes}
+use Rattle.std.specs.Prelude.{ℕ, false, if◌then◌else◌, List, [], ◌∷◌, Ok, Err, Result, codes}
+use Rattle.std.specs.Str.{bytes_eq}
 use Rattle.cell_script.specs.declared.fault.ParseFault.{ParseFault}
 use Rattle.cell_script.specs.declared.fault.ParseFault.TheVariants.{UnknownCommand}
 use Rattle.cell_script.specs.Words.{confidence_of, full_name_of, attr_name_of, octets_value_of}
 use Rattle.cell_script.specs.NameService.{interface_of, element_interface_of, interface_or_none_of, bindings_of}
 use Rattle.cell_script.specs.NameService.{objects_of, object_of, protocols_of, priority_of, note_of}
-use Rattle.cell_script.specs.WordForms.{Form, One, Builds, Words, followed_by}
+use Rattle.cell_script.specs.WordForms.{◌>>=◌, Form, One, Builds, Words, check_count, followed_by, take_words}
 use Rattle.cell_script.specs.CommandRows.{RowOf, said_among, no_command}
+use Rattle.inquire_forms.specs.InquireLines.{elements_said}
+use Rattle.inquire_forms.specs.InquireWords.{most_of}
+use Rattle.cds_clerk.specs.declared.inquiring.Listing.TheVariants as listing
 use Rattle.cds_clerk.specs.declared.planning.NamedUpdate.{NamedUpdate}
 use Rattle.cds_clerk.specs.declared.planning.NamedUpdate.TheVariants as update
 use Rattle.cds_clerk.specs.declared.planning.Plan.{Plan}
@@ -38,6 +42,32 @@ question_rows =
     ∷ row (codes "import") import_forms
     (λ c n i o p. command.Import c n (record { interface = i; object = o; tcp = p.0; udp = p.1 }))
     ∷ []
+
+-- the forms of the words of a look-up
+abbrev pub lookup_forms : List Form
+lookup_forms = One confidence_of ∷ after_name
+    (One interface_of ∷ One object_of ∷ One protocols_of ∷ One most_of ∷ [])
+
+-- the members of a group, the interfaces and objects of a server, and the bindings of an import in
+-- batches
+abbrev pub inquiry_rows : List (RowOf Command)
+inquiry_rows =
+    row (codes "grouplist") (One confidence_of ∷ One full_name_of ∷ [])
+    (λ c n. command.Inquire c n listing.Members)
+    ∷ row (codes "entrylist") (One confidence_of ∷ One full_name_of ∷ [])
+    (λ c n. command.Inquire c n listing.Entry)
+    ∷ row (codes "lookup") lookup_forms
+    (λ c n i o p m. command.Lookup c n
+    (record { interface = i; object = o; tcp = p.0; udp = p.1 }) m)
+    ∷ []
+
+-- the elements of a profile that are asked for
+unfoldable pub proflist_said : Words → Result Command ParseFault
+proflist_said s = check_count false 6 s >>= λ _. (do
+  c ← take_words (One confidence_of) s
+  n ← take_words (One full_name_of) c.1
+  i ← elements_said n.1
+  Ok (command.Inquire c.0 n.0 (listing.Elements i)))
 
 -- a command of the name service that changes an entry
 abbrev pub plans : List ℕ → (forms : List Form) → Builds forms Plan → RowOf Command
@@ -89,8 +119,12 @@ said_of_update word s = said_among entry_rows (said_of_value word s) word s
 unfoldable pub said_of_plan : List ℕ → Words → Result Command ParseFault
 said_of_plan word s = said_among plan_rows (said_of_update word s) word s
 
+unfoldable pub said_of_inquiry : List ℕ → Words → Result Command ParseFault
+said_of_inquiry word s = said_among inquiry_rows
+    (if bytes_eq word (codes "proflist") then proflist_said s else said_of_plan word s) word s
+
 unfoldable pub said_by : List ℕ → Words → Result Command ParseFault
-said_by word s = said_among question_rows (said_of_plan word s) word s
+said_by word s = said_among question_rows (said_of_inquiry word s) word s
 
 -- what the words of a command say
 unfoldable pub command_said : List (List ℕ) → Result Command ParseFault

@@ -1,5 +1,5 @@
 -- The commands and the questions of a clerk.
-use Rattle.std.specs.Prelude.{◌≡◌, ◌==◌, ℕ, Bool, List, Option, Some, None, slice_get}
+use Rattle.std.specs.Prelude.{◌≡◌, ◌==◌, ℕ, Bool, List, Option, Some, slice_get}
 use Rattle.std.specs.List.{list_any, position, remove}
 use Rattle.std.specs.Global.{Vec}
 use Rattle.clerk_turns.specs.declared.clerk.Clerk.{Clerk}

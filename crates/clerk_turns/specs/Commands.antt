@@ -9,16 +9,15 @@ abbrev pub is_high : Command → Bool
 is_high (command.Read high name attr) = high
 is_high (command.Readlink high name) = high
 is_high (command.Import high name wanted) = high
+is_high (command.Inquire high name listing) = high
+is_high (command.Lookup high name wanted most) = high
 is_high (command.Plan plan) = true
 is_high (command.Update name u) = true
 
 -- a command is one update, whose answer is that of its house
 abbrev pub is_update : Command → Bool
-is_update (command.Read high name attr) = false
-is_update (command.Readlink high name) = false
-is_update (command.Import high name wanted) = false
-is_update (command.Plan plan) = false
 is_update (command.Update name u) = true
+is_update other = false
 
 -- a command's lines may be sent again if nobody knows whether they were done: a second one takes
 -- away nothing that another client gave

@@ -6,3 +6,4 @@ pub mod Says
 pub mod Asking
 pub mod Sendings
 pub mod Turns
+pub mod Waiting

@@ -2,11 +2,12 @@
 use Rattle.std.specs.Prelude.{◌≡◌, ◌⊎◌, ℕ, Bool, true, false, nat_le, nat_lt, if◌then◌else◌, is_some, List, [], ◌∷◌, ◌++◌, map, Option, Some, None, Result, Ok, Err, slice_get, codes, decimal}
 use Rattle.cds_base.specs.Counts.{next_count}
 use Rattle.cds_stamps.specs.Numbers.{root_dir}
+use Rattle.cds_stamps.specs.declared.numbers.DirId.{DirId}
 use Rattle.cds_stamps.specs.declared.numbers.HouseNo.{HouseNo}
 use Rattle.cell_names.specs.declared.pointer.ChildPointer.{ChildPointer}
-use Rattle.script_answers.specs.declared.answer.Answer.{Answer}
 use Rattle.script_answers.specs.declared.answer.Answer.TheVariants as answer
 use Rattle.script_answers.specs.declared.answer.ScriptRefusal.TheVariants as why
+use Rattle.inquire_forms.specs.Inquired.{Inquired, Plain}
 use Rattle.clerk_lines.specs.declared.hearing.Told.{Told}
 use Rattle.clerk_lines.specs.declared.hearing.Told.TheVariants.{Passed}
 use Rattle.clerk_lines.specs.declared.line.ClerkWord.{ClerkWord}
@@ -35,7 +36,7 @@ use Rattle.clerk_turns.specs.declared.clerk.Topic.TheVariants as topic
 use Rattle.clerk_turns.specs.declared.sending.Fate.{Fate}
 use Rattle.clerk_turns.specs.declared.sending.Fate.TheVariants as fate
 use Rattle.clerk_turns.specs.Commands.{is_high, is_update, may_repeat}
-use Rattle.clerk_turns.specs.Answers.{ArePlanned, AreWanted, IsAnswer}
+use Rattle.clerk_turns.specs.Answers.{AreNotReached, ArePlanned, AreWanted, IsAnswer}
 use Rattle.clerk_turns.specs.Asking.{Asks, AsksEach, IsWithJob, name_ask, root_ask}
 use Rattle.clerk_turns.specs.ClerkRows.{command_said}
 use Rattle.clerk_turns.specs.Clerks.{TakesJob, TakesQuestion, job_place, question_place, waits_for}
@@ -88,12 +89,12 @@ with_root job = record job { heard = record job.heard { root = root_in job.lates
 -- ---- how a command goes on
 
 -- an answer says that no house of a directory is reached
-abbrev pub is_unreached : Answer → Bool
-is_unreached (answer.Refused (why.Unreachable dir)) = true
+abbrev pub is_unreached : Inquired → Bool
+is_unreached (Plain (answer.Refused (why.Unreachable dir))) = true
 is_unreached other = false
 
 -- where the root directory is is not known any more, if a directory was not reached
-abbrev pub after_answer : Answer → Clerk → Clerk
+abbrev pub after_answer : Inquired → Clerk → Clerk
 after_answer a c = if is_unreached a then record c { root = None } else c
 
 -- what was heard for a command, with one more answer
@@ -103,9 +104,11 @@ with_answer job a =
 
 -- it has its answer by what was heard, and ends
 pub record HasAnswer (c : Clerk) (job : Job) (said : List ℕ) (c' : Clerk) : Type 0 where
-  pub answer : Answer
+  pub answer : Inquired
+  pub unreached : List DirId
   pub is : IsAnswer job.heard job.command answer
-  pub text : said ≡ in_doubt job.sending.doubt (answer_said job.number answer)
+  pub are : AreNotReached job.heard job.command unreached
+  pub text : said ≡ in_doubt job.sending.doubt (answer_said job.number answer unreached)
   pub after : c' ≡ after_answer answer c
 
 -- it asks for updates by what was heard, and the first of them is sent to its house

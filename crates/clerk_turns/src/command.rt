@@ -1,16 +1,52 @@
 // The commands of a clerk.
-ghost use Rattle.std.specs.Prelude.{◌≡◌, codes};
+ghost use Rattle.std.specs.Prelude.{◌≡◌, ◌≤◌, codes};
 ghost use Rattle.cds_stamps.specs.Outcomes.{Answers};
 ghost use Rattle.cell_script.specs.Words.{words_of};
-ghost use Rattle.clerk_turns.specs.ClerkRows.{command_said, said_by, said_of_plan, said_of_update, said_of_value};
+ghost use Rattle.clerk_turns.specs.ClerkRows.{command_said, said_by, said_of_inquiry, said_of_plan, said_of_update, said_of_value};
 ghost use Rattle.clerk_turns.specs.Commands.{is_high, is_update, may_repeat};
 
-use cds_clerk::{NamedUpdate, Plan};
+use cds_clerk::{Listing, NamedUpdate, Plan};
 use cds_stamps::{AllocOr, AttrName};
 use cell_names::FullName;
 use cell_script::{ParseFault, Parsed, Words};
+use inquire_forms::{read_inquiry, read_most};
 use server_entries::Wanted;
 use std::alloc::Global;
+use std::marker::Model;
+
+/// How many bindings a batch of a look-up has at most: 1 to 65,535.
+#[derive(Drop)]
+pub struct BatchSize {
+    most: u16,
+}
+
+impl Model for BatchSize {
+    ghost use Rattle.std.specs.Prelude.{ℕ, ◌≤◌};
+
+    ghost Value = { ℕ };
+
+    ghost view = { λ v. v.most };
+
+    ghost invariant = { λ v. 1 ≤ v.most };
+}
+
+impl BatchSize {
+    // The size of so many.
+    fn of(most: u16) -> BatchSize
+        requires { 1 ≤ most }
+        ensures { result ≡ most }
+    {
+        BatchSize { most }
+    }
+
+    /// How many bindings a batch has at most.
+    pub fn most(&self) -> u16
+        ensures is { result ≡ self.now }
+        ensures some { 1 ≤ self.now }
+    {
+        self.most
+    }
+}
 
 /// A command. Its fields are in the order of its words; a `bool` is the confidence, true for high.
 #[derive(Drop)]
@@ -18,6 +54,8 @@ pub enum Command {
     Read(bool, FullName, AttrName),
     Readlink(bool, FullName),
     Import(bool, FullName, Wanted),
+    Inquire(bool, FullName, Listing),
+    Lookup(bool, FullName, Wanted, BatchSize),
     Plan(Plan),
     Update(FullName, NamedUpdate),
 }
@@ -31,6 +69,8 @@ impl Command {
             Command::Read(high, _, _) => *high,
             Command::Readlink(high, _) => *high,
             Command::Import(high, _, _) => *high,
+            Command::Inquire(high, _, _) => *high,
+            Command::Lookup(high, _, _, _) => *high,
             Command::Plan(_) | Command::Update(_, _) => true,
         }
     }
@@ -85,7 +125,7 @@ fn said_by(alloc: Global, word: &[u8], words: &mut Words<'_>) -> Parsed<Command>
     if word == b"import".as_slice() {
         return import(alloc, words);
     }
-    said_of_plan(alloc, word, words)
+    said_of_inquiry(alloc, word, words)
 }
 
 #[tactic(auto, unfolding(crate::specs::ClerkRows::said_by))]
@@ -128,6 +168,77 @@ fn import(alloc: Global, words: &mut Words<'_>) -> Parsed<Command>
             udp,
         },
     ))
+}
+
+// What they say if the command is an inquiry, or of a later kind.
+#[tactic(auto, unfolding(crate::specs::ClerkRows::said_of_inquiry))]
+fn said_of_inquiry(alloc: Global, word: &[u8], words: &mut Words<'_>) -> Parsed<Command>
+    ensures { Answers result (said_of_inquiry word.now words.old) }
+{
+    if word == b"grouplist".as_slice() {
+        return grouplist(alloc, words);
+    }
+    if word == b"entrylist".as_slice() {
+        return entrylist(alloc, words);
+    }
+    if word == b"lookup".as_slice() {
+        return lookup(alloc, words);
+    }
+    if word == b"proflist".as_slice() {
+        return proflist(alloc, words);
+    }
+    said_of_plan(alloc, word, words)
+}
+
+#[tactic(auto, unfolding(crate::specs::ClerkRows::said_of_inquiry))]
+fn grouplist(alloc: Global, words: &mut Words<'_>) -> Parsed<Command>
+    ensures { Answers result (said_of_inquiry (codes "grouplist") words.old) }
+{
+    words.exactly(2)?;
+    let high = words.confidence()?;
+    let name = words.full_name(alloc)?;
+    Ok(Command::Inquire(high, name, Listing::Members))
+}
+
+#[tactic(auto, unfolding(crate::specs::ClerkRows::said_of_inquiry))]
+fn entrylist(alloc: Global, words: &mut Words<'_>) -> Parsed<Command>
+    ensures { Answers result (said_of_inquiry (codes "entrylist") words.old) }
+{
+    words.exactly(2)?;
+    let high = words.confidence()?;
+    let name = words.full_name(alloc)?;
+    Ok(Command::Inquire(high, name, Listing::Entry))
+}
+
+#[tactic(auto, unfolding(crate::specs::ClerkRows::said_of_inquiry, crate::specs::ClerkRows::proflist_said))]
+fn proflist(alloc: Global, words: &mut Words<'_>) -> Parsed<Command>
+    ensures { Answers result (said_of_inquiry (codes "proflist") words.old) }
+{
+    words.exactly(6)?;
+    let high = words.confidence()?;
+    let name = words.full_name(alloc)?;
+    let inquiry = read_inquiry(alloc, words)?;
+    Ok(Command::Inquire(high, name, Listing::Elements(inquiry)))
+}
+
+#[tactic(auto, unfolding(crate::specs::ClerkRows::said_of_inquiry))]
+fn lookup(alloc: Global, words: &mut Words<'_>) -> Parsed<Command>
+    ensures { Answers result (said_of_inquiry (codes "lookup") words.old) }
+{
+    words.exactly(6)?;
+    let high = words.confidence()?;
+    let name = words.full_name(alloc)?;
+    let interface = words.interface()?;
+    let object = words.object()?;
+    let (tcp, udp) = words.protocols()?;
+    let most = read_most(words)?;
+    let wanted = Wanted {
+        interface,
+        object,
+        tcp,
+        udp,
+    };
+    Ok(Command::Lookup(high, name, wanted, BatchSize::of(most)))
 }
 
 // What they say if the command changes what servers export, or a group, or a profile; or of a later

@@ -3,11 +3,12 @@
 
 mod clerk;
 mod command;
+pub mod laws;
 mod outcomes;
 mod says;
 mod sending;
 mod turns;
 
 pub use clerk::{Clerk, Job, Question, Sending, Topic};
-pub use command::{Command, parse_command};
+pub use command::{BatchSize, Command, parse_command};
 pub use outcomes::{Comes, outcome};

@@ -1,123 +1,139 @@
 // What a clerk says to a command.
-ghost use Rattle.std.specs.Prelude.{◌≡◌, ◌∷◌, ◌++◌, [], ℕ, List, IfOk, OnOk};
+ghost use Rattle.std.specs.Prelude.{◌≡◌, ◌∷◌, ◌++◌, [], IfOk, OnOk, decimal, map};
 ghost use Rattle.std.specs.List.{flat_map};
-ghost use Rattle.script_answers.specs.Texts.{answer_line, answer_lines, binding_line, import_end, import_lines, line_text};
+ghost use Rattle.script_answers.specs.Texts.{answer_line};
 ghost use Rattle.clerk_lines.specs.ClerkTexts.{say_text};
-ghost use Rattle.clerk_turns.specs.Says.{answer_said, fault_line, fault_said, lines_said, parse_fault_line};
+ghost use Rattle.inquire_forms.specs.Inquired.{inquired_answer};
+ghost use Rattle.inquire_forms.specs.InquireTexts.{listed_lines};
+ghost use Rattle.clerk_turns.specs.Says.{answer_said, fault_line, fault_said, front_said, list_said, parse_fault_line, unreached_line};
 
+use cds_stamps::DirId;
 use cell_script::ParseFault;
 use clerk_lines::push_say;
-use script_answers::{Answer, append_answer, push_number};
+use inquire_forms::{InquireAnswer, append_listed, count_listed};
+use script_answers::{Answer, append_said, push_number};
 use std::alloc::{AllocError, Global};
-use tower_codec::StringBinding;
 
-// What a line says that has the number 0.
-fn unnumbered(alloc: Global, text: &[u8]) -> Result<Vec<u8>, AllocError>
-    ensures { (said : List ℕ) → text.now ≡ line_text 0 said
-        → IfOk result (λ line. line.items ≡ said) }
-{
-    if text.len() < 3 {
-        return Ok(Vec::new(alloc));
-    }
-    Vec::from_slice(alloc, &text[2..text.len() - 1])
-}
-
-// What an answer says that has one line.
-fn single_line(alloc: Global, answer: &Answer) -> Result<Vec<u8>, AllocError>
-    requires { answer_lines answer.now ≡ answer_line answer.now ∷ [] }
-    ensures { IfOk result (λ line. line.items ≡ answer_line answer.now) }
-{
-    let mut text = Vec::new(alloc);
-    append_answer(alloc, &mut text, 0, answer)?;
-    unnumbered(alloc, &text)
-}
-
-// Says a binding.
-fn push_binding(
-    alloc: Global,
-    text: &mut Vec<u8>,
-    command: u64,
-    binding: &StringBinding,
-) -> Result<(), AllocError>
-    ensures { OnOk result
-        (text.new.items ≡ text.old.items ++ say_text command (binding_line binding.now)) }
-{
-    let mut line = Vec::new(alloc);
-    line.extend_from_slice(b"binding ")?;
-    line.extend_from_slice(&binding.print(alloc)?)?;
-    push_say(text, command, &line)
-}
-
-// Says how many bindings there are.
-fn push_count(
-    alloc: Global,
-    text: &mut Vec<u8>,
-    command: u64,
-    count: usize,
-) -> Result<(), AllocError>
-    ensures { OnOk result (text.new.items ≡ text.old.items ++ say_text command (import_end count)) }
-{
-    let mut line = Vec::new(alloc);
-    line.extend_from_slice(b"end ")?;
-    push_number(&mut line, count as u64)?;
-    push_say(text, command, &line)
-}
-
-// Says bindings, and how many there are.
-fn push_bindings(
-    alloc: Global,
-    text: &mut Vec<u8>,
-    command: u64,
-    bindings: &[StringBinding],
-) -> Result<(), AllocError>
-    ensures { OnOk result (text.new.items
-        ≡ text.old.items ++ flat_map (say_text command) (import_lines bindings.now)) }
-{
-    for binding in bindings {
-        push_binding(alloc, text, command, binding)?;
-    }
-    push_count(alloc, text, command, bindings.len())
-}
-
-// Says one line.
-fn say_line(alloc: Global, command: u64, line: &[u8]) -> Result<Vec<u8>, AllocError>
-    ensures { IfOk result
-        (λ text. text.items ≡ flat_map (say_text command) (line.now ∷ [])) }
+/// Says one line.
+pub(crate) fn say_line(alloc: Global, command: u64, line: &[u8]) -> Result<Vec<u8>, AllocError>
+    ensures { IfOk result (λ text. text.items ≡ say_text command line.now) }
 {
     let mut text = Vec::new(alloc);
     push_say(&mut text, command, line)?;
     Ok(text)
 }
 
-// Says bindings.
-fn say_bindings(
-    alloc: Global,
-    command: u64,
-    bindings: &[StringBinding],
-) -> Result<Vec<u8>, AllocError>
+// Says an answer that has one line.
+#[tactic(auto, using(crate::proofs::Texts::single_said))]
+fn say_single(alloc: Global, command: u64, answer: &Answer) -> Result<Vec<u8>, AllocError>
     ensures { IfOk result
-        (λ text. text.items ≡ flat_map (say_text command) (import_lines bindings.now)) }
+        (λ text. text.items ≡ flat_map (say_text command) (answer_line answer.now ∷ [])) }
 {
+    let mut line = Vec::new(alloc);
+    append_said(alloc, &mut line, answer)?;
+    say_line(alloc, command, &line)
+}
+
+// Says words and a number.
+fn push_counted(
+    alloc: Global,
+    text: &mut Vec<u8>,
+    command: u64,
+    words: &[u8],
+    count: u64,
+) -> Result<(), AllocError>
+    ensures { OnOk result (text.new.items
+        ≡ text.old.items ++ say_text command (words.now ++ decimal count)) }
+{
+    let mut line = Vec::new(alloc);
+    line.extend_from_slice(words)?;
+    push_number(&mut line, count)?;
+    push_say(text, command, &line)
+}
+
+// Says a directory that was not reached.
+fn push_unreached(
+    alloc: Global,
+    text: &mut Vec<u8>,
+    command: u64,
+    dir: &DirId,
+) -> Result<(), AllocError>
+    ensures { OnOk result (text.new.items
+        ≡ text.old.items ++ say_text command (unreached_line dir.now)) }
+{
+    push_counted(alloc, text, command, b"unreached ", u64::from(dir.0))
+}
+
+// Says the directories that were not reached.
+fn push_each_unreached(
+    alloc: Global,
+    text: &mut Vec<u8>,
+    command: u64,
+    dirs: &[DirId],
+) -> Result<(), AllocError>
+    ensures { OnOk result (text.new.items
+        ≡ text.old.items ++ flat_map (say_text command) (map unreached_line dirs.now)) }
+{
+    for dir in dirs {
+        push_unreached(alloc, text, command, dir)?;
+    }
+    Ok(())
+}
+
+// What a line begins with that is said to a command.
+fn front_said(alloc: Global, command: u64) -> Result<Vec<u8>, AllocError>
+    ensures { IfOk result (λ front. front.items ≡ front_said command) }
+{
+    let mut front = Vec::new(alloc);
+    front.extend_from_slice(b"say ")?;
+    push_number(&mut front, command)?;
+    front.push(b' ')?;
+    Ok(front)
+}
+
+// Says what an answer lists.
+#[tactic(auto, using(crate::proofs::Texts::listed_said))]
+fn say_listed(alloc: Global, command: u64, answer: &InquireAnswer) -> Result<Vec<u8>, AllocError>
+    ensures { IfOk result (λ text. text.items
+        ≡ flat_map (say_text command) (listed_lines (inquired_answer answer.now))) }
+{
+    let front = front_said(alloc, command)?;
     let mut text = Vec::new(alloc);
-    push_bindings(alloc, &mut text, command, bindings)?;
+    append_listed(alloc, &mut text, &front, answer)?;
     Ok(text)
 }
 
-/// Says the answer to a command.
+// Says an answer that lists something, and the directories that were not reached.
+#[tactic(auto, using(crate::proofs::Texts::list_is_said))]
+fn say_list(
+    alloc: Global,
+    command: u64,
+    answer: &InquireAnswer,
+    unreached: &[DirId],
+) -> Result<Vec<u8>, AllocError>
+    ensures { IfOk result (λ text. text.items
+        ≡ flat_map (say_text command) (list_said (inquired_answer answer.now) unreached.now)) }
+{
+    let mut text = say_listed(alloc, command, answer)?;
+    push_each_unreached(alloc, &mut text, command, unreached)?;
+    push_counted(alloc, &mut text, command, b"end ", count_listed(answer)?)?;
+    Ok(text)
+}
+
+/// Says the answer to a command, and the directories that its search did not reach.
 pub(crate) fn say_answer(
     alloc: Global,
     command: u64,
-    answer: &Answer,
+    answer: &InquireAnswer,
+    unreached: &[DirId],
 ) -> Result<Vec<u8>, AllocError>
-    ensures { IfOk result (λ text. text.items ≡ answer_said command answer.now) }
+    ensures { IfOk result (λ text. text.items
+        ≡ answer_said command (inquired_answer answer.now) unreached.now) }
 {
     match answer {
-        Answer::Bindings(bindings) => say_bindings(alloc, command, bindings.list()),
-        Answer::Dump(_, _, _, _) => say_line(alloc, command, b""),
-        _ => {
-            let line = single_line(alloc, answer)?;
-            say_line(alloc, command, &line)
-        }
+        InquireAnswer::Plain(Answer::Bindings(_)) => say_list(alloc, command, answer, unreached),
+        InquireAnswer::Plain(answer) => say_single(alloc, command, answer),
+        _ => say_list(alloc, command, answer, unreached),
     }
 }
 
@@ -153,7 +169,5 @@ pub(crate) fn say_fault(
     ensures { IfOk result (λ text. text.items ≡ fault_said command fault) }
 {
     let line = parse_fault_line(alloc, fault)?;
-    let mut text = Vec::new(alloc);
-    push_say(&mut text, command, &line)?;
-    Ok(text)
+    say_line(alloc, command, &line)
 }

@@ -3,23 +3,21 @@ ghost use Rattle.std.specs.Prelude.{◌≡◌, ◌∷◌, ◌++◌, codes, decim
 ghost use Rattle.cell_names.specs.FullNames.{full_name_octets};
 ghost use Rattle.std.specs.Option.{option_map};
 ghost use Rattle.directory.specs.Updates.{change_of};
-ghost use Rattle.clerk_lines.specs.ClerkTexts.{say_text};
-ghost use Rattle.clerk_lines.specs.Hearings.{word_of};
 ghost use Rattle.ns_commands.specs.declared.updates.Updates.{Updates};
 ghost use Rattle.clerk_turns.specs.Sendings.{IsUnsent, Sends, again, with_doubt, fate_of, fate_of_line, fate_of_update, front_text, in_doubt, last_said, next_line, with_plan, refusal_in, one_line_on, update_text, value_text};
 ghost use Rattle.clerk_turns.specs.Turns.{PlansAgain, StepComes, StepDown, StepTold, TriesAgain};
 
 use crate::clerk::{Clerk, Job, Sending, Topic};
+use crate::says::say_line;
 use attr_sets::Value;
 use cds_clerk::{Answers, Heard, Root};
 use cds_stamps::{AttrName, DirId, HouseNo, SimpleName};
 use cell_names::FullName;
-use clerk_lines::push_say;
+use clerk_lines::first_word;
 use directory::Update;
 use ns_commands::Updates;
 use script_answers::{push_hex, push_number};
 use std::alloc::{AllocError, Global};
-use tower_codec::split_at_mark;
 
 // So often a plan is worked out.
 const MOST_TRIES: u64 = 8;
@@ -202,16 +200,6 @@ fn fate_of(is_update: bool, last: &[u8]) -> Fate
     }
 }
 
-// The first word of a line.
-fn first_word(line: &[u8]) -> &[u8]
-    ensures { result.now ≡ word_of line.now }
-{
-    match split_at_mark(line, b' ') {
-        Some((word, _)) => word,
-        None => line,
-    }
-}
-
 // Why a house did not do a line, as a client hears it: what it says, if that is a refusal.
 fn refusal_in(last: &[u8]) -> &[u8]
     ensures { result.now ≡ refusal_in last.now }
@@ -276,15 +264,6 @@ pub(crate) fn no_sending(alloc: Global) -> Sending
     }
 }
 
-// Says a line.
-fn say(alloc: Global, command: u64, line: &[u8]) -> Result<Vec<u8>, AllocError>
-    ensures { IfOk result (λ text. text.items ≡ say_text command line.now) }
-{
-    let mut text = Vec::new(alloc);
-    push_say(&mut text, command, line)?;
-    Ok(text)
-}
-
 /// A text with the word `doubt` at the end of its last line, if a line was sent of which nobody
 /// knows whether it was done.
 pub(crate) fn in_doubt(doubt: bool, mut text: Vec<u8>) -> Result<Vec<u8>, AllocError>
@@ -302,7 +281,7 @@ pub(crate) fn in_doubt(doubt: bool, mut text: Vec<u8>) -> Result<Vec<u8>, AllocE
 fn say_last(alloc: Global, job: &Job, line: &[u8]) -> Result<Vec<u8>, AllocError>
     ensures { IfOk result (λ text. text.items ≡ last_said job.now line.now) }
 {
-    let text = say(alloc, job.number, line)?;
+    let text = say_line(alloc, job.number, line)?;
     in_doubt(job.sending.doubt, text)
 }
 
@@ -334,7 +313,7 @@ impl Clerk {
             Some(line) => self.ask(alloc, job, house, &line, Topic::Step(house)),
             None => {
                 let line = counted(alloc, b"ok ", job.sending.done)?;
-                say(alloc, job.number, &line)
+                say_line(alloc, job.number, &line)
             }
         }
     }
@@ -366,7 +345,7 @@ impl Clerk {
             (λ text. StepComes fate self.old job house last.now text.items self.new) }
     {
         match fate {
-            Fate::Done => say(alloc, job.number, last),
+            Fate::Done => say_line(alloc, job.number, last),
             Fate::Refused => say_last(alloc, &job, last),
             Fate::Spent => say_spent(alloc, &job),
             Fate::Again => self.plan_again(alloc, job, refusal_in(last)),

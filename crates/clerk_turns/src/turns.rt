@@ -4,7 +4,8 @@ ghost use Rattle.clerk_lines.specs.ClerkTexts.{show_text};
 ghost use Rattle.cds_base.specs.Counts.{next_count};
 ghost use Rattle.cds_clerk.specs.Heards.{heard_root};
 ghost use Rattle.cell_script.specs.Words.{words_of};
-ghost use Rattle.clerk_turns.specs.Answers.{ArePlanned, AreWanted, IsAnswer};
+ghost use Rattle.inquire_forms.specs.Inquired.{inquired_answer};
+ghost use Rattle.clerk_turns.specs.Answers.{AreNotReached, ArePlanned, AreWanted, IsAnswer};
 ghost use Rattle.clerk_turns.specs.Asking.{Asks, AsksEach, IsWithJob, Puts, PutsEach, name_ask, root_ask};
 ghost use Rattle.clerk_turns.specs.ClerkRows.{command_said};
 ghost use Rattle.clerk_turns.specs.Commands.{is_high};
@@ -22,6 +23,7 @@ use clerk_lines::{
     ClerkLine, ClerkWord, Hearing, RootList, Told, is_last, push_ask, push_show, read_clerk_line,
     read_root,
 };
+use inquire_forms::InquireAnswer;
 use ns_commands::Updates;
 use script_answers::{Answer, ScriptRefusal};
 use std::alloc::{AllocError, Global};
@@ -79,32 +81,11 @@ fn rest_root(alloc: Global, place: &Option<ChildPointer>) -> Result<Root, AllocE
 }
 
 // A command that knows where the root directory is, by the latest list that it heard.
-fn with_root(job: Job) -> Job
+fn with_root(mut job: Job) -> Job
     ensures { result ≡ with_root job }
 {
-    let Job {
-        number,
-        command,
-        heard,
-        latest,
-        sending,
-    } = job;
-    let Heard {
-        near,
-        root: _,
-        answers,
-    } = heard;
-    Job {
-        number,
-        command,
-        heard: Heard {
-            near,
-            root: root_in(latest),
-            answers,
-        },
-        latest: None,
-        sending,
-    }
+    job.heard.root = root_in(job.latest.take());
+    job
 }
 
 // The question what shows of a name.
@@ -131,54 +112,19 @@ fn nothing(alloc: Global) -> Vec<u8>
 }
 
 // A command for which one answer more was heard.
-fn with_answer(job: Job, answer: Answered) -> Result<Job, AllocError>
+fn with_answer(mut job: Job, answer: Answered) -> Result<Job, AllocError>
     ensures { IfOk result (λ j. j ≡ with_answer job answer) }
 {
-    let Job {
-        number,
-        command,
-        heard,
-        latest,
-        sending,
-    } = job;
-    let Heard {
-        near,
-        root,
-        mut answers,
-    } = heard;
-    answers.push(answer)?;
-    let heard = Heard {
-        near,
-        root,
-        answers,
-    };
-    Ok(Job {
-        number,
-        command,
-        heard,
-        latest,
-        sending,
-    })
+    job.heard.answers.push(answer)?;
+    Ok(job)
 }
 
 // A command for which one list more of the root directory was heard, if there is one.
-fn with_list(job: Job, list: Option<RootList>) -> Job
+fn with_list(mut job: Job, list: Option<RootList>) -> Job
     ensures { result ≡ with_list job list }
 {
-    let Job {
-        number,
-        command,
-        heard,
-        latest,
-        sending,
-    } = job;
-    Job {
-        number,
-        command,
-        heard,
-        latest: later_list(latest, list),
-        sending,
-    }
+    job.latest = later_list(job.latest.take(), list);
+    job
 }
 
 // What a house said of a name.
@@ -217,16 +163,19 @@ fn topic_with(alloc: Global, topic: Topic, line: &[u8]) -> Result<Topic, AllocEr
 }
 
 // Whether an answer says that no house of a directory is reached.
-fn is_unreached(answer: &Answer) -> bool
-    ensures { result ≡ is_unreached answer.now }
+fn is_unreached(answer: &InquireAnswer) -> bool
+    ensures { result ≡ is_unreached (inquired_answer answer.now) }
 {
-    matches!(answer, Answer::Refused(ScriptRefusal::Unreachable(_)))
+    matches!(
+        answer,
+        InquireAnswer::Plain(Answer::Refused(ScriptRefusal::Unreachable(_)))
+    )
 }
 
 impl Clerk {
     // Where the root directory is is not known any more, if a directory was not reached.
-    fn forget(&mut self, answer: &Answer)
-        ensures { self.new ≡ after_answer answer.now self.old }
+    fn forget(&mut self, answer: &InquireAnswer)
+        ensures { self.new ≡ after_answer (inquired_answer answer.now) self.old }
     {
         if is_unreached(answer) {
             self.root = None;
@@ -234,12 +183,19 @@ impl Clerk {
     }
 
     // A command has its answer, and ends.
-    fn end(&mut self, alloc: Global, job: Job, answer: Answer) -> Result<Vec<u8>, AllocError>
-        requires { IsAnswer job.heard job.command answer }
+    fn end(
+        &mut self,
+        alloc: Global,
+        job: Job,
+        answer: InquireAnswer,
+        unreached: Vec<DirId>,
+    ) -> Result<Vec<u8>, AllocError>
+        requires answer { IsAnswer job.heard job.command (inquired_answer answer) }
+        requires unreached { AreNotReached job.heard job.command unreached.items }
         ensures { IfOk result (λ text. GoesRooted self.old job text.items self.new) }
     {
         self.forget(&answer);
-        let text = say_answer(alloc, job.number, &answer)?;
+        let text = say_answer(alloc, job.number, &answer, &unreached)?;
         in_doubt(job.sending.doubt, text)
     }
 
@@ -366,7 +322,7 @@ impl Clerk {
         ensures { IfOk result (λ text. GoesRooted self.old job text.items self.new) }
     {
         match outcome(alloc, &job.heard, &job.command)? {
-            Comes::Said(answer) => self.end(alloc, job, answer),
+            Comes::Said(answer, unreached) => self.end(alloc, job, answer, unreached),
             Comes::Updates(updates) => self.begin_plan(alloc, job, updates),
             Comes::Lacks(lacks) => self.ask_names(alloc, job, lacks),
             Comes::LacksRoot => unreachable!(),
@@ -472,7 +428,7 @@ impl Clerk {
         ensures { IfOk result (λ text. Goes self.old job text.items self.new) }
     {
         match outcome(alloc, &job.heard, &job.command)? {
-            Comes::Said(answer) => self.end(alloc, job, answer),
+            Comes::Said(answer, unreached) => self.end(alloc, job, answer, unreached),
             Comes::Updates(updates) => self.begin_plan(alloc, job, updates),
             Comes::Lacks(lacks) => self.ask_names(alloc, job, lacks),
             Comes::LacksRoot => self.ask_root(alloc, job),

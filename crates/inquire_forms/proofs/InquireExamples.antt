@@ -21,7 +21,7 @@ use Rattle.ns_inquire.specs.declared.inquiry.Inquiry.TheVariants as asked
 use Rattle.ns_inquire.specs.declared.version.Version.TheVariants as version
 use Rattle.inquire_forms.specs.declared.inquire_line.InquireLine.{InquireLine}
 use Rattle.inquire_forms.specs.declared.inquire_line.InquireLine.TheVariants as inquire
-use Rattle.inquire_forms.specs.InquireLines.{inquired_by, early_inquired, inquired_in, early_inquire_fault, proflist_said}
+use Rattle.inquire_forms.specs.InquireLines.{elements_said, inquired_by, early_inquired, inquired_in, early_inquire_fault, proflist_said}
 use Rattle.inquire_forms.specs.Inquired.{Batches, Elements, Entries, Members}
 use Rattle.inquire_forms.specs.InquireTexts.{inquire_lines}
 
@@ -44,25 +44,25 @@ entrylist_is = refl
 
 by_interface : says (codes "proflist 1 low /.:/p byif a0000000-0000-0000-0000-000000000001:1.2 upto -")
     ≡ Ok (Some (inquire.Proflist (record { 0 = 1 }) false (codes "p" ∷ []) (asked.ByInterface interface_a version.Upto)))
-unfolding inquired_by proflist_said check_count take_words number_of interface_of cut_at_mark by_index
+unfolding inquired_by proflist_said elements_said check_count take_words number_of interface_of cut_at_mark by_index
 by_interface = refl
 
 by_both : says (codes "proflist 1 low /.:/p byboth a0000000-0000-0000-0000-000000000001:1.2 compatible /.:/m")
     ≡ Ok (Some (inquire.Proflist (record { 0 = 1 }) false (codes "p" ∷ []) (asked.ByBoth interface_a version.Compatible (codes "m" ∷ []))))
-unfolding inquired_by proflist_said check_count take_words number_of interface_of cut_at_mark by_index
+unfolding inquired_by proflist_said elements_said check_count take_words number_of interface_of cut_at_mark by_index
 by_both = refl
 
 -- no interface is asked for by a member, and no member by an interface
 interface_at_fault : says (codes "proflist 1 low /.:/p bymbr a0000000-0000-0000-0000-000000000001:1.2 all /.:/m") ≡ Err (BadWord 6)
-unfolding inquired_by proflist_said check_count take_words number_of
+unfolding inquired_by proflist_said elements_said check_count take_words number_of
 interface_at_fault = refl
 
 version_at_fault : says (codes "proflist 1 low /.:/p all - exact -") ≡ Err (BadWord 7)
-unfolding inquired_by proflist_said check_count take_words number_of
+unfolding inquired_by proflist_said elements_said check_count take_words number_of
 version_at_fault = refl
 
 member_at_fault : says (codes "proflist 1 low /.:/p default - all /.:/m") ≡ Err (BadWord 8)
-unfolding inquired_by proflist_said check_count take_words number_of
+unfolding inquired_by proflist_said elements_said check_count take_words number_of
 member_at_fault = refl
 
 lookup_is : says (codes "lookup 1 high /.:/p a0000000-0000-0000-0000-000000000001:1.2 - ncadg_ip_udp 65535")

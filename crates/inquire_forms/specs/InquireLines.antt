@@ -26,6 +26,10 @@ inquiry_said kind.ByIf = build_words (One interface_of ∷ One version_of ∷ On
 inquiry_said kind.ByMbr = build_words (One none_of ∷ One all_of ∷ One full_name_of ∷ []) (λ i v m. inquiry.ByMember m)
 inquiry_said kind.ByBoth = build_words (One interface_of ∷ One version_of ∷ One full_name_of ∷ []) inquiry.ByBoth
 
+-- which elements are asked for, by four words: their kind, and what follows it
+unfoldable pub elements_said : Words → Result Inquiry ParseFault
+elements_said s = take_words (One kind_of) s >>= λ k. inquiry_said k.0 k.1
+
 -- there are seven words after the first one
 abbrev pub seven : Words → Result (Unit {0}) ParseFault
 seven = check_count false 7
@@ -36,8 +40,7 @@ proflist_said s = seven s >>= λ _. (do
   h ← take_words (One house_of) s
   c ← take_words (One confidence_of) h.1
   n ← take_words (One full_name_of) c.1
-  k ← take_words (One kind_of) n.1
-  i ← inquiry_said k.0 k.1
+  i ← elements_said n.1
   Ok (line.Proflist h.0 c.0 n.0 i))
 
 -- ---- lines

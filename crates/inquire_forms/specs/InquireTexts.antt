@@ -10,6 +10,7 @@ use Rattle.tower_codec.specs.declared.rpc.Interface.{Interface}
 use Rattle.tower_codec.specs.InterfaceTexts.{interface_text}
 use Rattle.ns_profiles.specs.declared.element.Element.{Element}
 use Rattle.ns_inquire.specs.Inquiries.{is_default}
+use Rattle.script_answers.specs.declared.answer.Answer.TheVariants as answer
 use Rattle.script_answers.specs.Texts.{answer_lines, binding_line, import_end, lines_text}
 use Rattle.inquire_forms.specs.Inquired.{Inquired, Plain, Members, Entries, Elements, Batches}
 
@@ -50,15 +51,43 @@ abbrev pub total : List (List StringBinding) → ℕ
 total [] = 0
 total (bs ∷ more) = length bs + total more
 
--- the lines of an answer: what is listed, and last how many there are
+-- the lines of what an answer lists, without the last one, which counts
+abbrev pub listed_lines : Inquired → List (List ℕ)
+listed_lines (Plain (answer.Bindings bindings)) = map binding_line bindings
+listed_lines (Plain other) = []
+listed_lines (Members names) = map member_line names
+listed_lines (Entries interfaces objects) =
+    map interface_line interfaces ++ map object_line objects
+listed_lines (Elements elements) = map element_line elements
+listed_lines (Batches batches) = flat_map batch_lines batches
+
+-- how many an answer lists, all together
+abbrev pub listed_count : Inquired → ℕ
+listed_count (Plain (answer.Bindings bindings)) = length bindings
+listed_count (Plain other) = 0
+listed_count (Members names) = length names
+listed_count (Entries interfaces objects) = length interfaces + length objects
+listed_count (Elements elements) = length elements
+listed_count (Batches batches) = total batches
+
+-- the lines of a list, and last how many there are
+abbrev pub whole_list : Inquired → List (List ℕ)
+whole_list said = listed_lines said ++ import_end (listed_count said) ∷ []
+
+-- the lines of an answer: those of a line of a script, or a list
 abbrev pub inquire_lines : Inquired → List (List ℕ)
 inquire_lines (Plain answer) = answer_lines answer
-inquire_lines (Members names) = map member_line names ++ import_end (length names) ∷ []
-inquire_lines (Entries interfaces objects) =
-    map interface_line interfaces ++ (map object_line objects ++ import_end (length interfaces + length objects) ∷ [])
-inquire_lines (Elements elements) = map element_line elements ++ import_end (length elements) ∷ []
-inquire_lines (Batches batches) = flat_map batch_lines batches ++ import_end (total batches) ∷ []
+inquire_lines listed = whole_list listed
 
 -- the text of the answer to the line of this number
 abbrev pub inquire_text : ℕ → Inquired → List ℕ
 inquire_text number said = lines_text number (inquire_lines said)
+
+-- ---- words of any front
+
+-- a line after a front, and several of them
+abbrev pub line_after : (front said : List ℕ) → List ℕ
+line_after front said = front ++ (said ++ 10 ∷ [])
+
+abbrev pub lines_after : (front : List ℕ) → List (List ℕ) → List ℕ
+lines_after front = flat_map (line_after front)

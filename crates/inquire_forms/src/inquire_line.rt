@@ -8,11 +8,11 @@ ghost use Rattle.cds_stamps.specs.declared.alloc_or.AllocOr.TheVariants.{Fault};
 ghost use Rattle.cell_script.specs.Words.{words_of};
 ghost use Rattle.cell_script.specs.CommandRows.{early_by};
 ghost use Rattle.cell_script.specs.WordForms.{count_fault, read_as};
-ghost use Rattle.inquire_forms.specs.InquireLines.{WantsSome, about_entry, about_bindings, lookup_line, proflist_said, inquiry_said, plain_said, seven, inquired_by, early_inquired, inquired_in, early_inquire_fault};
+ghost use Rattle.inquire_forms.specs.InquireLines.{WantsSome, about_entry, about_bindings, elements_said, lookup_line, proflist_said, inquiry_said, plain_said, seven, inquired_by, early_inquired, inquired_in, early_inquire_fault};
 ghost use Rattle.inquire_forms.specs.PrivateInquireLines.{Says};
 ghost use Rattle.inquire_forms.specs.declared.inquire_line.InquireLine.TheVariants as said;
 
-use crate::inquire_words::{ListKind, all, kind, most, none, version};
+use crate::inquire_words::{ListKind, all, kind, none, read_most, version};
 use cds_stamps::{AllocOr, HouseNo};
 use cell_names::FullName;
 use cell_script::{ParseFault, Parsed, ScriptLine, Words, line_behind};
@@ -91,6 +91,16 @@ fn inquiry(alloc: Global, kind: ListKind, words: &mut Words<'_>) -> Parsed<Inqui
     }
 }
 
+/// Which elements of a profile are asked for, by four words: their kind, an interface, its versions
+/// and a member.
+#[tactic(auto, unfolding(crate::specs::InquireLines::elements_said))]
+pub fn read_inquiry(alloc: Global, words: &mut Words<'_>) -> Parsed<Inquiry>
+    ensures { Answers result (elements_said words.old) }
+{
+    let kind = kind(words)?;
+    inquiry(alloc, kind, words)
+}
+
 fn proflist(alloc: Global, words: &mut Words<'_>) -> Parsed<InquireLine>
     ensures said { Says result (proflist_said words.old) (result_err (seven words.old)) }
     ensures some { IfOk result WantsSome }
@@ -99,8 +109,7 @@ fn proflist(alloc: Global, words: &mut Words<'_>) -> Parsed<InquireLine>
     let house = words.house()?;
     let high = words.confidence()?;
     let name = words.full_name(alloc)?;
-    let kind = kind(words)?;
-    Ok(InquireLine::Proflist(house, high, name, inquiry(alloc, kind, words)?))
+    Ok(InquireLine::Proflist(house, high, name, read_inquiry(alloc, words)?))
 }
 
 fn lookup(alloc: Global, words: &mut Words<'_>) -> Parsed<InquireLine>
@@ -115,7 +124,7 @@ fn lookup(alloc: Global, words: &mut Words<'_>) -> Parsed<InquireLine>
     let interface = words.interface()?;
     let object = words.object()?;
     let (tcp, udp) = words.protocols()?;
-    let most = most(words)?;
+    let most = read_most(words)?;
     Ok(InquireLine::Lookup(house, high, name, interface, object, tcp, udp, most))
 }
 

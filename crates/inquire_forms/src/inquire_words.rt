@@ -99,7 +99,7 @@ pub(crate) fn version(words: &mut Words<'_>) -> Parsed<Version>
 
 /// How many bindings a batch has at most, 1 to 65,535.
 #[tactic(auto, using(crate::proofs::InquireLines::said_some), unfolding(cell_script::specs::WordForms::take_words))]
-pub(crate) fn most(words: &mut Words<'_>) -> Parsed<u16>
+pub fn read_most(words: &mut Words<'_>) -> Parsed<u16>
     ensures said { Takes result words.new (take_words (One most_of) words.old) }
     ensures some { IfOk result (λ most. 1 ≤ most) }
 {

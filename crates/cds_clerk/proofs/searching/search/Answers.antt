@@ -1,4 +1,4 @@
-use Rattle.std.proofs.Common.{◌≡◌, ℕ, true, List, ◌∷◌, sym, subst}
+use Rattle.std.proofs.Common.{◌≡◌, ℕ, true, List, sym, subst}
 use Rattle.std.specs.Prelude.{Some}
 use Rattle.cell_names.specs.ChildPointers.{Pointer}
 use Rattle.resolver.specs.PassWords.{first_walker}

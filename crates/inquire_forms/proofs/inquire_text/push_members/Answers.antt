@@ -4,5 +4,5 @@ use Rattle.inquire_forms.proofs.inquire_text.push_members.Goals as goal
 
 pub loop-member-preserved : goal.loop-member-preserved
 loop-member-preserved c =
-    one_more_line member_line c.args.number c.args.members.now c.loop-member.member-index c.member-item.result c.args.text.now.items c.loop-member.text.items
+    one_more_line member_line c.args.front.now c.args.members.now c.loop-member.member-index c.member-item.result c.args.text.now.items c.loop-member.text.items
     c.push_member.new.text.items c.loop-member-test.true c.member-item.is c.loop-member.invariant c.in_ok-push_member.ensures

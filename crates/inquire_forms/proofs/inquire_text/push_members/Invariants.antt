@@ -1,7 +1,6 @@
 use Rattle.std.proofs.Common.{◌≡◌, ◌++◌, map, take}
-use Rattle.script_answers.specs.Texts.{lines_text}
-use Rattle.inquire_forms.specs.InquireTexts.{member_line}
+use Rattle.inquire_forms.specs.InquireTexts.{member_line, lines_after}
 use Rattle.inquire_forms.proofs.inquire_text.push_members.Given as goal
 
 abbrev pub invariant-loop-member : goal.invariant-loop-member
-invariant-loop-member l = l.text.items ≡ l.fn.text.items ++ lines_text l.number (map member_line (take l.member-index l.members))
+invariant-loop-member l = l.text.items ≡ l.fn.text.items ++ lines_after l.front (map member_line (take l.member-index l.members))

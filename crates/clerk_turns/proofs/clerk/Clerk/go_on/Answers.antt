@@ -2,8 +2,11 @@ use Rattle.std.proofs.Common.{inl, inr}
 use Rattle.resolver.proofs.PassLaws.{if_ok}
 use Rattle.clerk_turns.proofs.clerk.Clerk.go_on.Goals as goal
 
-pub end-requires : goal.end-requires
-end-requires c = rw c.in-Said.is at c.in_ok-answer.ensures
+pub end-requires-clause-answer : goal.end-requires-clause-answer
+end-requires-clause-answer c = (rw c.in-Said.is at c.in_ok-answer.ensures).0
+
+pub end-requires-clause-unreached : goal.end-requires-clause-unreached
+end-requires-clause-unreached c = (rw c.in-Said.is at c.in_ok-answer.ensures).1
 
 pub begin_plan-requires : goal.begin_plan-requires
 begin_plan-requires c = rw c.in-Updates.is at c.in_ok-answer.ensures

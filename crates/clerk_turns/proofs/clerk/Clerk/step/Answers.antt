@@ -3,7 +3,7 @@ use Rattle.std.proofs.Common.{refl}
 use Rattle.clerk_turns.proofs.clerk.Clerk.step.Goals as goal
 
 pub returns-in-Done : goal.returns-in-Done
-returns-in-Done c = rw c.in-Done.is (if_ok c.say.result (λ t is. (is, refl)) c.say.ensures)
+returns-in-Done c = rw c.in-Done.is (if_ok c.say_line.result (λ t is. (is, refl)) c.say_line.ensures)
 
 pub returns-in-Refused : goal.returns-in-Refused
 returns-in-Refused c = rw c.in-Refused.is (if_ok c.say_last.result (λ t is. (is, refl)) c.say_last.ensures)

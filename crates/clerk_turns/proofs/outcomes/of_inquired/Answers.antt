@@ -1,0 +1,10 @@
+use Rattle.clerk_turns.proofs.outcomes.of_inquired.Goals as goal
+
+pub returns-in-Closed : goal.returns-in-Closed
+returns-in-Closed c = λ h cmd none is asks rootless. c.said.ensures h cmd none (rw c.in-Closed.is at is)
+
+pub returns-in-LacksRoot : goal.returns-in-LacksRoot
+returns-in-LacksRoot c = λ h cmd none is asks rootless. rw c.in-LacksRoot.is at rootless
+
+pub returns-in-Lacks : goal.returns-in-Lacks
+returns-in-Lacks c = λ h cmd none is asks rootless. rw c.in-Lacks.is at asks
