@@ -1,7 +1,6 @@
 -- A house of a cell refuses no message that was posted to it before it asks the model.
-use Rattle.std.proofs.Common.{◌≡◌, ℕ, Bool, true, false, List, [], length, refl, sym, ap, subst, ◌∙◌, append-nil, arith}
-use Rattle.std.specs.Prelude.{Option, None, Result, Ok, Err, nat_lt}
-use Rattle.std.proofs.lemmas.Bool.Decides.{nat_tests}
+use Rattle.std.proofs.Common.{◌≡◌, ℕ, true, List, [], length, sym, ap, ◌∙◌, append-nil, arith}
+use Rattle.std.specs.Prelude.{None, Result, Ok, Err}
 use Rattle.cds_stamps.specs.Outcomes.{Answers}
 use Rattle.record_fields.specs.declared.fault.RecordFault.{RecordFault}
 use Rattle.record_fields.specs.Decoding.{IsWhole, decode_by, with_memory}

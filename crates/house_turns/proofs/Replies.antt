@@ -27,9 +27,9 @@ use Rattle.script_answers.specs.declared.answer.ScriptRefusal.TheVariants as why
 use Rattle.house_turns.specs.declared.said.Said.TheVariants.{Told, Turned}
 use Rattle.house_turns.specs.LineOutcomes.{Outcome, Posts, Tells}
 use Rattle.house_turns.specs.HouseReplies.{IsReply, RepliesAsked, RepliesClock, RepliesIf, RepliesMade, RepliesMore, RepliesMoreIf, RepliesOrder, RepliesTake, RepliesTakeIf, RepliesTo, Responds}
-use Rattle.house_turns.specs.HouseReplies.{TellsLines, TellsNone, UnlessRefused, new_clearinghouse, take_line, tells_alone, turn_text, with_spaces}
+use Rattle.house_turns.specs.HouseReplies.{TellsLines, UnlessRefused, new_clearinghouse, take_line, tells_alone, turn_text, with_spaces}
 use Rattle.house_turns.specs.HouseAnswers.{asked_said, early_refusal}
-use Rattle.house_turns.specs.PrivateTurns.{Comes, ComesUnless, Does, Makes, Obeys, ReplyOf, Says, SaysAsked, SaysNone, SetsClock, TurnReply}
+use Rattle.house_turns.specs.PrivateTurns.{ComesUnless, Does, Makes, Obeys, ReplyOf, Says, SaysAsked, SetsClock, TurnReply}
 
 -- ---- replies
 

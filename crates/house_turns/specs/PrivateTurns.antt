@@ -1,5 +1,5 @@
 -- Words of private functions alone: what they come to, by the types that they answer with.
-use Rattle.std.specs.Prelude.{◌≡◌, ◌≢◌, ℕ, ◌+◌, All, false, List, [], ◌∷◌, ◌++◌, map, Option, None, Some, Ok, codes, if◌then◌else◌}
+use Rattle.std.specs.Prelude.{◌≡◌, ◌≢◌, ℕ, ◌+◌, All, false, List, [], ◌∷◌, ◌++◌, map, Option, None, Some, Ok, codes}
 use Rattle.script_answers.specs.Texts.{answer_line, lines_text}
 use Rattle.script_answers.specs.declared.answer.Answer.TheVariants as answer
 use Rattle.script_answers.specs.declared.answer.ScriptRefusal.{ScriptRefusal}
@@ -20,7 +20,6 @@ use Rattle.cds_records.specs.Records as records
 use Rattle.house_directory.specs.declared.epochs.EpochRefusal.{EpochRefusal}
 use Rattle.house_directory.specs.declared.epochs.EpochRefusal.TheVariants as epoch
 use Rattle.house_directory.specs.declared.posted.Posted.{Posted}
-use Rattle.house_directory.specs.declared.taking.Taken.{Taken}
 use Rattle.house_directory.specs.declared.taking.Taken.TheVariants as taken
 use Rattle.house_directory.specs.declared.states.DirState.{DirState}
 use Rattle.house_directory.specs.declared.states.DirState.TheVariants as state
@@ -40,7 +39,6 @@ use Rattle.cds_messages.specs.declared.message.Message.{Message}
 use Rattle.cell_model.specs.Cells as model
 use Rattle.cell_model.specs.Taking.{CanTake}
 use Rattle.cell_model.specs.Turns.{accept, take}
-use Rattle.house_directory.specs.DirectorySteps.{is_taken}
 use Rattle.house_directory.specs.HouseMessages.{StandsMessage}
 use Rattle.clearinghouse.specs.HouseImages.{start_of_octets, with_skulks}
 use Rattle.clearinghouse.specs.LawfulHouses.{IsLawful}

@@ -1,5 +1,5 @@
 // A house between two lines.
-ghost use Rattle.std.specs.Prelude.{◌≡◌, ◌≢◌, ◌+◌, ◌<◌, ◌≤◌, ◌++◌, ◌∷◌, [], length, nat_lt, not, if◌then◌else◌, IfOk, OnOk, None, Some};
+ghost use Rattle.std.specs.Prelude.{◌≡◌, ◌+◌, ◌++◌, [], length, nat_lt, not, if◌then◌else◌, IfOk, OnOk, None, Some};
 ghost use Rattle.std.specs.Option.{option_map};
 ghost use Rattle.cell_script.specs.Words.{words_of};
 ghost use Rattle.script_answers.specs.Texts.{lines_text, parse_fault_text};
@@ -12,7 +12,6 @@ ghost use Rattle.house_turns.specs.HouseReplies.{RepliesMore, RepliesOrder, Repl
 ghost use Rattle.house_turns.specs.Openings.{new_house};
 ghost use Rattle.house_turns.specs.Records.{HomeFits, IsRecord, IsTurnRecord, image_in};
 ghost use Rattle.house_turns.specs.PrivateTurns.{Does, Makes, Obeys, ReplyOf, SaysAsked, SetsClock, TurnReply, posts_in};
-ghost use Rattle.house_turns.specs.PostTexts.{octets_line};
 
 use crate::asking::ask;
 use crate::founding::{mkdir, root};

@@ -1,7 +1,7 @@
 // Lists of houses, as lines name them.
 ghost use Rattle.std.specs.Prelude.{◌≡◌, ◌∷◌, true, false, not, nat_le, is_none, IfOk, MatchOption};
 ghost use Rattle.std.specs.List.{list_all};
-ghost use Rattle.cds_stamps.specs.Members.{is_listed, master_of, members_fault, members_of};
+ghost use Rattle.cds_stamps.specs.Members.{is_listed, members_fault, members_of};
 ghost use Rattle.cell_model.specs.Steps as model;
 ghost use Rattle.house_directory.specs.HouseMessages.{numbers_of};
 ghost use Rattle.house_turns.specs.HouseAnswers.{ascend_from, is_given};

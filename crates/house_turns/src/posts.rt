@@ -1,6 +1,5 @@
 // The text of messages: whole in a record, in pieces in an answer.
-ghost use Rattle.std.specs.Prelude.{◌≡◌, ◌∷◌, [], ◌++◌, codes, OnOk, option_copied};
-ghost use Rattle.std.specs.List.{flat_map};
+ghost use Rattle.std.specs.Prelude.{◌≡◌, ◌++◌, OnOk, option_copied};
 ghost use Rattle.script_answers.specs.Texts.{lines_text};
 ghost use Rattle.house_turns.specs.HouseReplies.{posts_lines, posts_text};
 ghost use Rattle.house_turns.specs.PrivateTurns.{letters_kept, letters_text, posts_in, posts_of_letters};

@@ -1,5 +1,5 @@
 // Messages that a house takes.
-ghost use Rattle.std.specs.Prelude.{◌≡◌, ℕ, ◌+◌, ◌++◌, ◌∷◌, [], codes, decimal, IfOk};
+ghost use Rattle.std.specs.Prelude.{ℕ, ◌+◌, ◌++◌, ◌∷◌, [], codes, decimal, IfOk};
 ghost use Rattle.script_answers.specs.Texts.{stamp_text};
 ghost use Rattle.cds_messages.specs.Validity.{IsValidMessage};
 ghost use Rattle.own_stamps.specs.OwnStamps.{later_own};
