@@ -47,8 +47,8 @@ def house() -> str:
 
 
 def clerk() -> str:
-    """The clerk of bench/. (`cdsclerk` knows no inquiries yet.)"""
-    return compiled("bench/clerk.rs", "out/plain-clerk")
+    """A clerk, which answers the commands of the name service."""
+    return chosen("cdsclerk", "bench/clerk.rs", "out/plain-clerk")
 
 
 def replayer() -> str:

@@ -1,5 +1,6 @@
 """The messages of a cell on their way: a queue for each house, in memory. None is kept over the door's end: a house
-says those of its last turn again at its start, and a skulk brings what the others said."""
+says those of its last turn again at its start, a skulk brings the updates that the others said, and another epoch the
+Joins."""
 from __future__ import annotations
 
 import collections

@@ -9,7 +9,7 @@ from doors import clerks
 from doors.clerks import Clerk
 from doors.lines import LONGEST_OF_HOUSES
 from doors.loops import Loop
-from doors.test_post import Played
+from doors.played import Played
 
 
 class Stream:

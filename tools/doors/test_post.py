@@ -3,32 +3,13 @@ from __future__ import annotations
 
 import collections
 import unittest
-from collections.abc import Callable
 
 from doors import post
-from doors.houses import Answer, House
-from doors.loops import Loop
+from doors.played import Played
 from doors.skulks import Skulks
 from doors.test_lines import MESSAGE
 
 STATE = "ok epoch 1 allupto none skulk none entries 0 members 1:1:m 2:1:r"
-
-
-class Played(House):
-    """A house whose answers are given by a test."""
-
-    def __init__(self, number: int) -> None:
-        super().__init__(Loop(), number, [], lambda text: None)
-        self.is_up = True
-        self.asked: list[tuple[str, Callable[[Answer], None]]] = []
-
-    def ask(self, line: str, hear: Callable[[Answer], None]) -> None:
-        self.asked.append((line, hear))
-
-    def answer(self, *lines: str) -> str:
-        line, hear = self.asked.pop(0)
-        hear(list(lines) or None)
-        return line
 
 
 class PostTest(unittest.TestCase):

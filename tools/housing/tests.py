@@ -12,6 +12,7 @@ from typing import IO, Any, ClassVar
 
 from building.sources import ROOT
 from cds import processes, records
+from cds.programs import plain_clerk
 from housing.programs import Programs
 
 CELL, HOUSES = f"{ROOT}/tools/cell", f"{ROOT}/tools/houses"
@@ -84,9 +85,13 @@ class HouseTest(unittest.TestCase):
         os.makedirs(f"{self.room}/{name}", exist_ok=True)
         return {**os.environ, "LD_PRELOAD": self.kit.disk, "HOUSE_DISK": f"{folder} {self.room}/{name} {words}"}
 
+    def cell(self) -> list[str]:
+        """The words of `tools/cell` over the house that is tried, and the plain clerk."""
+        return [CELL, "--program", self.kit.house, "--clerk", plain_clerk()]
+
     def session(self, folder: str, lines: Sequence[str], *options: str) -> list[str]:
         """What a cell says of lines, line by line."""
-        command = [CELL, folder, "--program", self.kit.house, *options]
+        command = [*self.cell(), folder, *options]
         octets = "".join(f"{line}\n" for line in lines)
         done = subprocess.run(command, input=octets, capture_output=True, text=True, timeout=PATIENCE, check=False)
         self.assertEqual(done.returncode, 0, done)

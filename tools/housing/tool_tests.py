@@ -13,7 +13,7 @@ from cds.processes import take_lines
 from doors.ledger import Ledger
 from housing import explaining, replaying
 from housing.altered import other, other_octets
-from housing.tests import CELL, HOUSES, MADE_UP, TWO, HouseTest
+from housing.tests import HOUSES, MADE_UP, TWO, HouseTest
 
 
 def heed_interrupts() -> None:
@@ -107,7 +107,7 @@ class OfCells(HouseTest):
         assert any(line.startswith(due) for line in said) and said[-1] == "end 0", said
 
     def test_cell_ends_with_an_interrupt(self) -> None:
-        command = [CELL, f"{self.room}/cell", "--program", self.kit.house]
+        command = [*self.cell(), f"{self.room}/cell"]
         cell = subprocess.Popen(
             command, stdin=subprocess.PIPE, stdout=subprocess.PIPE, text=True, bufsize=1, preexec_fn=heed_interrupts
         )

@@ -9,6 +9,7 @@ from __future__ import annotations
 import subprocess
 import tempfile
 from collections.abc import Iterator
+from typing import NamedTuple
 
 from .cell import Replay
 from .facts import Fault, Message, Step
@@ -23,6 +24,19 @@ Owner = int | tuple[str, int, int]
 
 class Broken(Exception):
     """The program ended as it should not, or answers otherwise when it is asked more."""
+
+
+class Asking(NamedTuple):
+    """What is asked: about the steps from `first` to `last` of a replay. The program replayed the lines of a script by
+    these words, and answered so."""
+
+    program: str
+    words: list[str]
+    lines: list[str]
+    answers: list[str]
+    replay: Replay
+    first: int
+    last: int
 
 
 def lines_from(program: str, words: list[str], script: bytes) -> Iterator[bytes]:
@@ -142,10 +156,10 @@ def asked_at(replay: Replay) -> dict[int, list[int]]:
     return found
 
 
-def questions(lines: list[str], replay: Replay, first: int, last: int, is_journal: bool, is_thorough: bool) -> Script:
-    """The script with its questions: about steps from `first` to `last`, and about all houses before them and after
-    them."""
-    script, begins, posted = Script(is_journal), 0, asked_at(replay)
+def questions(asking: Asking, is_thorough: bool) -> Script:
+    """The script with its questions: about its steps, and about all houses before them and after them."""
+    _, words, lines, _, replay, first, last = asking
+    script, begins, posted = Script(words == ["journal"]), 0, asked_at(replay)
     for step in replay.steps[: last + 1]:
         for line in range(begins, step.line):
             if line + 1 == step.line and step.at == first:
@@ -169,23 +183,14 @@ def ask_all(script: Script, replay: Replay, at: int) -> None:
         script.ask_house(at, house)
 
 
-def ask(
-    program: str,
-    words: list[str],
-    lines: list[str],
-    answers: list[str],
-    replay: Replay,
-    first: int,
-    last: int,
-    is_thorough: bool = False,
-) -> Asked:
-    """Asks about the steps from `first` to `last`; `lines` and `answers` are those of the script."""
-    script = questions(lines, replay, first, last, words == ["journal"], is_thorough)
+def ask(asking: Asking, is_thorough: bool = False) -> Asked:
+    """Asks the program all that is asked."""
+    script = questions(asking, is_thorough)
     asked = Asked()
-    for line in lines_from(program, words, script.octets()):
+    for line in lines_from(asking.program, asking.words, script.octets()):
         number, _, said = line.decode("ascii").rstrip("\n").partition(" ")
         asked.take(script.owners[int(number) - 1], said)
-    for at, (one, other) in enumerate(zip([*answers, "nothing"], [*asked.answers, "nothing"]), 1):
+    for at, (one, other) in enumerate(zip([*asking.answers, "nothing"], [*asked.answers, "nothing"]), 1):
         if one != other:
             raise Fault("answers", at, f"`{one[:60]}` is not what the program answers: `{other[:60]}`")
     return asked

@@ -10,6 +10,7 @@ import json
 import os
 
 from . import clerk, packing, states as states_
+from .asking import Asking
 from .cell import Replay
 from .facts import Step
 from .shapes import Undrawable, styles
@@ -56,7 +57,7 @@ def pack(
     lines = script.decode("ascii").split("\n")[:-1]
     said = answers.decode("ascii").split("\n")[:-1]
     begin, end = steps[0].at, steps[-1].at
-    states = states_.read(program, words, lines, said, replay, begin, end, directory)
+    states = states_.read(Asking(program, words, lines, said, replay, begin, end), directory)
     packed = packing.Pack(replay, states, steps, directory).all()
     packed["lines"] = texts(lines, steps)
     packed["form"], packed["isKept"], packed["dir"] = " ".join(words), states.is_kept, directory

@@ -85,20 +85,11 @@ class States:
         return changes
 
 
-def read(
-    program: str,
-    words: list[str],
-    lines: list[str],
-    answers: list[str],
-    replay: Replay,
-    first: int,
-    last: int,
-    directory: int | None,
-) -> States:
+def read(about: asking.Asking, directory: int | None) -> States:
     """The states between two steps, from the answers of the program."""
     for is_thorough in (False, True):
-        asked = asking.ask(program, words, lines, answers, replay, first, last, is_thorough)
-        states = States(replay, asked, first, last, directory)
+        asked = asking.ask(about, is_thorough)
+        states = States(about.replay, asked, about.first, about.last, directory)
         if states.is_whole:
             break
     return states

@@ -34,7 +34,7 @@ class Part:
     kinds: tuple[str, ...] = BOTH
 
 
-REPLAYER, MENDER, HOUSE, EXPLAINER = "cdsreplay", "cdsmend", "cdshouse", "cdsexplain"
+REPLAYER, MENDER, HOUSE, EXPLAINER, CLERK = "cdsreplay", "cdsmend", "cdshouse", "cdsexplain", "cdsclerk"
 # The unproved house whose segments are small.
 SMALL_HOUSE = "cdshouse-small"
 MADE = (*PROGRAMS, SMALL_HOUSE)
@@ -155,18 +155,26 @@ OVER_PROGRAMS = (
         kinds=(UNPROVED,),
     ),
     Part(
+        "clerk",
+        "the clerk by its lines, and by nonsense beside the plain one",
+        ("tools/clerk-tests", "--program", "{cdsclerk}"),
+        (CLERK,),
+        0.2,
+        "rustc",
+    ),
+    Part(
         "scripts",
-        "scripts on live plain houses, and a clerk, against the replay: all cases, and random ones for 10 seconds",
-        ("tools/houses", "10", "--scripts", "--seed", "1"),
-        (),
+        "scripts on live plain houses, and the clerk, against the replay: all cases, and random ones for 10 seconds",
+        ("tools/houses", "10", "--scripts", "--seed", "1", "--clerk", "{cdsclerk}"),
+        (CLERK,),
         1.0,
         "rustc",
     ),
     Part(
         "doors",
         "doors of three machines that are harmed, for 20 seconds",
-        ("tools/door-trial", "20", "--round", "20", "--local", "--house", "{cdshouse}"),
-        (HOUSE,),
+        ("tools/door-trial", "20", "--round", "20", "--local", "--house", "{cdshouse}", "--clerk", "{cdsclerk}"),
+        (HOUSE, CLERK),
         0.5,
         "rustc",
     ),

@@ -20,7 +20,7 @@ sys.dont_write_bytecode = True
 sys.path.insert(0, os.path.dirname(os.path.dirname(os.path.dirname(os.path.realpath(__file__)))))
 from doors import executables
 from doors.trials.clients import INTERFACE
-from cds import programs, tool
+from cds import programs, records, tool
 from cds.processes import ENDS
 
 NAMES = ["/.:", "/.:/a", "/.:/a/b", "/.:/a/b/c", "/.:/b", "/.:/l", "/.:/" + "x" * 254, "/.:" + "/yy" * 340]
@@ -30,6 +30,9 @@ TOWER = (
     "050013000d000000a000000000000000000000000101000200000013000d045d888aeb1cc9119fe808002b10486002000200000001000b02"
     "0000000100070200040101000904000a00000"
 )
+# Interfaces of the elements of profiles, some of one UUID, and the words that say which elements match.
+INTERFACES = [(INTERFACE, major, minor) for major in (1, 2) for minor in (0, 3)] + [(f"b{INTERFACE[1:]}", 1, 0)]
+VERSIONS = ["all", "compatible", "exact", "major_only", "upto", "near"]
 # So many questions a command asks at most, of tables as small as these.
 MOST_QUESTIONS = 20_000
 # A round has so many commands.
@@ -55,10 +58,29 @@ class Nonsense:
             "CDS_Towers": bytes.fromhex(f"{TOWER}{chance.randrange(16):x}"),
             "RPC_Group": chance.choice(NAMES).encode(),
             "RPC_ObjectUUIDs": bytes([chance.randrange(3)] * 16),
-            "RPC_Profile": bytes([chance.randrange(9)]) + chance.randbytes(24) + b"/.:/a",
+            "RPC_Profile": self.element(),
         }
         octets = of_kind.get(attribute, b"A") if chance.random() < 0.9 else chance.randbytes(chance.randrange(1, 40))
         return octets.hex()
+
+    def element(self) -> bytes:
+        """An element of a profile; one of eight is none."""
+        chance, member = self.chance, self.chance.choice(NAMES[:6])
+        if chance.random() < 0.12:
+            return bytes([chance.randrange(9)]) + chance.randbytes(24) + b"/.:/a"
+        priority = chance.randrange(9)
+        interface = chance.choice(INTERFACES) if priority < 8 else None
+        return records.element(priority, interface, member, chance.choice(["", "note"]))
+
+    def selection(self) -> str:
+        """Which elements a `proflist` asks for; some combinations are none."""
+        chance = self.chance
+        kind = chance.choice(["all", "default", "byif", "byif", "bymbr", "byboth", "x"])
+        has_interface = (kind in ("byif", "byboth")) != (chance.random() < 0.05)
+        has_member = (kind in ("bymbr", "byboth")) != (chance.random() < 0.05)
+        interface = records.interface_text(chance.choice(INTERFACES)) if has_interface else "-"
+        version = chance.choice(VERSIONS) if has_interface else "all"
+        return f"{kind} {interface} {version} {chance.choice(NAMES[:6]) if has_member else '-'}"
 
     def show(self) -> list[str]:
         chance = self.chance
@@ -135,14 +157,16 @@ class Nonsense:
         name, other, c = chance.choice(NAMES), chance.choice(NAMES), chance.choice(["low", "high"])
         wanted = f"{INTERFACE}:1.0 - ncacn_ip_tcp"
         asks = [f"read {c} {name} A", f"readlink {c} {name}", f"import {c} {name} {wanted}"]
-        asks += [f"lookup {c} {name} {wanted} 1", f"grouplist {c} {name}", f"entrylist {c} {name}"]
-        asks += [f"proflist {c} {name} all - all -"]
+        most = chance.choice([1, 2, 3, 65535, 0, 65536])
+        asks += [f"lookup {c} {name} {wanted} {most}", f"grouplist {c} {name}", f"entrylist {c} {name}"]
+        asks += [f"proflist {c} {name} {self.selection()}"]
         plans = [f"export {name} {INTERFACE}:1.0 ncacn_ip_tcp:1.2.3.4[5] -", f"unexport {name} {INTERFACE}:1.0 -"]
         plans += [f"groupadd {name} {other}", f"groupdel {name} {other}", f"profdel {name} default {other}"]
         plans += [f"profadd {name} default {other} 8 -"]
         updates = [f"create {name}", f"delete {name}", f"link {name} {other}", f"add {name} A 01", f"clear {name} A"]
         updates += [f"put {name} A 0102", f"remove {name} A 01"]
         others = ["bogus", "read", f"read {c} x A", f"create {name} x", f"read  {c}  {name}  A ", f"add {name} A 0"]
+        others += [f"entrylist {c}", f"grouplist {name} {c}"]
         return chance.choice([*asks, *plans, *updates, *others])
 
 

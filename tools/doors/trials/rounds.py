@@ -14,8 +14,10 @@ from doors.trials.machines import CONSOLE, MACHINES, Machines
 
 Counts = collections.Counter[str]
 SERVERS, USERS = 10, 6
-# So long all doors may take to open, and a cell to settle, in seconds.
-LONGEST_START, LONGEST_SETTLING = 30.0, 60.0
+# So long all doors may take to open, and a cell to settle, in seconds. (Other work may slow them.)
+LONGEST_START, LONGEST_SETTLING = 180.0, 180.0
+# A directory that is not settled gets another epoch after so long, in seconds.
+EPOCH_AFTER = 30.0
 # So long after one harm comes the next one, at least and at most, in seconds; and so long a line is cut.
 PAUSES, CUT = (1.0, 4.0), (2.0, 6.0)
 
@@ -31,8 +33,9 @@ class Round:
         self.machines, self.seconds, self.seed = machines, seconds, seed
         self.chance = random.Random(seed)
         self.counts: Counts = collections.Counter()
-        # The masters of directories 1 and 2, as the console last had them.
+        # The masters of directories 1 and 2, as the console last had them, and their other members.
         self.masters = {1: 1, 2: 1}
+        self.others = {1: "2 s3", 2: "2 3"}
 
     def ask(self, machine: int, line: str) -> list[str]:
         return self.machines.client(machine).ask(line)
@@ -115,31 +118,40 @@ class Round:
         skulk no more.)"""
         directory = self.chance.choice([1, 2])
         master = self.chance.choice([machine for machine in MACHINES if machine != self.masters[directory]])
-        others = [f"{self.chance.choice(['', '', 's'])}{machine}" for machine in MACHINES if machine != master]
-        told = self.ask(CONSOLE, f"epoch {directory} {master} {' '.join(others)}")
+        kinds = [f"{self.chance.choice(['', '', 's'])}{machine}" for machine in MACHINES if machine != master]
+        others = " ".join(kinds)
+        told = self.ask(CONSOLE, f"epoch {directory} {master} {others}")
         self.counts[f"masters moved, {' '.join(told[-1].split(' ')[:1])}"] += 1
         if told[-1].startswith("ok"):
-            self.masters[directory] = master
+            self.masters[directory], self.others[directory] = master, others
 
     # ---- the end
 
     def settle(self) -> None:
         """Nothing harms it any more: after skulks the replicas of each directory are equal."""
-        until = time.monotonic() + LONGEST_SETTLING
-        while not self.is_settled():
-            if time.monotonic() > until:
+        began = renewed = time.monotonic()
+        while unsettled := [directory for directory in self.masters if not self.is_settled(directory)]:
+            now = time.monotonic()
+            if now > began + LONGEST_SETTLING:
                 states = [self.ask(machine, "status") for machine in MACHINES]
                 raise NotSettled(f"the replicas differ after {LONGEST_SETTLING:.0f} seconds: {states}")
+            if now > renewed + EPOCH_AFTER:
+                renewed = now
+                for directory in unsettled:
+                    self.renew(directory)
             for machine in MACHINES:
                 self.ask(machine, "skulk")
             time.sleep(1)
 
-    def is_settled(self) -> bool:
-        for directory in self.masters:
-            dumps = {tuple(self.ask(machine, f"@{machine} dump {directory}")) for machine in MACHINES}
-            if len(dumps) != 1 or dumps.pop()[-1] != "end":
-                return False
-        return True
+    def is_settled(self, directory: int) -> bool:
+        dumps = {tuple(self.ask(machine, f"@{machine} dump {directory}")) for machine in MACHINES}
+        return len(dumps) == 1 and dumps.pop()[-1] == "end"
+
+    def renew(self, directory: int) -> None:
+        """Gives a directory another epoch, as an operator does: a door that was killed may have lost a Join, and the
+        house that it was for takes no message of the later epoch."""
+        told = self.ask(CONSOLE, f"epoch {directory} {self.masters[directory]} {self.others[directory]}")
+        self.counts[f"epochs given again, {told[-1].split(' ')[0]}"] += 1
 
 
 def tried(folder: str, machines: Machines, seconds: float, seed: int, plain: str) -> tuple[Counts, list[str]]:
