@@ -1,29 +1,9 @@
 //! A clerk in plain Rust: `clerk NEAR HOUSE..`. It answers the commands of the name service by asking houses, several at a time. It has no
 //! connection: it reads `do K COMMAND`, `hear Q LINE` and `down Q`, and writes `ask Q K HOUSE LINE` and `say K LINE`. Whoever runs it carries
 //! the lines (docs/LIVE.md).
-#![allow(dead_code)]
 
-#[path = "plain/answers.rs"]
-mod answers;
-#[path = "plain/cell.rs"]
-mod cell;
-#[path = "plain/house.rs"]
-mod house;
-#[path = "plain/inquiries.rs"]
-mod inquiries;
-#[path = "plain/names.rs"]
-mod names;
-#[path = "plain/records.rs"]
-mod records;
-#[path = "plain/rpc.rs"]
-mod rpc;
-#[path = "plain/script.rs"]
-mod script;
-#[path = "plain/service.rs"]
-mod service;
-#[path = "plain/tables.rs"]
-mod tables;
-
+#[path = "plain/parts.rs"]
+mod parts;
 #[path = "clerk/answered.rs"]
 mod answered;
 #[path = "clerk/commands.rs"]
@@ -36,31 +16,7 @@ mod jobs;
 use std::io::{self, BufRead, BufReader, BufWriter, Write};
 use std::process::ExitCode;
 
-use script::{Fault, Words};
-
-/// Why a line of a script is not answered.
-pub enum Stop {
-    Faulty(Fault),
-    Failed(io::Error),
-}
-
-impl From<Fault> for Stop {
-    fn from(fault: Fault) -> Stop {
-        Stop::Faulty(fault)
-    }
-}
-
-impl From<io::Error> for Stop {
-    fn from(error: io::Error) -> Stop {
-        Stop::Failed(error)
-    }
-}
-
-/// What answers a script line by line.
-pub trait Replay {
-    /// Adds the answer to the words of a line.
-    fn answer_line(&mut self, text: &mut Vec<u8>, number: u32, words: Words) -> Result<(), Stop>;
-}
+use parts::{Replay, Stop, answers, cell, house, inquiries, names, records, rpc, script, service, tables};
 
 fn main() -> ExitCode {
     let houses: Option<Vec<u8>> = std::env::args().skip(1).map(|word| script::house(word.as_bytes())).collect();

@@ -2,38 +2,20 @@
 //! there is no memory.
 #![allow(dead_code)]
 
-#[path = "plain/answers.rs"]
-mod answers;
-#[path = "plain/cell.rs"]
-mod cell;
+#[path = "plain/parts.rs"]
+mod parts;
 #[path = "plain/explaining.rs"]
 mod explaining;
-#[path = "plain/house.rs"]
-mod house;
 #[path = "plain/house_lines.rs"]
 mod house_lines;
 #[path = "plain/house_segments.rs"]
 mod house_segments;
 #[path = "plain/house_turns.rs"]
 mod house_turns;
-#[path = "plain/inquiries.rs"]
-mod inquiries;
 #[path = "plain/logs.rs"]
 mod logs;
-#[path = "plain/names.rs"]
-mod names;
-#[path = "plain/records.rs"]
-mod records;
-#[path = "plain/rpc.rs"]
-mod rpc;
-#[path = "plain/script.rs"]
-mod script;
-#[path = "plain/service.rs"]
-mod service;
 #[path = "plain/sha256.rs"]
 mod sha256;
-#[path = "plain/tables.rs"]
-mod tables;
 
 use std::io::{self, Write};
 use std::path::Path;
@@ -41,31 +23,7 @@ use std::process::ExitCode;
 
 use explaining::{Explainer, Stuck};
 use logs::Found;
-use script::{Fault, Words};
-
-/// Why a line of a script is not answered.
-pub enum Stop {
-    Faulty(Fault),
-    Failed(io::Error),
-}
-
-/// What answers a script line by line.
-pub trait Replay {
-    /// Adds the answer to the words of a line.
-    fn answer_line(&mut self, text: &mut Vec<u8>, number: u32, words: Words) -> Result<(), Stop>;
-}
-
-impl From<Fault> for Stop {
-    fn from(fault: Fault) -> Stop {
-        Stop::Faulty(fault)
-    }
-}
-
-impl From<io::Error> for Stop {
-    fn from(error: io::Error) -> Stop {
-        Stop::Failed(error)
-    }
-}
+use parts::{Replay, Stop, answers, cell, house, inquiries, names, records, rpc, script, service, tables};
 
 const WHOLE: u8 = 0;
 const USAGE: u8 = 2;

@@ -129,6 +129,12 @@ def pseudorandom(seed: int) -> Iterator[int]:
         yield seed >> 20
 
 
+def changed(house: int, chance: int) -> str:
+    """A change at a house, by a number: of one of 16 entries, a value that comes, or one that goes."""
+    command = "add" if chance & 3 else "remove"
+    return f"{command} {house} 1 entry-{chance >> 2 & 15:02} Attribute 0000{chance >> 6 & 7:02x}ff\n"
+
+
 def replicate(count: int) -> Iterator[str]:
     """The root directory comes to all houses, by the first messages of the cell."""
     others = range(2, count + 1)
@@ -153,9 +159,7 @@ def bag(count: int) -> Iterator[str]:
     serial = 3
     random = pseudorandom(count)
     for _ in range(count):
-        x = next(random)
-        command = "add" if x & 3 else "remove"
-        yield f"{command} 1 1 entry-{x >> 2 & 15:02} Attribute 0000{x >> 6 & 7:02x}ff\n"
+        yield changed(1, next(random))
         yield from delivered(range(serial, serial + 2), 2)
         serial += 2
     for house in 1, 2, 3:
@@ -171,9 +175,7 @@ def two_masters(count: int) -> Iterator[str]:
     serial = 3
     random = pseudorandom(count)
     for at in range(count):
-        x = next(random)
-        command = "add" if x & 3 else "remove"
-        yield f"{command} {at % 3 + 1} 1 entry-{x >> 2 & 15:02} Attribute 0000{x >> 6 & 7:02x}ff\n"
+        yield changed(at % 3 + 1, next(random))
         yield from delivered(range(serial, serial + 2), 1)
         serial += 2
         if at % 1_000 == 999:

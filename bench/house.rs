@@ -3,34 +3,16 @@
 //! begins with, a segment is changed for the next one.
 #![allow(dead_code)]
 
-#[path = "plain/answers.rs"]
-mod answers;
-#[path = "plain/cell.rs"]
-mod cell;
-#[path = "plain/house.rs"]
-mod house;
+#[path = "plain/parts.rs"]
+mod parts;
 #[path = "plain/house_lines.rs"]
 mod house_lines;
 #[path = "plain/house_segments.rs"]
 mod house_segments;
 #[path = "plain/house_turns.rs"]
 mod house_turns;
-#[path = "plain/inquiries.rs"]
-mod inquiries;
-#[path = "plain/names.rs"]
-mod names;
-#[path = "plain/records.rs"]
-mod records;
-#[path = "plain/rpc.rs"]
-mod rpc;
-#[path = "plain/script.rs"]
-mod script;
-#[path = "plain/service.rs"]
-mod service;
 #[path = "plain/sha256.rs"]
 mod sha256;
-#[path = "plain/tables.rs"]
-mod tables;
 
 use std::io::{self, BufRead, BufReader, Read, Write};
 use std::path::Path;
@@ -38,35 +20,12 @@ use std::process::ExitCode;
 
 use house_segments::{Folder, NotOpened, NotPut, Segment};
 use house_turns::{Home, line_in, tell};
-use script::{Fault, MOST_LINES, Words};
+use parts::{Replay, Stop, answers, cell, house, inquiries, names, records, rpc, script, service, tables};
+use script::{Fault, MOST_LINES};
 
 /// After how many octets, and how many times those that it begins with, a segment is changed for the next one.
 const LARGE: u64 = 4_194_304;
 const TIMES: u64 = 3;
-
-/// Why a line of a script is not answered.
-pub enum Stop {
-    Faulty(Fault),
-    Failed(io::Error),
-}
-
-/// What answers a script line by line.
-pub trait Replay {
-    /// Adds the answer to the words of a line.
-    fn answer_line(&mut self, text: &mut Vec<u8>, number: u32, words: Words) -> Result<(), Stop>;
-}
-
-impl From<Fault> for Stop {
-    fn from(fault: Fault) -> Stop {
-        Stop::Faulty(fault)
-    }
-}
-
-impl From<io::Error> for Stop {
-    fn from(error: io::Error) -> Stop {
-        Stop::Failed(error)
-    }
-}
 
 /// How a house ends, by its status.
 enum Ending {

@@ -1,7 +1,7 @@
 #!/usr/bin/env python3
 """Measures programs over inputs of generate.py:
 
-    measure.py [--runs K] [--divide D] [--instructions E | --growth] [--kinds KIND,KIND] NAME=PROGRAM [NAME=PROGRAM ..]
+    measure.py [--runs K] [--divide D] [--instructions E] [--growth] [--kinds KIND,KIND] NAME=PROGRAM [NAME=PROGRAM ..]
 
 Each PROGRAM is run as `PROGRAM FORM`, with the input on its standard input, K times (3); one run at a time. The form is
 `run`, or that of the kind, as `towers`; of `loads` it is `load N`, which reads nothing; of `mends` it is `1` for a
@@ -17,11 +17,17 @@ so the inputs are E times smaller for it (20, say). At the end a table has the r
 With --growth each kind is measured at an eighth, a quarter, a half and the whole of its size. A line of a table has the
 processor times and the peaks of memory of a program at these four sizes, and how many times as long the last one takes
 as the third: 2 where time grows as the input does, and 4 where it grows as its square.
+
+With both, instructions are counted at these four sizes, each E times smaller. A line of the table has how many times as
+many a program takes at each size as at the one before, for the first program and the last, and the ratios of the first
+to the last at the four sizes. It says `faster` where the first program grows faster: where the instructions that the
+last doubling adds, the first program's to the last one's, are more than a tenth above those of the doubling before.
 """
 
 from __future__ import annotations
 
 import filecmp
+import itertools
 import os
 import re
 import resource
@@ -181,6 +187,43 @@ def grow(kind: str, size: int, programs: list[tuple[str, str]], runs: int, folde
     return well
 
 
+def steps(counts: list[int]) -> list[float]:
+    """How many times as many there are at each size as at the one before."""
+    return [after / before for before, after in itertools.pairwise(counts)]
+
+
+def grows_faster(first: list[int], last: list[int]) -> bool:
+    """Whether the instructions that the last doubling of the size adds, the first program's to the last one's, are more
+    than a tenth above those of the doubling before."""
+    of_first, of_last = ((it[3] - it[2]) / max(it[2] - it[1], 1) for it in (first, last))
+    return of_first > of_last * 1.1
+
+
+def growth_row(kind: str, size: int, counts: list[list[int]]) -> str:
+    """The line of a kind, by each program's instructions at the four sizes."""
+    first, last = counts[0], counts[-1]
+    of_first, of_last = (", ".join(f"{it:.2f}" for it in steps(each)) for each in (first, last))
+    ratios = ", ".join(f"{a / b:.2f}" for a, b in zip(first, last))
+    mark = " faster" if grows_faster(first, last) else ""
+    return f"| `{kind}` | {size:,} | {of_first} | {of_last} | {ratios} |{mark}"
+
+
+def count_growth(kinds: list[str], divide: int, programs: list[tuple[str, str]]) -> None:
+    """Prints the table of how instructions grow, of all kinds that have a size."""
+    first, last = programs[0][0], programs[-1][0]
+    print(f"| kind | N | {first}: N/4, N/2, N to the one before | {last} | {first} to {last} |\n|---|---|---|---|---|")
+    sizes = {kind: SIZES[kind] // divide for kind in kinds}
+    with tempfile.TemporaryDirectory() as folder:
+        for kind, size in sizes.items():
+            if size >= 8:
+                counts: list[list[int]] = [[] for _ in programs]
+                for it in (size // 8, size // 4, size // 2, size):
+                    script, _ = generated(kind, it, folder)
+                    for place, (_, program) in enumerate(programs):
+                        counts[place].append(instructions(program, form_of(kind, it, program), script))
+                print(growth_row(kind, size, counts), flush=True)
+
+
 def grow_all(kinds: list[str], divide: int, programs: list[tuple[str, str]], runs: int) -> bool:
     """Prints the table of all kinds that have a size, and returns whether all runs ended well."""
     print(
@@ -206,6 +249,9 @@ def main() -> None:
         if not mark:
             name, path = os.path.basename(word), word
         programs.append((name, os.path.abspath(path)))
+    if args.growth and args.instructions:
+        count_growth(args.kinds.split(","), args.divide * args.instructions, programs)
+        return
     if args.growth:
         sys.exit(0 if grow_all(args.kinds.split(","), args.divide, programs, args.runs) else 1)
     print(

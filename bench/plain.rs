@@ -1,38 +1,20 @@
 //! The work of the forms of `cdsreplay` in plain Rust: what a proved program is to be compared with. It aborts where there is no
 //! memory.
 
-#[path = "plain/answers.rs"]
-mod answers;
+#[path = "plain/parts.rs"]
+mod parts;
 #[path = "plain/audit.rs"]
 mod audit;
-#[path = "plain/cell.rs"]
-mod cell;
 #[path = "plain/clerk.rs"]
 mod clerk;
 #[path = "plain/disk.rs"]
 mod disk;
-#[path = "plain/house.rs"]
-mod house;
-#[path = "plain/inquiries.rs"]
-mod inquiries;
 #[path = "plain/journal.rs"]
 mod journal;
 #[path = "plain/load.rs"]
 mod load;
 #[path = "plain/mend.rs"]
 mod mend;
-#[path = "plain/names.rs"]
-mod names;
-#[path = "plain/records.rs"]
-mod records;
-#[path = "plain/rpc.rs"]
-mod rpc;
-#[path = "plain/script.rs"]
-mod script;
-#[path = "plain/service.rs"]
-mod service;
-#[path = "plain/tables.rs"]
-mod tables;
 #[path = "plain/towers.rs"]
 mod towers;
 
@@ -44,6 +26,7 @@ use cell::Cell;
 use clerk::Clerked;
 use inquiries::Inquired;
 use journal::Journals;
+use parts::{Replay, Stop, answers, cell, house, inquiries, names, records, rpc, script, service, tables};
 use script::{Fault, Words, command, each_line};
 
 /// How many octets of answers wait at most.
@@ -61,31 +44,6 @@ pub enum Ending {
     Whole,
     Faulty,
     JournalFull,
-}
-
-/// Why a line is not answered.
-pub enum Stop {
-    Faulty(Fault),
-    JournalFull,
-    Failed(io::Error),
-}
-
-impl From<Fault> for Stop {
-    fn from(fault: Fault) -> Stop {
-        Stop::Faulty(fault)
-    }
-}
-
-impl From<io::Error> for Stop {
-    fn from(error: io::Error) -> Stop {
-        Stop::Failed(error)
-    }
-}
-
-/// What answers a script line by line.
-pub trait Replay {
-    /// Adds the answer to the words of a line.
-    fn answer_line(&mut self, text: &mut Vec<u8>, number: u32, words: Words) -> Result<(), Stop>;
 }
 
 impl Replay for Cell {

@@ -55,5 +55,17 @@ class Inputs(unittest.TestCase):
             self.assertEqual([line[0] for line in words[-3:]], [command] * 3, kind)
 
 
+class Growth(unittest.TestCase):
+    def test_that_a_line_has_each_step_and_the_ratios(self) -> None:
+        row = measure.growth_row("fanned", 8, [[10, 20, 40, 80], [20, 40, 80, 160]])
+        self.assertEqual(row, "| `fanned` | 8 | 2.00, 2.00, 2.00 | 2.00, 2.00, 2.00 | 0.50, 0.50, 0.50, 0.50 |")
+
+    def test_that_a_start_does_not_hide_which_program_grows_faster(self) -> None:
+        even, square = [1_010, 1_020, 1_040, 1_080], [1_001, 1_004, 1_016, 1_064]
+        self.assertTrue(measure.grows_faster(square, even))
+        self.assertFalse(measure.grows_faster(even, square))
+        self.assertTrue(measure.growth_row("fanned", 8, [square, even]).endswith("| faster"))
+
+
 if __name__ == "__main__":
     unittest.main()

@@ -56,7 +56,7 @@ fn listed(epoch: &[u8], members: &[&[u8]]) -> Option<(u64, Pointer<'static>)> {
             others.push(house);
         }
     }
-    Some((script::number(epoch)?, pointer(1, master?, &others)?))
+    Some((script::serial(epoch)?, pointer(1, master?, &others)?))
 }
 
 /// A directory and its houses, if these are houses of one.

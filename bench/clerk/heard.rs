@@ -5,9 +5,7 @@ use std::collections::{BTreeSet, HashMap, HashSet};
 
 use crate::cell::Names;
 use crate::house::Refusal::{self, At, Because};
-use crate::names;
-use crate::rpc::{Binding, Element, NIL, Uuid, Wanted};
-use crate::service::{GROUP, OBJECTS, PROFILE, TOWERS};
+use crate::rpc::{Binding, Wanted};
 use crate::tables::{Entry, Kind, Pointer};
 
 /// What one house is asked: a name of a directory.
@@ -206,29 +204,11 @@ struct Search<'a> {
 }
 
 impl<'a> Search<'a> {
-    /// Searches an object, unless it was searched: it goes on at the members of its group first, and then at those of its profile.
+    /// Searches an object, unless it was searched.
     fn enter(&mut self, object: Found<'a>) {
-        if !self.searched.insert((object.dir, object.name)) {
-            return;
-        }
-        self.bind(object.entry);
-        let members = object.entry.values(GROUP).filter(|value| names::is_full(value));
-        // The octets of elements begin with their priorities.
-        let elements = object.entry.values(PROFILE).filter_map(Element::read);
-        let serving = elements.filter(|element| element.serves(&self.wanted.interface)).map(|element| element.member);
-        self.names.extend(members.chain(serving).rev());
-    }
-
-    /// Finds the bindings of an object's own, for the wanted object UUID, or else for the least that it has.
-    fn bind(&mut self, entry: &Entry) {
-        let mut objects = entry.values(OBJECTS).filter_map(|value| Uuid::try_from(value).ok());
-        let object = match self.wanted.object {
-            NIL => Some(objects.next().unwrap_or(NIL)),
-            wanted => objects.find(|object| *object == wanted),
-        };
-        if let Some(object) = object {
-            let addresses = entry.values(TOWERS).filter_map(|value| self.wanted.address_in(value));
-            self.found.all.extend(addresses.map(|address| Binding { object, address }));
+        if self.searched.insert((object.dir, object.name)) {
+            self.found.all.extend(self.wanted.bindings_in(object.entry));
+            self.names.extend(self.wanted.members_in(object.entry).rev());
         }
     }
 }
