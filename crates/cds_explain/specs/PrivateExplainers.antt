@@ -1,5 +1,5 @@
 -- What an explainer has done of journals.
-use Rattle.std.specs.Prelude.{◌≡◌, ◌≢◌, ◌⊎◌, ℕ, ◌+◌, ◌≤◌, ◌<◌, List, [], ◌++◌, length, Some, slice_get, slice_index, take}
+use Rattle.std.specs.Prelude.{◌≡◌, ◌≢◌, ◌⊎◌, ℕ, ◌+◌, ◌≤◌, ◌<◌, List, [], ◌++◌, length, Option, None, Some, slice_get, slice_index, take}
 use Rattle.cell_model.specs.Commands.{Clock, Command}
 use Rattle.cell_model.specs.Sets.{In}
 use Rattle.cell_model.specs.Steps.{replay}
@@ -54,6 +54,19 @@ IsTimed cs x time r = (HasDone r cs × (clock_after cs x ≡ time)) ⊎ DoesQuie
 pub record SameBut (place : ℕ) (old new : List ℕ) : Type 0 where
   pub count : length new ≡ length old
   pub others : (i : ℕ) → i ≢ place → slice_index new i ≡ slice_index old i
+
+-- no entry is noted as done, and no clock is another but that of the journal at this place
+abbrev pub KeepsOthers : (place : ℕ) → (old new : Explainer) → Type 0
+KeepsOthers place old new =
+    (new.done ≡ old.done) × SameBut place old.clocks.items new.clocks.items
+
+-- the house x, whose journal is at this place, did these entries; or they cannot be next, and
+-- nothing changed
+abbrev pub GoesOnUnless : List Command → (x : ℕ) → List LogEntry → (place : ℕ)
+    → (old new : Explainer) → Option Cause → Type 0
+GoesOnUnless cs x ls place old new None =
+    GoesOn cs x ls (slice_index new.clocks.items place) new.replay
+GoesOnUnless cs x ls place old new (Some cause) = new ≡ old
 
 -- ---- journals
 

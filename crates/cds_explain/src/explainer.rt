@@ -99,12 +99,12 @@ impl Going {
 }
 
 impl Explainer {
-    ghost use Rattle.std.specs.Prelude.{◌≡◌, ◌≢◌, ◌≤◌, ◌<◌, ◌∷◌, [], List, ℕ, false, None, IfOk, IfSome, MatchOption, OnOk, length, slice_index};
+    ghost use Rattle.std.specs.Prelude.{◌≡◌, ◌≢◌, ◌≤◌, ◌<◌, ◌∷◌, [], List, ℕ, false, None, IfOk, IfSome, OnOk, length, slice_index};
     ghost use Rattle.cell_model.specs.Commands.{Command};
     ghost use Rattle.cell_model.specs.Sets.{In};
     ghost use Rattle.house_logs.specs.declared.log.LogEntry.TheVariants.{Started, Turned};
     ghost use Rattle.cds_explain.specs.Explained.{Explains, ExplainsUpTo};
-    ghost use Rattle.cds_explain.specs.PrivateExplainers.{GoesOn, HasBegun, HasExplained, IsAllDone, IsNextAt, IsTimed, SameBut, Stops, clock_after};
+    ghost use Rattle.cds_explain.specs.PrivateExplainers.{GoesOn, GoesOnUnless, HasBegun, HasExplained, IsAllDone, IsNextAt, IsTimed, KeepsOthers, SameBut, Stops, clock_after};
     ghost use Rattle.cds_explain.specs.PrivateReplays.{HasDone, IfFault};
 
     /// Of no entry.
@@ -245,15 +245,12 @@ impl Explainer {
         requires { place < length self.old.clocks.items }
         ensures taken { (cs : List Command) → HasDone self.old.replay cs
             → clock_after cs log.now.house.0 ≡ slice_index self.old.clocks.items place
-            → IfOk result (λ o. MatchOption o
-            (GoesOn cs log.now.house.0 (entry.now ∷ [])
-            (slice_index self.new.clocks.items place) self.new.replay)
-            (λ cause. self.new ≡ self.old)) }
+            → IfOk result
+            (GoesOnUnless cs log.now.house.0 (entry.now ∷ []) place self.old self.new) }
         ensures stopped { (cs : List Command) → HasDone self.old.replay cs
             → clock_after cs log.now.house.0 ≡ slice_index self.old.clocks.items place
             → IfFault result (λ cause. Stops cs self.new.replay.text.items) }
-        ensures done { self.new.done ≡ self.old.done }
-        ensures others { SameBut place self.old.clocks.items self.new.clocks.items }
+        ensures rest { KeepsOthers place self.old self.new }
     {
         match entry {
             LogEntry::Started(image) => {
@@ -278,8 +275,7 @@ impl Explainer {
             → OnOk result (IsTimed cs log.now.house.0 time self.new.replay) }
         ensures clock { OnOk result (slice_index self.new.clocks.items place ≡ time) }
         ensures kept { IfFault result (λ cause. self.new.replay.text ≡ self.old.replay.text) }
-        ensures done { self.new.done ≡ self.old.done }
-        ensures others { SameBut place self.old.clocks.items self.new.clocks.items }
+        ensures rest { KeepsOthers place self.old self.new }
     {
         if self.clocks[place] == time {
             return Ok(());
@@ -305,8 +301,7 @@ impl Explainer {
         ensures stopped { (cs : List Command) → HasDone self.old.replay cs
             → clock_after cs log.now.house.0 ≡ slice_index self.old.clocks.items place
             → IfFault result (λ cause. Stops cs self.new.replay.text.items) }
-        ensures done { self.new.done ≡ self.old.done }
-        ensures others { SameBut place self.old.clocks.items self.new.clocks.items }
+        ensures rest { KeepsOthers place self.old self.new }
     {
         self.replay.crash(alloc, log.house)?;
         self.set_clock(alloc, log, place, 0)?;
@@ -325,15 +320,12 @@ impl Explainer {
         requires { place < length self.old.clocks.items }
         ensures taken { (cs : List Command) → HasDone self.old.replay cs
             → clock_after cs log.now.house.0 ≡ slice_index self.old.clocks.items place
-            → IfOk result (λ o. MatchOption o
-            (GoesOn cs log.now.house.0 (Turned turn.now ∷ [])
-            (slice_index self.new.clocks.items place) self.new.replay)
-            (λ cause. self.new ≡ self.old)) }
+            → IfOk result
+            (GoesOnUnless cs log.now.house.0 (Turned turn.now ∷ []) place self.old self.new) }
         ensures stopped { (cs : List Command) → HasDone self.old.replay cs
             → clock_after cs log.now.house.0 ≡ slice_index self.old.clocks.items place
             → IfFault result (λ cause. Stops cs self.new.replay.text.items) }
-        ensures done { self.new.done ≡ self.old.done }
-        ensures others { SameBut place self.old.clocks.items self.new.clocks.items }
+        ensures rest { KeepsOthers place self.old self.new }
     {
         let serial = match self.replay.ready(log.house, &turn.order) {
             Ok(serial) => serial,

@@ -81,33 +81,7 @@ pub(crate) fn make_houses(
     Ok(())
 }
 
-// Makes these houses, of nodes that no journal has.
-fn make_each(
-    alloc: Global,
-    logs: &[HouseLog],
-    houses: &[HouseNo],
-    replay: &mut Replay,
-) -> Result<(), AllocOr<Reason>>
-    ensures done { (places : List ℕ) → HasMade replay.old logs.now places
-        → OnOk result (HasMade replay.new logs.now places) }
-    ensures entry { IfFault result (λ reason. reason.entry ≡ 1) }
-    ensures stopped { (places : List ℕ) → HasMade replay.old logs.now places
-        → IfFault result (λ reason. MakesOnly replay.new.text.items) }
-{
-    let mut least = 1;
-    for house in houses {
-        let Some(node) = free_node(logs, least) else {
-            return Err(AllocOr::OutOfMemory);
-        };
-        least = node.number().saturating_add(1);
-        if let Err(fault) = replay.make(alloc, *house, node) {
-            return Err(at_making(*house, fault));
-        }
-    }
-    Ok(())
-}
-
-/// Makes the houses that have no journal, and that entries name.
+/// Makes the houses that have no journal, and that entries name: of nodes that no journal has.
 pub(crate) fn make_others(
     alloc: Global,
     logs: &[HouseLog],
@@ -120,5 +94,15 @@ pub(crate) fn make_others(
         → IfFault result (λ reason. MakesOnly replay.new.text.items) }
 {
     let houses = other_houses(alloc, logs)?;
-    make_each(alloc, logs, &houses, replay)
+    let mut least = 1;
+    for house in &houses {
+        let Some(node) = free_node(logs, least) else {
+            return Err(AllocOr::OutOfMemory);
+        };
+        least = node.number().saturating_add(1);
+        if let Err(fault) = replay.make(alloc, *house, node) {
+            return Err(at_making(*house, fault));
+        }
+    }
+    Ok(())
 }

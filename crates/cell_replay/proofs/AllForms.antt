@@ -6,7 +6,7 @@ use Rattle.line_forms.specs.Demand.{Demand, Faulty, LineRule, line_demand, ends_
 use Rattle.line_forms.specs.Readings.{Reading, by_lines}
 use Rattle.cds_base.specs.RunEnds.{IsFront}
 use Rattle.line_forms.proofs.Staying.{demanded_body, demanded_fault}
-use Rattle.script_replay.specs.LineRules.{dialogue_rule}
+use Rattle.line_forms.specs.LineRules.{dialogue_rule}
 use Rattle.script_replay.specs.Loading.{load_text}
 use Rattle.script_replay.specs.Replies.{run_dialogue}
 use Rattle.clerk_replay.specs.Clerking.{clerk_dialogue, start}

@@ -18,7 +18,7 @@ use Rattle.cell_replay.specs.TowerDemand.{AtFault, PartOf, TowersDemand}
 use Rattle.line_forms.specs.Demand.{Faulty, CutShort, ends_with, faulty_with, demand, line_demand}
 use Rattle.cell_replay.specs.WholeDemand.{Auditing, too_long_text}
 use Rattle.cell_replay.specs.AuditTexts.{verdict_text, pair_fault_text}
-use Rattle.script_replay.specs.LineRules.{dialogue_rule}
+use Rattle.line_forms.specs.LineRules.{dialogue_rule}
 use Rattle.script_replay.specs.Replies.{run_dialogue}
 use Rattle.cell_replay.specs.Checking.{check_rule, counts}
 use Rattle.cell_replay.specs.FormReadings.{spelling_rule}

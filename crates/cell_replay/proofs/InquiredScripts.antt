@@ -12,8 +12,8 @@ use Rattle.inquire_forms.specs.declared.inquire_line.InquireLine.{InquireLine}
 use Rattle.inquire_forms.specs.declared.inquire_line.InquireLine.TheVariants as line
 use Rattle.inquire_forms.specs.InquireLines.{inquired_by, inquired_in}
 use Rattle.inquire_replay.specs.Inquiring.{inquire_dialogue, plain_lines}
-use Rattle.script_replay.specs.Dialogues.{NumberedOf, transcript_by}
-use Rattle.script_replay.specs.LineRules.{dialogue_rule}
+use Rattle.line_forms.specs.Dialogues.{NumberedOf, transcript_by}
+use Rattle.line_forms.specs.LineRules.{dialogue_rule}
 use Rattle.script_replay.specs.Replies.{Numbered, run_dialogue, transcript}
 use Rattle.script_replay.specs.Scripts.{IsScript, IsScriptOf, Says}
 use Rattle.script_replay.proofs.Scripts.{dialogue_demanded}

@@ -24,7 +24,7 @@ use Rattle.journal_forms.specs.declared.journal_answer.JournalAnswer.TheVariants
 use Rattle.journal_forms.specs.declared.journal_line.JournalLine.TheVariants as line
 use Rattle.journal_forms.specs.declared.journal_line.JournalLine.{JournalLine}
 use Rattle.reply_buffer.specs.Responses.{Fills, in_state}
-use Rattle.script_replay.specs.Dialogues.{NumberedOf, reply_of}
+use Rattle.line_forms.specs.Dialogues.{NumberedOf, reply_of}
 use Rattle.line_forms.specs.Readings.{by_lines}
 use Rattle.journal_replay.specs.JournalRules.{journal_rule}
 use Rattle.journal_replay.specs.Journaled.{JournalSaid, is_only, journal_said, lacks_message, stop_refused, stop_unless, stopped_if}

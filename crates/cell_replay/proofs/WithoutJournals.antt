@@ -12,8 +12,8 @@ use Rattle.clerk_replay.specs.Clerking.{clerk_dialogue, start}
 use Rattle.inquire_replay.specs.Inquiring.{inquire_dialogue}
 use Rattle.reply_buffer.specs.Responses.{ResponseOf, GoesOn, Stops, Fills, spell_response}
 use Rattle.reply_buffer.specs.TowerTexts.{TowerLine, SaysNothing, SaysTower, NoTower, tower_said}
-use Rattle.script_replay.specs.Dialogues.{Dialogue, reply_of}
-use Rattle.script_replay.specs.LineRules.{dialogue_rule}
+use Rattle.line_forms.specs.Dialogues.{Dialogue, reply_of}
+use Rattle.line_forms.specs.LineRules.{dialogue_rule}
 use Rattle.script_replay.specs.Replies.{run_dialogue}
 use Rattle.tower_codec.specs.Tower.{Floor}
 use Rattle.line_forms.specs.declared.endings.Status.{Status}

@@ -5,7 +5,7 @@ use Rattle.line_forms.specs.Readings.{Reading, by_lines}
 use Rattle.cds_base.specs.RunEnds.{Run}
 use Rattle.line_forms.specs.declared.endings.Status.{Status}
 use Rattle.line_forms.specs.declared.endings.Status.TheVariants.{Ok as AllRead, Usage, BadInput, ReadFault, WriteFault, OutOfMemory, JournalFull}
-use Rattle.script_replay.specs.LineRules.{dialogue_rule}
+use Rattle.line_forms.specs.LineRules.{dialogue_rule}
 use Rattle.script_replay.specs.Loading.{load_text}
 use Rattle.script_replay.specs.Replies.{run_dialogue}
 use Rattle.clerk_replay.specs.Clerking.{clerk_dialogue, start}

@@ -10,7 +10,7 @@ use Rattle.script_answers.specs.declared.answer.Answer.TheVariants as plain
 use Rattle.journal_forms.specs.declared.journal_answer.JournalAnswer.TheVariants as answer
 use Rattle.journal_forms.specs.declared.journal_line.JournalLine.{JournalLine}
 use Rattle.journal_forms.specs.declared.journal_line.JournalLine.TheVariants as line
-use Rattle.script_replay.specs.Dialogues.{NumberedOf}
+use Rattle.line_forms.specs.Dialogues.{NumberedOf}
 use Rattle.journal_replay.specs.Journaled.{journal_said}
 use Rattle.journal_replay.specs.CellJournals.{empty_state, journal_dialogue}
 use Rattle.script_replay.specs.Headline.{Finds, commands_from}

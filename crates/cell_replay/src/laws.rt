@@ -10,9 +10,9 @@ ghost use Rattle.inquire_forms.specs.declared.inquire_line.InquireLine.{InquireL
 ghost use Rattle.inquire_forms.specs.InquireLines.{inquired_in};
 ghost use Rattle.inquire_replay.specs.Inquiring.{inquire_dialogue, plain_lines};
 ghost use Rattle.clerk_replay.specs.Clerking.{Clerked, clerk_dialogue};
-ghost use Rattle.script_replay.specs.Dialogues.{NumberedOf, transcript_by};
+ghost use Rattle.line_forms.specs.Dialogues.{NumberedOf, transcript_by};
 ghost use Rattle.script_replay.specs.Replies.{LacksStampsAlone, Numbered, run_dialogue, transcript, trusted_reader};
-ghost use Rattle.script_replay.specs.LineRules.{dialogue_rule};
+ghost use Rattle.line_forms.specs.LineRules.{dialogue_rule};
 ghost use Rattle.line_forms.specs.Demand.{Demand, Sound, Faulty, Filled, line_demand, whole};
 ghost use Rattle.cell_replay.specs.Forms.{HasNoJournals, IsCalmEnding, reading_of};
 ghost use Rattle.cell_replay.specs.declared.forms.Form.{Form as Form'};

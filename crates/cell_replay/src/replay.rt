@@ -5,7 +5,7 @@ ghost use Rattle.line_forms.specs.Leaving.{Leaves};
 ghost use Rattle.line_forms.specs.Readings.{by_lines};
 ghost use Rattle.cds_base.specs.RunEnds.{run_of};
 ghost use Rattle.line_forms.specs.Runs.{Ended};
-ghost use Rattle.script_replay.specs.LineRules.{dialogue_rule};
+ghost use Rattle.line_forms.specs.LineRules.{dialogue_rule};
 ghost use Rattle.script_replay.specs.Scripts.{IsReplay, IsReplayBy};
 ghost use Rattle.clerk_replay.specs.Clerking.{clerk_dialogue, start};
 ghost use Rattle.inquire_replay.specs.Inquiring.{inquire_dialogue};

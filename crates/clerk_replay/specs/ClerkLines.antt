@@ -1,11 +1,8 @@
 -- What a replayer with a clerk stands for, and how it replies to a line.
-use Rattle.std.specs.Prelude.{◌≡◌, ℕ, List, Some}
+use Rattle.std.specs.Prelude.{◌≡◌, ℕ, Some}
 use Rattle.cell_script.specs.declared.command.ScriptLine.{ScriptLine}
 use Rattle.script_answers.specs.declared.answer.Answer.{Answer}
 use Rattle.cds_cell.specs.ModelCells as cell
-use Rattle.reply_buffer.specs.declared.replies.LineEnd.{LineEnd}
-use Rattle.reply_buffer.specs.Responses.{ResponseOf}
-use Rattle.reply_buffer.specs.LineEnds.{Ends}
 use Rattle.clerk_replay.specs.declared.replayer.ClerkReplayer.{ClerkReplayer}
 use Rattle.clerk_replay.specs.Clerking.{Clerked, clerked_after, reply_by_clerk}
 
@@ -18,7 +15,3 @@ pub record Stands (r : ClerkReplayer) (s : Clerked) : Type 0 where
 pub record IsAnswer (a : Answer) (r : ClerkReplayer) (number : ℕ) (s : Clerked) (l : ScriptLine) : Type 0 where
   pub answer : (reply_by_clerk number s l).0 ≡ Some a
   pub stands : Stands r (clerked_after number s l)
-
--- the replayer goes on after the line
-abbrev pub Replays : LineEnd → ResponseOf Clerked → (waited waits : List ℕ) → ClerkReplayer → Type 0
-Replays end r waited waits replayer = Ends end r waited waits (Stands replayer)

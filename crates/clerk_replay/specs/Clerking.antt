@@ -22,7 +22,7 @@ use Rattle.script_answers.specs.declared.answer.ScriptRefusal.TheVariants as why
 use Rattle.script_answers.specs.Texts.{answer_text}
 use Rattle.cds_cell.specs.Readings.{cell_reader}
 use Rattle.ns_commands.specs.Asks.{refusal_of_walk}
-use Rattle.script_replay.specs.Dialogues.{Dialogue}
+use Rattle.line_forms.specs.Dialogues.{Dialogue}
 use Rattle.script_replay.specs.Replies.{cell_after, reply_to}
 
 -- the state of the form: the cell that is replayed, and the clerk that reads it (own)

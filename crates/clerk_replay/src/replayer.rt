@@ -3,10 +3,9 @@ use crate::low_read::{LowRead, low_read};
 use crate::through::read_through;
 use cds_cell::CellReader;
 use cds_cell::laws::cells_tell_the_model;
-use cds_stamps::{AllocOr, HouseNo};
-use cell_script::{ScriptLine, parse_line};
+use cds_stamps::HouseNo;
+use cell_script::ScriptLine;
 use clerk_cache::Clerk;
-use reply_buffer::{LineEnd, Waiting, reply_to_fault};
 use script_answers::{Answer, ScriptRefusal};
 use script_replay::Replayer;
 use std::alloc::{AllocError, Global};
@@ -19,13 +18,10 @@ pub struct ClerkReplayer {
 }
 
 impl ClerkReplayer {
-    ghost use Rattle.std.specs.Prelude.{◌≡◌, ◌++◌, ◌+◌, ◌<◌, ◌≤◌, Some, Ok, IfOk, OnOk, OnErr};
+    ghost use Rattle.std.specs.Prelude.{◌≡◌, ◌+◌, ◌<◌, ◌≤◌, IfOk};
     ghost use Rattle.cds_base.specs.declared.scan.TheConstants.{MOST_LINES};
-    ghost use Rattle.cell_script.specs.Words.{words_of};
-    ghost use Rattle.cell_script.specs.CommandRows.{said_in};
-    ghost use Rattle.script_replay.specs.Dialogues.{reply_of};
-    ghost use Rattle.clerk_replay.specs.Clerking.{Clerked, clerked_after, clerk_dialogue, read_at, reply_text, start};
-    ghost use Rattle.clerk_replay.specs.ClerkLines.{IsAnswer, Replays, Stands};
+    ghost use Rattle.clerk_replay.specs.Clerking.{Clerked, read_at, start};
+    ghost use Rattle.clerk_replay.specs.ClerkLines.{IsAnswer, Stands};
     ghost use Rattle.clerk_replay.specs.PrivateClerking.{read_of};
 
     /// Over a cell without houses, with a clerk that keeps so many answers at most, 1 to 1,000.
@@ -41,70 +37,13 @@ impl ClerkReplayer {
         })
     }
 
-    /// Replays a line: its reply waits after the others.
-    pub fn replay_line(
-        &mut self,
-        alloc: Global,
-        number: u32,
-        line: &[u8],
-        waiting: &mut Waiting,
-    ) -> LineEnd
-        requires fewer { self.old.replayer.steps < number }
-        requires most { number ≤ MOST_LINES }
-        ensures reply { (s : Clerked) → Stands self.old s
-            → Replays result
-            (reply_of clerk_dialogue number s
-            (said_in (words_of line.now))) waiting.old waiting.new self.new }
-        ensures steps { self.new.replayer.steps ≤ number }
-    {
-        match parse_line(alloc, line) {
-            Ok(Some(line)) => self.reply_to_line(alloc, number, line, waiting),
-            Ok(None) => LineEnd::GoesOn,
-            Err(AllocOr::Fault(fault)) => reply_to_fault(alloc, number, fault, waiting),
-            Err(AllocOr::OutOfMemory) => LineEnd::NoMemory,
-        }
-    }
-
-    fn reply_to_line(
+    /// What the cell replies to a line, or the clerk.
+    pub(crate) fn reply(
         &mut self,
         alloc: Global,
         number: u32,
         line: ScriptLine,
-        waiting: &mut Waiting,
-    ) -> LineEnd
-        requires few { self.old.replayer.steps < MOST_LINES }
-        ensures reply { (s : Clerked) → Stands self.old s
-            → Replays result
-            (reply_of clerk_dialogue number s (Ok (Some line))) waiting.old waiting.new self.new }
-        ensures steps { self.new.replayer.steps ≤ self.old.replayer.steps + 1 }
-    {
-        match self.answer(alloc, number, line, waiting) {
-            Ok(()) => LineEnd::GoesOn,
-            Err(AllocError) => LineEnd::NoMemory,
-        }
-    }
-
-    // The reply to a line waits after the others.
-    fn answer(
-        &mut self,
-        alloc: Global,
-        number: u32,
-        line: ScriptLine,
-        waiting: &mut Waiting,
-    ) -> Result<(), AllocError>
-        requires few { self.old.replayer.steps < MOST_LINES }
-        ensures ok { (s : Clerked) → Stands self.old s
-            → OnOk result ((waiting.new ≡ waiting.old ++ reply_text number s line)
-            × Stands self.new (clerked_after number s line)) }
-        ensures err { OnErr result (waiting.new ≡ waiting.old) }
-        ensures steps { self.new.replayer.steps ≤ self.old.replayer.steps + 1 }
-    {
-        let answer = self.reply(alloc, number, line)?;
-        waiting.add_answer(alloc, number, &answer)
-    }
-
-    // What the cell replies to a line, or the clerk.
-    fn reply(&mut self, alloc: Global, number: u32, line: ScriptLine) -> Result<Answer, AllocError>
+    ) -> Result<Answer, AllocError>
         requires few { self.old.replayer.steps < MOST_LINES }
         ensures reply { (s : Clerked) → Stands self.old s
             → IfOk result (λ a. IsAnswer a self.new number s line) }

@@ -14,7 +14,7 @@ use Rattle.script_answers.specs.Texts.{answer_text}
 use Rattle.clerk_cache.specs.declared.clerk.Clerk.{Clerk}
 use Rattle.clerk_cache.specs.declared.query.Kept.{Kept}
 use Rattle.clerk_cache.specs.declared.query.Query.{Query}
-use Rattle.script_replay.specs.Dialogues.{Dialogue, NumberedOf}
+use Rattle.line_forms.specs.Dialogues.{Dialogue, NumberedOf}
 use Rattle.script_replay.specs.Replies.{Numbered, cell_after, run_dialogue}
 use Rattle.clerk_replay.specs.Clerking.{Clerked, LowRead, clerked_after, clerk_dialogue, low_read, read_by_clerk, reply_at, start}
 use Rattle.form_laws.specs.Honesty.{IsHonest, Tells, cell_after_lines, dialogue_state}

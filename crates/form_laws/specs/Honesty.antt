@@ -11,7 +11,7 @@ use Rattle.clerk_cache.specs.declared.query.Told.{Told}
 use Rattle.clerk_cache.specs.declared.query.Told.TheVariants as told
 use Rattle.cds_cell.specs.Readings.{cell_reader}
 use Rattle.clerk_replay.specs.Clerking.{LowRead, low_read}
-use Rattle.script_replay.specs.Dialogues.{Dialogue, NumberedOf}
+use Rattle.line_forms.specs.Dialogues.{Dialogue, NumberedOf}
 use Rattle.script_replay.specs.Replies.{Numbered, run_dialogue}
 
 -- the state after numbered lines (own)

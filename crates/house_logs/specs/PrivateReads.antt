@@ -1,5 +1,6 @@
 -- What a reader of a journal finds, part by part.
-use Rattle.std.specs.Prelude.{◌≡◌, ◌≢◌, ℕ, ◌+◌, List, [], ◌∷◌, ◌++◌, Option, Some, None, Ok, codes, decimal, is_none, length, false, option_copied}
+use Rattle.std.specs.Prelude.{◌≡◌, ◌≢◌, ℕ, ◌+◌, Bool, List, [], ◌∷◌, ◌++◌, Option, Some, None, Ok, codes, decimal, is_none, length, false, option_copied}
+use Rattle.std.specs.Bool.{OnTrue}
 use Rattle.std.specs.List.{AllByRecursion}
 use Rattle.cds_stamps.specs.declared.numbers.HouseNo.{HouseNo}
 use Rattle.cell_script.specs.Words.{words_of}
@@ -55,6 +56,19 @@ pub record IsTurnText (text line : List ℕ) (posts : List PostedOctets) (answer
 -- the octets of a record are these fields
 abbrev pub IsDue : List ℕ → Body → Type 0
 IsDue octets body = IsBody octets body.number body.clock body.text.now (option_copied body.image)
+
+-- they are these fields, and no image
+abbrev pub IsBare : List ℕ → Body → Type 0
+IsBare octets body = IsBody octets body.number body.clock body.text.now None
+
+-- if the record was taken, its octets were read after these bodies
+abbrev pub IsReadOn : LogReader → (bodies : List (List ℕ)) → (octets : List ℕ) → (takes : Bool)
+    → Type 0
+IsReadOn r bodies octets takes = OnTrue takes (HasRead r (bodies ++ octets ∷ []))
+
+-- the last record has the digest that it had, and as many segments were begun
+abbrev pub KeepsHead : (old new : LogReader) → Type 0
+KeepsHead old new = (new.digest ≡ old.digest) × (new.segments ≡ old.segments)
 
 -- a turn with the parts of a text, at a clock
 pub record IsTurnBy (parts : TurnText) (clock : ℕ) (t : LoggedTurn) : Type 0 where

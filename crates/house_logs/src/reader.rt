@@ -12,7 +12,7 @@ ghost use Rattle.house_logs.specs.Logs.{IsJournalOf, IsNew};
 ghost use Rattle.house_logs.specs.declared.log.LoggedTurn.{LoggedTurn as LoggedTurn'};
 ghost use Rattle.house_logs.specs.declared.log.Making.{Making as Making'};
 ghost use Rattle.house_logs.specs.declared.reader.LogReader.{LogReader as LogReader'};
-ghost use Rattle.house_logs.specs.PrivateReads.{CanFollow, CanGoOn, CanMake, CanStart, CanTurn, IsAfterHead, IsDue, IsMadeBy, IsTurnBy, IsTurnText, MakesHouse, ReadsChain, StopsAt, known_in};
+ghost use Rattle.house_logs.specs.PrivateReads.{CanFollow, CanGoOn, CanMake, CanStart, CanTurn, IsAfterHead, IsBare, IsDue, IsMadeBy, IsReadOn, IsTurnBy, IsTurnText, KeepsHead, MakesHouse, ReadsChain, StopsAt, known_in};
 ghost use Rattle.house_logs.specs.Reads.{HasRead, IfFault, ReadsFront, ReadsOn, told_of};
 ghost use Rattle.house_logs.specs.Records.{CanBe, Shows};
 
@@ -386,11 +386,9 @@ impl LogReader {
 
     // Takes a record that has the number which is due. Whether a house writes it there.
     fn take_body(&mut self, alloc: Global, body: &Body<'_>) -> Result<bool, AllocError>
-        ensures digest { self.new.digest ≡ self.old.digest }
-        ensures segments { self.new.segments ≡ self.old.segments }
+        ensures head { KeepsHead self.old self.new }
         ensures read { (bodies : List (List ℕ)) (octets : List ℕ) → HasRead self.old bodies
-            → IsDue octets body.now → IfOk result
-            (λ takes. OnTrue takes (HasRead self.new (bodies ++ octets ∷ []))) }
+            → IsDue octets body.now → IfOk result (IsReadOn self.new bodies octets) }
         ensures kept { (bodies : List (List ℕ)) → HasRead self.old bodies
             → IfOk result (λ takes. OnFalse takes (HasRead self.new bodies)) }
         ensures refused { IfOk result (λ takes. OnFalse takes (¬ CanFollow self.old body.now)) }
@@ -438,12 +436,11 @@ impl LogReader {
         turn: &[u8],
         image: &[u8],
     ) -> Result<bool, AllocError>
-        ensures digest { self.new.digest ≡ self.old.digest }
-        ensures segments { self.new.segments ≡ self.old.segments }
+        ensures head { KeepsHead self.old self.new }
         ensures read { (bodies : List (List ℕ)) (octets : List ℕ) → HasRead self.old bodies
             → IsBody octets body.now.number body.now.clock (codes "start" ++ (10 ∷ turn.now))
             (Some image.now)
-            → IfOk result (λ takes. OnTrue takes (HasRead self.new (bodies ++ octets ∷ []))) }
+            → IfOk result (IsReadOn self.new bodies octets) }
         ensures kept { (bodies : List (List ℕ)) → HasRead self.old bodies
             → IfOk result (λ takes. OnFalse takes (HasRead self.new bodies)) }
         ensures refused { body.now.text.now ≡ codes "start" ++ (10 ∷ turn.now)
@@ -480,8 +477,7 @@ impl LogReader {
 
     // Gives an image to the last entry. Whether that has none yet, or this one.
     fn show(&mut self, alloc: Global, image: &[u8]) -> Result<bool, AllocError>
-        ensures digest { self.new.digest ≡ self.old.digest }
-        ensures segments { self.new.segments ≡ self.old.segments }
+        ensures head { KeepsHead self.old self.new }
         ensures made { self.new.made ≡ self.old.made }
         ensures shows { (m : Making') → IfOk result
             (λ has. OnTrue has (Shows (told_of m self.old) image.now (told_of m self.new))) }
@@ -508,11 +504,10 @@ impl LogReader {
 
     // Takes the first record of a segment in the middle of a process.
     fn goes_on(&mut self, alloc: Global, body: &Body<'_>, image: &[u8]) -> Result<bool, AllocError>
-        ensures digest { self.new.digest ≡ self.old.digest }
-        ensures segments { self.new.segments ≡ self.old.segments }
+        ensures head { KeepsHead self.old self.new }
         ensures read { (bodies : List (List ℕ)) (octets : List ℕ) → HasRead self.old bodies
             → IsBody octets body.now.number body.now.clock body.now.text.now (Some image.now)
-            → IfOk result (λ goes. OnTrue goes (HasRead self.new (bodies ++ octets ∷ []))) }
+            → IfOk result (IsReadOn self.new bodies octets) }
         ensures kept { (bodies : List (List ℕ)) → HasRead self.old bodies
             → IfOk result (λ goes. OnFalse goes (HasRead self.new bodies)) }
         ensures refused { option_copied body.now.image ≡ Some image.now
@@ -533,11 +528,9 @@ impl LogReader {
 
     // Takes a record of a turn, which shows no image: the first one makes the house.
     fn take_turn(&mut self, alloc: Global, body: &Body<'_>) -> Result<bool, AllocError>
-        ensures digest { self.new.digest ≡ self.old.digest }
-        ensures segments { self.new.segments ≡ self.old.segments }
+        ensures head { KeepsHead self.old self.new }
         ensures read { (bodies : List (List ℕ)) (octets : List ℕ) → HasRead self.old bodies
-            → IsBody octets body.now.number body.now.clock body.now.text.now None
-            → IfOk result (λ takes. OnTrue takes (HasRead self.new (bodies ++ octets ∷ []))) }
+            → IsBare octets body.now → IfOk result (IsReadOn self.new bodies octets) }
         ensures kept { (bodies : List (List ℕ)) → HasRead self.old bodies
             → IfOk result (λ takes. OnFalse takes (HasRead self.new bodies)) }
         ensures refused { IfOk result (λ takes. OnFalse takes
@@ -566,11 +559,9 @@ impl LogReader {
         requires due { body.now.number ≡ self.old.number + 1 }
         requires text { IsTurnText body.now.text.now parts.now.line.now parts.now.posts.items
             parts.now.answer.now }
-        ensures digest { self.new.digest ≡ self.old.digest }
-        ensures segments { self.new.segments ≡ self.old.segments }
+        ensures head { KeepsHead self.old self.new }
         ensures read { (bodies : List (List ℕ)) (octets : List ℕ) → HasRead self.old bodies
-            → IsBody octets body.now.number body.now.clock body.now.text.now None
-            → IfOk result (λ takes. OnTrue takes (HasRead self.new (bodies ++ octets ∷ []))) }
+            → IsBare octets body.now → IfOk result (IsReadOn self.new bodies octets) }
         ensures kept { (bodies : List (List ℕ)) → HasRead self.old bodies
             → IfOk result (λ takes. OnFalse takes (HasRead self.new bodies)) }
         ensures refused { IfOk result (λ takes. OnFalse takes (¬ CanMake self.old body.now)) }
@@ -600,11 +591,9 @@ impl LogReader {
         requires due { body.now.number ≡ self.old.number + 1 }
         requires text { IsTurnText body.now.text.now parts.line.now parts.posts.items
             parts.answer.now }
-        ensures digest { self.new.digest ≡ self.old.digest }
-        ensures segments { self.new.segments ≡ self.old.segments }
+        ensures head { KeepsHead self.old self.new }
         ensures read { (bodies : List (List ℕ)) (octets : List ℕ) → HasRead self.old bodies
-            → IsBody octets body.now.number body.now.clock body.now.text.now None
-            → IfOk result (λ takes. OnTrue takes (HasRead self.new (bodies ++ octets ∷ []))) }
+            → IsBare octets body.now → IfOk result (IsReadOn self.new bodies octets) }
         ensures kept { (bodies : List (List ℕ)) → HasRead self.old bodies
             → IfOk result (λ takes. OnFalse takes (HasRead self.new bodies)) }
         ensures refused { IfOk result (λ takes. OnFalse takes (¬ CanTurn self.old body.now)) }

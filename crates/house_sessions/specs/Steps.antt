@@ -1,5 +1,5 @@
 -- What the calls of a session do. Own.
-use Rattle.std.specs.Prelude.{◌≡◌, ℕ, ◌+◌, List, [], Some, None}
+use Rattle.std.specs.Prelude.{◌≡◌, ℕ, ◌+◌, List, [], Option, Some, None, Result, Err, IfSome}
 use Rattle.script_answers.specs.Texts.{lines_text}
 use Rattle.house_serving.specs.Turns.{Said}
 use Rattle.house_turns.specs.declared.house.House.{House}
@@ -7,6 +7,7 @@ use Rattle.house_turns.specs.HouseReplies.{Responds}
 use Rattle.house_turns.specs.Openings.{EndsLife, HasTurn, after_start, first_lines, start_text}
 use Rattle.house_turns.specs.Records.{IsRecord}
 use Rattle.house_sessions.specs.Refusals.{why_no_line}
+use Rattle.house_sessions.specs.declared.fault.SessionFault.{SessionFault}
 use Rattle.house_sessions.specs.declared.session.Session.{Session}
 use Rattle.house_sessions.specs.declared.session.Stage.TheVariants as stage
 
@@ -18,6 +19,11 @@ at_first house =
 -- a session that does nothing more: no record waits
 abbrev pub IsSpent : Session → Type 0
 IsSpent s = (s.stage ≡ stage.Spent) × (s.body ≡ None)
+
+-- if there is this reason why a call is not done, the call gives it and changes nothing
+abbrev pub IsRefused : Option SessionFault → (old new : Session) → Result (Unit {0}) SessionFault
+    → Type 0
+IsRefused why old new result = IfSome why (λ f. (result ≡ Err f) × (new ≡ old))
 
 -- a session started after this house ended its life: the record of the start waits, and the text is
 -- what the house says first

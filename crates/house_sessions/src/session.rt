@@ -1,11 +1,13 @@
 // A house between two lines of its caller.
 ghost use Rattle.std.specs.Prelude.{◌≡◌, ◌≢◌, [], IfErr, IfOk, IfSome, OnOk, Err, None, Some, is_some, true};
 ghost use Rattle.std.specs.Option.{option_map};
+ghost use Rattle.cds_stamps.specs.Outcomes.{ok_unless};
 ghost use Rattle.house_turns.specs.Openings.{Differs, IsSegmentRecord, MayEnd, Redoes, Resumes, new_house};
 ghost use Rattle.house_turns.specs.declared.house.House.{House};
 ghost use Rattle.house_sessions.specs.declared.fault.SessionFault.TheVariants as why;
 ghost use Rattle.house_sessions.specs.Refusals as refusals;
-ghost use Rattle.house_sessions.specs.Steps.{IsSaid, IsSpent, IsStarted, at_first};
+ghost use Rattle.house_sessions.specs.Refusals.{why_not_first};
+ghost use Rattle.house_sessions.specs.Steps.{IsRefused, IsSaid, IsSpent, IsStarted, at_first};
 
 use crate::fault::SessionFault;
 use crate::line::is_line;
@@ -91,14 +93,14 @@ impl Session {
         }
     }
 
-    // Why it does not read records or start.
-    fn why_not_first(&self) -> Option<SessionFault>
-        ensures { result ≡ refusals.why_not_first self.now.stage }
+    // It has not started; or why it reads no records and does not start.
+    fn before_start(&self) -> Result<(), SessionFault>
+        ensures { result ≡ ok_unless (why_not_first self.now.stage) tt }
     {
         match self.stage {
-            Stage::Reading => None,
-            Stage::Running => Some(SessionFault::Started),
-            Stage::Spent => Some(SessionFault::Spent),
+            Stage::Reading => Ok(()),
+            Stage::Running => Err(SessionFault::Started),
+            Stage::Spent => Err(SessionFault::Spent),
         }
     }
 
@@ -142,18 +144,15 @@ impl Session {
 
     /// Does again what the next record says.
     pub fn redo(&mut self, alloc: Global, body: &[u8]) -> Result<(), SessionFault>
-        ensures ok { OnOk result ((refusals.why_not_first self.old.stage ≡ None)
+        ensures ok { OnOk result ((why_not_first self.old.stage ≡ None)
             × (self.new ≡ record self.old { house = self.new.house })) }
         ensures redoes { OnOk result (Redoes self.old.house body.now self.new.house) }
         ensures differs { result ≡ Err why.NoRecord → Differs self.old.house body.now }
-        ensures refused { IfSome (refusals.why_not_first self.old.stage)
-            (λ f. (result ≡ Err f) × (self.new ≡ self.old)) }
-        ensures spent { refusals.why_not_first self.old.stage ≡ None
+        ensures refused { IsRefused (why_not_first self.old.stage) self.old self.new result }
+        ensures spent { why_not_first self.old.stage ≡ None
             → IfErr result (λ f. refusals.IsSpending f × IsSpent self.new) }
     {
-        if let Some(fault) = self.why_not_first() {
-            return Err(fault);
-        }
+        self.before_start()?;
         match self.house.redo(alloc, body) {
             Ok(true) => Ok(()),
             Ok(false) => self.spend(SessionFault::NoRecord),
@@ -163,17 +162,14 @@ impl Session {
 
     /// Ends the life of the house before, and starts. The record of that waits to be kept.
     pub fn start(&mut self, alloc: Global) -> Result<(), SessionFault>
-        ensures ok { OnOk result (refusals.why_not_first self.old.stage ≡ None) }
+        ensures ok { OnOk result (why_not_first self.old.stage ≡ None) }
         ensures starts { OnOk result (IsStarted self.old.house self.new) }
         ensures lawful { MayEnd self.old.house.home → result ≢ Err why.NoRecord }
-        ensures refused { IfSome (refusals.why_not_first self.old.stage)
-            (λ f. (result ≡ Err f) × (self.new ≡ self.old)) }
-        ensures spent { refusals.why_not_first self.old.stage ≡ None
+        ensures refused { IsRefused (why_not_first self.old.stage) self.old self.new result }
+        ensures spent { why_not_first self.old.stage ≡ None
             → IfErr result (λ f. refusals.IsSpending f × IsSpent self.new) }
     {
-        if let Some(fault) = self.why_not_first() {
-            return Err(fault);
-        }
+        self.before_start()?;
         let house = replace(&mut self.house, House::new(alloc));
         match started(alloc, house) {
             Ok(session) => {
@@ -188,9 +184,9 @@ impl Session {
     /// kept.
     pub fn line(&mut self, alloc: Global, line: &[u8]) -> Result<(), SessionFault>
         ensures ok { OnOk result (IsSaid self.old line.now self.new) }
-        ensures refused { IfSome
+        ensures refused { IsRefused
             (refusals.why_no_line self.old.stage self.old.body self.old.number line.now)
-            (λ f. (result ≡ Err f) × (self.new ≡ self.old)) }
+            self.old self.new result }
         ensures spent { refusals.why_no_line self.old.stage self.old.body self.old.number line.now
             ≡ None
             → IfErr result (λ f. (f ≡ why.OutOfMemory) × IsSpent self.new) }
@@ -216,8 +212,8 @@ impl Session {
         ensures begins { OnOk result (IfSome self.new.body (IsSegmentRecord self.old.house)) }
         ensures after { OnOk result ((is_some self.new.body ≡ true)
             × (self.new ≡ record self.old { text = []; body = self.new.body })) }
-        ensures refused { IfSome (refusals.why_not self.old.stage self.old.body)
-            (λ f. (result ≡ Err f) × (self.new ≡ self.old)) }
+        ensures refused { IsRefused (refusals.why_not self.old.stage self.old.body) self.old
+            self.new result }
         ensures memory { refusals.why_not self.old.stage self.old.body ≡ None
             → IfErr result (λ f. (f ≡ why.OutOfMemory) × (self.new ≡ self.old)) }
     {

@@ -42,17 +42,24 @@ fn in_times(taken: Taken) -> Answer {
     }
 }
 
-const FIRST: Member = Member {
-    house: HouseNo(1),
-    since: EpochNo(1),
-    kind: MemberKind::Master,
-};
+// A member of epoch 1.
+fn member(house: u8, kind: MemberKind) -> Member {
+    Member {
+        house: HouseNo(house),
+        since: EpochNo(1),
+        kind,
+    }
+}
 
-const SECOND: Member = Member {
-    house: HouseNo(2),
-    since: EpochNo(1),
-    kind: MemberKind::ReadOnly,
-};
+// House 1, which is the master, and House 2, which only reads.
+fn both() -> [Member; 2] {
+    [first(), member(2, MemberKind::ReadOnly)]
+}
+
+// House 1, which is the master.
+fn first() -> Member {
+    member(1, MemberKind::Master)
+}
 
 // A house at the node of ten times its number, which has nothing.
 fn empty_house(alloc: Global, number: u8) -> Result<Clearinghouse, Fail> {
@@ -111,7 +118,7 @@ fn delivered(alloc: Global, pair: &mut Pair) -> Result<(u8, u8, Answer), Fail> {
 // The houses 1 and 2, of which 1 has made the root: house 2 has taken its Join.
 fn both(alloc: Global) -> Result<Pair, Fail> {
     let mut first = empty_house(alloc, 1)?;
-    let mail = create_root(alloc, &mut first, &[FIRST, SECOND])?;
+    let mail = create_root(alloc, &mut first, &both())?;
     let second = empty_house(alloc, 2)?;
     let mut pair = Pair {
         first,
@@ -175,7 +182,7 @@ fn begins(alloc: Global, house: &mut Clearinghouse, mail: &mut PostedList) -> Re
 
 // Has house 1 go on alone, in epoch 2. What it posts is the mail then.
 fn goes_alone(alloc: Global, house: &mut Clearinghouse, mail: &mut PostedList) -> Result<(), Fail> {
-    let members = Members::new(alloc, &[FIRST])?;
+    let members = Members::new(alloc, &[first()])?;
     if members.master() != house.number() {
         return Err("another master".into());
     }
@@ -308,12 +315,12 @@ fn strange(alloc: Global, number: u8) -> Result<Message, Fail> {
         1 => Ok(message(
             ROOT,
             3,
-            Body::Join(Members::new(alloc, &[FIRST, SECOND])?, empty(alloc)),
+            Body::Join(Members::new(alloc, &both())?, empty(alloc)),
         )),
         _ => Ok(message(
             ROOT,
             1,
-            Body::Join(Members::new(alloc, &[FIRST])?, empty(alloc)),
+            Body::Join(Members::new(alloc, &[first()])?, empty(alloc)),
         )),
     }
 }
@@ -337,7 +344,7 @@ fn epoch_refusal(
     house: &mut Clearinghouse,
     dir: DirId,
 ) -> Result<Option<EpochRefusal>, Fail> {
-    let members = Members::new(alloc, &[FIRST])?;
+    let members = Members::new(alloc, &[first()])?;
     if members.master() != house.number() {
         return Err("another master".into());
     }

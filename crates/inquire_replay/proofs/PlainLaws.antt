@@ -14,7 +14,7 @@ use Rattle.cell_script.specs.WordForms.{Words, read_as}
 use Rattle.cell_script.specs.CommandRows.{said_by, said_in, some_line}
 use Rattle.script_answers.specs.declared.answer.Answer.{Answer}
 use Rattle.script_answers.specs.Texts.{answer_text}
-use Rattle.script_replay.specs.Dialogues.{transcript_by}
+use Rattle.line_forms.specs.Dialogues.{transcript_by}
 use Rattle.script_replay.specs.Replies.{Numbered, cell_after, reply_to, reply_text, transcript}
 use Rattle.inquire_forms.specs.declared.inquire_line.InquireLine.{InquireLine}
 use Rattle.inquire_forms.specs.declared.inquire_line.InquireLine.TheVariants as line

@@ -11,7 +11,7 @@ use Rattle.inquire_forms.specs.declared.inquire_line.InquireLine.TheVariants as 
 use Rattle.inquire_forms.specs.InquireLines.{inquired_in}
 use Rattle.inquire_forms.specs.InquireTexts.{inquire_text}
 use Rattle.inquire_forms.specs.Inquired.{Inquired, Plain, inquired_refusal, batches_listed, elements_listed, entry_listed, members_listed}
-use Rattle.script_replay.specs.Dialogues.{Dialogue, NumberedOf}
+use Rattle.line_forms.specs.Dialogues.{Dialogue, NumberedOf}
 use Rattle.script_replay.specs.Replies.{Numbered, cell_after, reply_to, wanted_by}
 
 -- a house that is not there is asked nothing (own)

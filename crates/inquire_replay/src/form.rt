@@ -1,8 +1,8 @@
-// The form `inquire`, as one that answers line by line.
-use crate::replies::replay_inquiry;
-use cds_base::LineFault;
-use line_forms::LineForm;
-use reply_buffer::{LineEnd, Waiting, print_line_fault};
+// The form `inquire`: each line is replayed on a cell, or asks it.
+use crate::replies::{add_text, reply};
+use inquire_forms::{InquireLine, parse_inquire_line};
+use line_forms::{DialogueForm, Said};
+use reply_buffer::Waiting;
 use script_replay::Replayer;
 use std::alloc::{AllocError, Global};
 
@@ -28,43 +28,36 @@ impl Inquirer {
     }
 }
 
-impl LineForm for Inquirer {
+impl DialogueForm for Inquirer {
     ghost use Rattle.cell_model.specs.Cells.{Cell};
     ghost use Rattle.cds_cell.specs.ModelCells.{Stands};
-    ghost use Rattle.script_replay.specs.LineRules.{dialogue_rule};
+    ghost use Rattle.inquire_forms.specs.InquireLines.{WantsSome};
     ghost use Rattle.inquire_replay.specs.Inquiring.{inquire_dialogue};
+
+    type Line = InquireLine;
 
     ghost State = { Cell };
 
-    ghost rule = { dialogue_rule inquire_dialogue };
+    ghost dialogue = { inquire_dialogue };
 
     ghost is_at = { λ i g. Stands i.replayer.cell g };
 
-    ghost is_kept = { λ r s. Unit {0} };
-
-    ghost is_broken = { λ r number s line. Unit {0} };
-
-    ghost holds = { λ end form. Unit {0} };
+    ghost is_said = { WantsSome };
 
     ghost counted = { λ i. i.replayer.steps };
 
-    ghost keeps = { λ r s at. tt };
+    fn parse(alloc: Global, line: &[u8]) -> Said<InquireLine> {
+        parse_inquire_line(alloc, line)
+    }
 
-    fn answer(
+    fn reply_to(
         &mut self,
         alloc: Global,
         number: u32,
-        line: &[u8],
+        line: InquireLine,
         waiting: &mut Waiting,
-    ) -> LineEnd {
-        replay_inquiry(alloc, &mut self.replayer, number, line, waiting)
-    }
-
-    fn print_end(&self, alloc: Global) -> Result<Vec<u8>, AllocError> {
-        Ok(Vec::new(alloc))
-    }
-
-    fn print_fault(&self, alloc: Global, fault: LineFault) -> Result<Vec<u8>, AllocError> {
-        print_line_fault(alloc, fault)
+    ) -> Result<(), AllocError> {
+        let answer = reply(alloc, &mut self.replayer, line)?;
+        add_text(alloc, number, &answer, waiting)
     }
 }

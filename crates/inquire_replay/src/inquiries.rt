@@ -1,10 +1,11 @@
 // What a cell answers to inquiries.
-ghost use Rattle.std.specs.Prelude.{◌≡◌, ◌≤◌, Some, IfOk};
+ghost use Rattle.std.specs.Prelude.{◌≡◌, ◌≤◌, IfOk};
 ghost use Rattle.cell_model.specs.Cells as model;
-ghost use Rattle.cds_cell.specs.Readings.{objects_of, cell_reader};
+ghost use Rattle.cds_cell.specs.Readings.{objects_of};
 ghost use Rattle.cds_cell.specs.ModelCells.{Stands};
 ghost use Rattle.inquire_forms.specs.Inquired.{batches_listed, elements_listed, entry_listed, inquired_answer, members_listed};
-ghost use Rattle.inquire_replay.specs.Inquiring.{asked_at, no_house};
+ghost use Rattle.inquire_replay.specs.Inquiring.{no_house};
+ghost use Rattle.inquire_replay.specs.PrivateInquiring.{answered_at};
 
 use cds_cell::laws::cells_tell_the_model;
 use cds_cell::{Cell, CellReader};
@@ -23,17 +24,25 @@ fn no_house() -> InquireAnswer
     InquireAnswer::Plain(Answer::Refused(ScriptRefusal::NoHouse))
 }
 
+/// Where an inquiry is asked: a cell, the house of it that is preferred, and whether at high
+/// confidence.
+#[derive(Clone, Copy)]
+pub(crate) struct AskedAt<'a> {
+    pub(crate) cell: &'a Cell,
+    pub(crate) house: HouseNo,
+    pub(crate) high: bool,
+}
+
 /// The members of the group of a name.
 pub(crate) fn members(
     alloc: Global,
-    cell: &Cell,
-    house: HouseNo,
-    high: bool,
+    at: AskedAt<'_>,
     name: &FullName,
 ) -> Result<InquireAnswer, AllocError>
-    ensures { (g : model.Cell) → Stands cell.now g → IfOk result (λ a. inquired_answer a
-        ≡ asked_at g house.0 (members_listed (cell_reader g (Some house.0) high) name.now)) }
+    ensures { (g : model.Cell) → Stands at.entry.cell.now g → IfOk result (λ a. inquired_answer a
+        ≡ answered_at g at.entry (λ reader. members_listed reader name.now)) }
 {
+    let AskedAt { cell, house, high } = at;
     cells_tell_the_model();
     if cell.has_house(house) {
         let prefer = Some(house);
@@ -46,14 +55,13 @@ pub(crate) fn members(
 /// The interfaces and the objects of the server of a name.
 pub(crate) fn entry(
     alloc: Global,
-    cell: &Cell,
-    house: HouseNo,
-    high: bool,
+    at: AskedAt<'_>,
     name: &FullName,
 ) -> Result<InquireAnswer, AllocError>
-    ensures { (g : model.Cell) → Stands cell.now g → IfOk result (λ a. inquired_answer a
-        ≡ asked_at g house.0 (entry_listed (cell_reader g (Some house.0) high) name.now)) }
+    ensures { (g : model.Cell) → Stands at.entry.cell.now g → IfOk result (λ a. inquired_answer a
+        ≡ answered_at g at.entry (λ reader. entry_listed reader name.now)) }
 {
+    let AskedAt { cell, house, high } = at;
     cells_tell_the_model();
     if cell.has_house(house) {
         let prefer = Some(house);
@@ -66,16 +74,14 @@ pub(crate) fn entry(
 /// The elements of the profile of a name that are asked for.
 pub(crate) fn elements(
     alloc: Global,
-    cell: &Cell,
-    house: HouseNo,
-    high: bool,
+    at: AskedAt<'_>,
     name: &FullName,
     inquiry: &Inquiry,
 ) -> Result<InquireAnswer, AllocError>
-    ensures { (g : model.Cell) → Stands cell.now g → IfOk result (λ a. inquired_answer a
-        ≡ asked_at g house.0
-        (elements_listed (cell_reader g (Some house.0) high) inquiry.now name.now)) }
+    ensures { (g : model.Cell) → Stands at.entry.cell.now g → IfOk result (λ a. inquired_answer a
+        ≡ answered_at g at.entry (λ reader. elements_listed reader inquiry.now name.now)) }
 {
+    let AskedAt { cell, house, high } = at;
     cells_tell_the_model();
     if cell.has_house(house) {
         let prefer = Some(house);
@@ -88,18 +94,17 @@ pub(crate) fn elements(
 /// The bindings of an import, in batches of at most so many.
 pub(crate) fn batches(
     alloc: Global,
-    cell: &Cell,
-    house: HouseNo,
-    high: bool,
+    at: AskedAt<'_>,
     name: &FullName,
     wanted: Wanted,
     most: u16,
 ) -> Result<InquireAnswer, AllocError>
     requires { 1 ≤ most }
-    ensures { (g : model.Cell) → Stands cell.now g → IfOk result (λ a. inquired_answer a
-        ≡ asked_at g house.0
-        (batches_listed (cell_reader g (Some house.0) high) (objects_of g) wanted most name.now)) }
+    ensures { (g : model.Cell) → Stands at.entry.cell.now g → IfOk result (λ a. inquired_answer a
+        ≡ answered_at g at.entry
+        (λ reader. batches_listed reader (objects_of g) wanted most name.now)) }
 {
+    let AskedAt { cell, house, high } = at;
     cells_tell_the_model();
     if cell.has_house(house) {
         let prefer = Some(house);

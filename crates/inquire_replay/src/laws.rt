@@ -4,7 +4,7 @@ ghost use Rattle.std.specs.Prelude.{◌≡◌, ℕ, List, Some, Ok};
 ghost use Rattle.cell_model.specs.Cells.{Cell};
 ghost use Rattle.cell_script.specs.declared.command.ScriptLine.{ScriptLine};
 ghost use Rattle.cell_script.specs.CommandRows.{said_in};
-ghost use Rattle.script_replay.specs.Dialogues.{transcript_by};
+ghost use Rattle.line_forms.specs.Dialogues.{transcript_by};
 ghost use Rattle.script_replay.specs.Replies.{Numbered, transcript};
 ghost use Rattle.inquire_forms.specs.declared.inquire_line.InquireLine.TheVariants as line;
 ghost use Rattle.inquire_forms.specs.InquireLines.{inquired_in};

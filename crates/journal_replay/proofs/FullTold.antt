@@ -1,6 +1,6 @@
 -- Whether a journal had no room so far, after calls one after another.
 use Rattle.std.proofs.Common.{◌≡◌, ◌≢◌, ℕ, Bool, List, refl, sym, ap, subst}
-use Rattle.std.specs.Prelude.{Result, Ok, Err, IsErrAnd}
+use Rattle.std.specs.Prelude.{Result, Ok, Err, IsErrAnd, OnOk}
 use Rattle.disk_journals.specs.declared.faults.Unkept.{Unkept}
 use Rattle.disk_journals.specs.declared.faults.Unkept.TheVariants.{Full, OutOfMemory}
 use Rattle.reply_buffer.specs.declared.replies.LineEnd.{LineEnd}
@@ -34,6 +34,11 @@ pub tells_opened : (B : Type 0) {A : Type 0} (r : Result A Unkept) (x : Unkept) 
 tells_opened B (Ok a) x before after is other so = absurd is
 tells_opened B (Err Full) x before after is other so = absurd (other (ap Err (sym is)))
 tells_opened B (Err OutOfMemory) x before after is other so = so
+
+-- after a call that was given up nothing has to hold
+pub off_ok : {A : Type 0} (r : Result A Unkept) (x : Unkept) (P : Type 0) → IsErrAnd r (λ e. e ≡ x) → OnOk r P
+off_ok (Ok a) x P is = absurd is
+off_ok (Err e) x P is = tt
 
 -- it is full, as the call in it found
 pub full_up : (B : Type 0) {A : Type 0} (r : Result A Unkept) (x : Unkept) → IsErrAnd r (λ e. e ≡ x) → given_up B x ≡ Err Full → r ≡ Err Full

@@ -17,7 +17,7 @@ use Rattle.journal_forms.specs.JournalTexts.{journal_text}
 use Rattle.journal_forms.specs.declared.journal_line.JournalLine.{JournalLine}
 use Rattle.journal_forms.specs.declared.journal_line.JournalLine.TheVariants as line
 use Rattle.journal_forms.specs.declared.journal_answer.JournalAnswer.{JournalAnswer}
-use Rattle.script_replay.specs.Dialogues.{Dialogue, reply_of}
+use Rattle.line_forms.specs.Dialogues.{Dialogue, reply_of}
 use Rattle.journal_replay.specs.Journaled.{journal_said, stop_refused}
 
 -- the images of each house's journal, the oldest first

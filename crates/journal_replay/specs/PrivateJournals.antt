@@ -1,5 +1,5 @@
 -- Words of private contracts: the parts of the work on a line of the form `journal`.
-use Rattle.std.specs.Prelude.{◌≡◌, ℕ, ◌≤◌, Bool, true, false, if◌then◌else◌, List, [], ◌∷◌, Option, Some, None, Result, Ok, Err}
+use Rattle.std.specs.Prelude.{◌≡◌, ℕ, ◌≤◌, Bool, true, false, if◌then◌else◌, List, [], ◌∷◌, Option, Some, None, Result, Ok, Err, OnOk}
 use Rattle.house_journal.specs.MemoryDisks.{MemState}
 use Rattle.cell_model.specs.Cells.{Cell}
 use Rattle.cell_model.specs.Sets.{has}
@@ -17,7 +17,7 @@ use Rattle.cds_cell.specs.ModelCells.{Stands}
 use Rattle.script_replay.specs.Replies.{Said}
 use Rattle.journal_replay.specs.Journaled.{journal_said, stop_refused}
 use Rattle.journal_replay.specs.CellJournals.{JournaledCell, Lists, Put, acting_houses, lacks_room, puts_in, puts_of, state_after, with_put, with_puts}
-use Rattle.journal_replay.specs.CellDisks.{ArePutting, GiveImages, HoldAll}
+use Rattle.journal_replay.specs.CellDisks.{AreKept, ArePutting, AreUsable, GiveImages, HoldAll}
 use Rattle.journal_replay.specs.Keeping.{StandsKeeper}
 use Rattle.disk_journals.specs.declared.faults.Unkept.{Unkept}
 use Rattle.disk_journals.specs.declared.faults.Unkept.TheVariants.{Full, OutOfMemory}
@@ -40,6 +40,13 @@ abbrev pub Tells : {A : Type 0} → Result A Unkept → (before after : Bool) �
 Tells (Ok x) before after = after ≡ before
 Tells (Err Full) before after = after ≡ true
 Tells (Err OutOfMemory) before after = after ≡ before
+
+-- each journal is open on its disk, unless the work was given up; and no disk is set to stop, if
+-- none was before
+abbrev pub KeepsDisks : {A : Type 0} → Result A Unkept → (old new : Keeper) → Type 0
+KeepsDisks r old new =
+    OnOk r (AreKept new.houses.items new.disks.items)
+    × (AreUsable old.disks.items → AreUsable new.disks.items)
 
 -- images were put, each in its journal, which had room; or this was given up
 abbrev pub PutsAll : Result (Unit {0}) Unkept → List MemState → Lists → List Put → Type 0

@@ -1,5 +1,5 @@
 // A cell whose houses put their images into journals, and what it replies to a line.
-ghost use Rattle.std.specs.Prelude.{◌≡◌, ◌≢◌, ◌++◌, ◌+◌, ◌<◌, ◌≤◌, [], true, false, None, Some, Err, IfOk, IfSome, IfNone, OnOk, OnErr, replicate};
+ghost use Rattle.std.specs.Prelude.{ℕ, ◌≡◌, ◌≢◌, ◌++◌, ◌+◌, ◌<◌, ◌≤◌, [], true, false, None, Some, Err, IfOk, IfSome, IfNone, OnOk, OnErr, replicate};
 ghost use Rattle.std.specs.Option.{option_map};
 ghost use Rattle.cds_base.specs.declared.scan.TheConstants.{MOST_LINES};
 ghost use Rattle.cell_model.specs.Cells as model;
@@ -16,7 +16,7 @@ ghost use Rattle.journal_replay.specs.CellDisks.{AreKept, AreNew, AreUsable, Hol
 ghost use Rattle.journal_replay.specs.CellJournals.{JournaledCell, Lists, empty_state, lacks_room, puts_of};
 ghost use Rattle.journal_replay.specs.DiskCalls.{LineCalls, OpensJournal, PlainCalls};
 ghost use Rattle.journal_replay.specs.Keeping.{StandsKeeper};
-ghost use Rattle.journal_replay.specs.PrivateJournals.{Does, IsGiven, PutsAll, Replies, Tells, is_refusal};
+ghost use Rattle.journal_replay.specs.PrivateJournals.{Does, IsGiven, KeepsDisks, PutsAll, Replies, Tells, is_refusal};
 ghost use Rattle.disk_journals.specs.declared.faults.Unkept.TheVariants as why;
 
 use crate::images::image_of;
@@ -67,6 +67,17 @@ fn is_refusal(answer: &Answer) -> bool
     ensures { result ≡ is_refusal answer.now }
 {
     matches!(answer, Answer::Refused(_))
+}
+
+// The octets that a journal gives, as an answer.
+fn image_answer(given: Option<Vec<u8>>) -> Answer
+    ensures { (g : model.Cell) (h : ℕ) → IsGiven (option_map (λ v. v.items) given) g h → 1 ≤ h
+        → result ≡ asked_of g h (answer.Octets (octets_at g h)) }
+{
+    match given {
+        Some(image) => Answer::Octets(Octets::of(image)),
+        None => Answer::Refused(ScriptRefusal::NoHouse),
+    }
 }
 
 // A house has a disk. (A law: it does nothing.)
@@ -127,14 +138,16 @@ impl Keeper {
             → Replies result self.new s line }
         ensures calls { (s : JournaledCell) → StandsKeeper self.old s
             → OnOk result (LineCalls s line self.old.disks.items self.new.disks.items) }
-        ensures kept { OnOk result (AreKept self.new.houses.items self.new.disks.items) }
-        ensures usable { AreUsable self.old.disks.items → AreUsable self.new.disks.items }
+        ensures stay { KeepsDisks result self.old self.new }
         ensures full { Tells result self.old.full self.new.full }
         ensures steps { self.new.replayer.steps ≤ self.old.replayer.steps + 1 }
     {
         match line {
             JournalLine::Plain(line) => Ok(JournalAnswer::Plain(self.reply_plain(alloc, line)?)),
-            JournalLine::Image(house) => Ok(JournalAnswer::Plain(self.image(alloc, house)?)),
+            JournalLine::Image(house) => {
+                let image = self.reopened(alloc, house)?;
+                Ok(JournalAnswer::Plain(image_answer(image)))
+            }
             JournalLine::Stop {
                 house,
                 call,
@@ -152,8 +165,7 @@ impl Keeper {
             → Does result self.new s (said_of s.cell line) }
         ensures calls { (s : JournaledCell) → StandsKeeper self.old s
             → OnOk result (PlainCalls s line self.old.disks.items self.new.disks.items) }
-        ensures kept { OnOk result (AreKept self.new.houses.items self.new.disks.items) }
-        ensures usable { AreUsable self.old.disks.items → AreUsable self.new.disks.items }
+        ensures stay { KeepsDisks result self.old self.new }
         ensures full { Tells result self.old.full self.new.full }
         ensures steps { self.new.replayer.steps ≤ self.old.replayer.steps + 1 }
     {
@@ -170,8 +182,7 @@ impl Keeper {
         requires kept { AreKept self.old.houses.items self.old.disks.items }
         ensures does { (s : JournaledCell) → StandsKeeper self.old s
             → Does result self.new s (said_of s.cell (script.Cell command)) }
-        ensures kept { OnOk result (AreKept self.new.houses.items self.new.disks.items) }
-        ensures usable { AreUsable self.old.disks.items → AreUsable self.new.disks.items }
+        ensures stay { KeepsDisks result self.old self.new }
         ensures full { Tells result self.old.full self.new.full }
         ensures steps { self.new.replayer.steps ≤ self.old.replayer.steps + 1 }
     {
@@ -193,8 +204,7 @@ impl Keeper {
         requires kept { AreKept self.old.houses.items self.old.disks.items }
         ensures does { (s : JournaledCell) → StandsKeeper self.old s
             → Does result self.new s (question_said s.cell question.now) }
-        ensures kept { OnOk result (AreKept self.new.houses.items self.new.disks.items) }
-        ensures usable { AreUsable self.old.disks.items → AreUsable self.new.disks.items }
+        ensures stay { KeepsDisks result self.old self.new }
         ensures full { Tells result self.old.full self.new.full }
         ensures steps { self.new.replayer.steps ≤ self.old.replayer.steps + 1 }
     {
@@ -217,14 +227,13 @@ impl Keeper {
         second: Option<HouseNo>,
     ) -> Result<(), Unkept>
         requires kept { AreKept self.old.houses.items self.old.disks.items }
-        ensures same { self.new.replayer ≡ self.old.replayer }
-        ensures kept { OnOk result (AreKept self.new.houses.items self.new.disks.items) }
-        ensures usable { AreUsable self.old.disks.items → AreUsable self.new.disks.items }
-        ensures full { Tells result self.old.full self.new.full }
         ensures puts { (g : model.Cell) (lists : Lists) → Stands self.old.replayer.cell g
             → HoldAll self.old.disks.items lists
             → PutsAll result self.new.disks.items lists
             (puts_of g (one_or_none first ++ one_or_none second) lists) }
+        ensures same { self.new.replayer ≡ self.old.replayer }
+        ensures stay { KeepsDisks result self.old self.new }
+        ensures full { Tells result self.old.full self.new.full }
     {
         self.keep_one(alloc, first)?;
         self.keep_one(alloc, second)
@@ -233,13 +242,12 @@ impl Keeper {
     // A house puts its image, if that is another than the last in its journal.
     fn keep_one(&mut self, alloc: Global, house: Option<HouseNo>) -> Result<(), Unkept>
         requires kept { AreKept self.old.houses.items self.old.disks.items }
-        ensures same { self.new.replayer ≡ self.old.replayer }
-        ensures kept { OnOk result (AreKept self.new.houses.items self.new.disks.items) }
-        ensures usable { AreUsable self.old.disks.items → AreUsable self.new.disks.items }
-        ensures full { Tells result self.old.full self.new.full }
         ensures puts { (g : model.Cell) (lists : Lists) → Stands self.old.replayer.cell g
             → HoldAll self.old.disks.items lists
             → PutsAll result self.new.disks.items lists (puts_of g (one_or_none house) lists) }
+        ensures same { self.new.replayer ≡ self.old.replayer }
+        ensures stay { KeepsDisks result self.old self.new }
+        ensures full { Tells result self.old.full self.new.full }
     {
         let Some(house) = house else {
             return Ok(());
@@ -265,8 +273,7 @@ impl Keeper {
         requires place { at < DISKS }
         requires kept { AreKept self.old.houses.items self.old.disks.items }
         ensures same { self.new.replayer ≡ self.old.replayer }
-        ensures kept { OnOk result (AreKept self.new.houses.items self.new.disks.items) }
-        ensures usable { AreUsable self.old.disks.items → AreUsable self.new.disks.items }
+        ensures stay { KeepsDisks result self.old self.new }
         ensures full { Tells result self.old.full self.new.full }
         ensures puts { (g : model.Cell) (lists : Lists) → octets_at g house.0 ≡ image.items
             → has house.0 g.made ≡ true → HoldAll self.old.disks.items lists
@@ -291,8 +298,7 @@ impl Keeper {
             → OnOk result (OpensJournal s house.0 self.old.disks.items self.new.disks.items) }
         ensures disks { (lists : Lists) → HoldAll self.old.disks.items lists
             → HoldAll self.new.disks.items lists }
-        ensures kept { OnOk result (AreKept self.new.houses.items self.new.disks.items) }
-        ensures usable { AreUsable self.old.disks.items → AreUsable self.new.disks.items }
+        ensures stay { KeepsDisks result self.old self.new }
         ensures full { Tells result self.old.full self.new.full }
         ensures memory { result ≢ Err why.Full }
     {
@@ -309,29 +315,6 @@ impl Keeper {
         }
     }
 
-    // The octets that the journal of a house gives.
-    fn image(&mut self, alloc: Global, house: HouseNo) -> Result<Answer, Unkept>
-        requires first { 1 ≤ house.0 }
-        requires kept { AreKept self.old.houses.items self.old.disks.items }
-        ensures same { self.new.replayer ≡ self.old.replayer }
-        ensures answer { (s : JournaledCell) → StandsKeeper self.old s
-            → IfOk result
-            (λ a. a ≡ asked_of s.cell house.0 (answer.Octets (octets_at s.cell house.0))) }
-        ensures calls { (s : JournaledCell) → StandsKeeper self.old s
-            → OnOk result (OpensJournal s house.0 self.old.disks.items self.new.disks.items) }
-        ensures disks { (lists : Lists) → HoldAll self.old.disks.items lists
-            → HoldAll self.new.disks.items lists }
-        ensures kept { OnOk result (AreKept self.new.houses.items self.new.disks.items) }
-        ensures usable { AreUsable self.old.disks.items → AreUsable self.new.disks.items }
-        ensures full { Tells result self.old.full self.new.full }
-        ensures memory { result ≢ Err why.Full }
-    {
-        match self.reopened(alloc, house)? {
-            Some(image) => Ok(Answer::Octets(Octets::of(image))),
-            None => Ok(Answer::Refused(ScriptRefusal::NoHouse)),
-        }
-    }
-
     // A house starts from what its journal gives.
     fn start(&mut self, alloc: Global, house: HouseNo) -> Result<Answer, Unkept>
         requires few { self.old.replayer.steps < MOST_LINES }
@@ -340,8 +323,7 @@ impl Keeper {
             → Does result self.new s (said_of s.cell (script.Cell (command.Start house))) }
         ensures calls { (s : JournaledCell) → StandsKeeper self.old s
             → OnOk result (OpensJournal s house.0 self.old.disks.items self.new.disks.items) }
-        ensures kept { OnOk result (AreKept self.new.houses.items self.new.disks.items) }
-        ensures usable { AreUsable self.old.disks.items → AreUsable self.new.disks.items }
+        ensures stay { KeepsDisks result self.old self.new }
         ensures full { Tells result self.old.full self.new.full }
         ensures steps { self.new.replayer.steps ≤ self.old.replayer.steps + 1 }
     {

@@ -14,13 +14,13 @@ ghost use Rattle.cell_script.specs.declared.command.Command as script;
 ghost use Rattle.script_answers.specs.declared.answer.Answer as plain;
 ghost use Rattle.journal_replay.specs.Journaled.{stop_refused};
 ghost use Rattle.journal_forms.specs.declared.journal_line.JournalLine.TheVariants as line;
-ghost use Rattle.journal_replay.specs.CellDisks.{AreKept, AreUsable, HoldAll};
+ghost use Rattle.journal_replay.specs.CellDisks.{AreKept, HoldAll};
 ghost use Rattle.disk_journals.specs.KeptJournals.{HoldsEither, IsKept, StopsAndOpens, is_last, size_of, stops_after};
 ghost use Rattle.disk_journals.specs.declared.faults.Unkept.TheVariants as why;
 ghost use Rattle.journal_replay.specs.CellJournals.{JournaledCell, Lists, lacks_room, puts_in};
 ghost use Rattle.journal_replay.specs.DiskCalls.{IsStopped, LineCalls, UsesDisk};
 ghost use Rattle.journal_replay.specs.Keeping.{StandsKeeper};
-ghost use Rattle.journal_replay.specs.PrivateJournals.{HasDone, Replies, StopsPut, Tells, answered_unless};
+ghost use Rattle.journal_replay.specs.PrivateJournals.{HasDone, KeepsDisks, Replies, StopsPut, Tells, answered_unless};
 
 use crate::images::image_of;
 use crate::keeper::{Keeper, full_after, place_of};
@@ -122,8 +122,7 @@ impl Keeper {
         ensures calls { (s : JournaledCell) → StandsKeeper self.old s
             → OnOk result (LineCalls s (line.Stop house call leave command) self.old.disks.items
             self.new.disks.items) }
-        ensures kept { OnOk result (AreKept self.new.houses.items self.new.disks.items) }
-        ensures usable { AreUsable self.old.disks.items → AreUsable self.new.disks.items }
+        ensures stay { KeepsDisks result self.old self.new }
         ensures full { Tells result self.old.full self.new.full }
         ensures steps { self.new.replayer.steps ≤ self.old.replayer.steps + 1 }
     {
@@ -181,8 +180,7 @@ impl Keeper {
             → HasDone self.old s house.0 (step_of c) mark
             → OnOk result (LineCalls s (line.Stop house call leave c) self.old.disks.items
             self.new.disks.items) }
-        ensures kept { OnOk result (AreKept self.new.houses.items self.new.disks.items) }
-        ensures usable { AreUsable self.old.disks.items → AreUsable self.new.disks.items }
+        ensures stay { KeepsDisks result self.old self.new }
         ensures full { Tells result self.old.full self.new.full }
         ensures steps { self.new.replayer.steps ≡ self.old.replayer.steps }
     {
@@ -226,8 +224,7 @@ impl Keeper {
             → image_after s.cell house.0 (step_of c) ≡ Some image.items
             → OnOk result (UsesDisk (IsStopped image.items call leave) house.0
             self.old.disks.items self.new.disks.items) }
-        ensures kept { OnOk result (AreKept self.new.houses.items self.new.disks.items) }
-        ensures usable { AreUsable self.old.disks.items → AreUsable self.new.disks.items }
+        ensures stay { KeepsDisks result self.old self.new }
         ensures full { Tells result self.old.full self.new.full }
         ensures steps { self.new.replayer.steps ≡ self.old.replayer.steps }
     {
@@ -270,8 +267,7 @@ impl Keeper {
             → lists house.0 ≢ []
             → OnOk result (UsesDisk (IsStopped image.items call leave) house.0
             self.old.disks.items self.new.disks.items) }
-        ensures kept { OnOk result (AreKept self.new.houses.items self.new.disks.items) }
-        ensures usable { AreUsable self.old.disks.items → AreUsable self.new.disks.items }
+        ensures stay { KeepsDisks result self.old self.new }
         ensures full { Tells result self.old.full self.new.full }
     {
         let Some(at) = place_of(house) else {

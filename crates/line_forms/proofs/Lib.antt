@@ -6,3 +6,4 @@ pub mod Turns
 pub mod LinesLeft
 pub mod Calm
 pub mod Holding
+pub mod Saying

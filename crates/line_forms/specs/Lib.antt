@@ -4,3 +4,5 @@ pub mod Runs
 pub mod Endings
 pub mod Leaving
 pub mod Lines
+pub mod Dialogues
+pub mod LineRules

@@ -3,11 +3,13 @@
 //! there are.
 #![tactic(auto)]
 
+mod dialogue_form;
 mod endings;
 pub mod laws;
 mod line_form;
 mod serving;
 
+pub use dialogue_form::{DialogueForm, Said};
 pub use endings::{Status, finish, stop_with};
 pub use line_form::LineForm;
 pub use serving::{serve_form, serve_lines};

@@ -1,6 +1,5 @@
 // The run of a form that answers line by line.
 ghost use Rattle.std.specs.Prelude.{◌≡◌, ◌≢◌};
-ghost use Rattle.cds_base.specs.Lines.{IsFresh};
 ghost use Rattle.line_forms.specs.Readings.{by_lines};
 ghost use Rattle.cds_base.specs.RunEnds.{run_of};
 ghost use Rattle.line_forms.specs.Runs.{Ended};
@@ -54,43 +53,6 @@ fn stop_at<F: LineForm, K: Sink>(
     }
 }
 
-// Answers each line of the source, up to the first faulty one.
-fn answer_lines<F: LineForm, S: Source, K: Sink>(
-    alloc: Global,
-    form: &mut F,
-    lines: &mut Lines,
-    source: &mut S,
-    sink: &mut K,
-) -> Status
-    requires fresh { IsFresh lines.old }
-    requires start { F.counted form.old ≡ 0 }
-    ensures ends { (state : F.State) → F.is_at form.old state → Ended (by_lines F.rule state)
-        (run_of S.Source K.Sink source.old source.new sink.old sink.new) result }
-    ensures leaves { (state : F.State) → F.is_at form.old state
-        → Leaves F.rule (F.is_kept form.new) (F.is_broken form.new) state
-        (run_of S.Source K.Sink source.old source.new sink.old sink.new) result }
-    ensures holds { (state : F.State) → F.is_at form.old state → F.holds LineEnd.GoesOn form.old
-        → HoldsAt (λ end. F.holds end form.new) result }
-{
-    let mut waiting = Waiting::new(alloc);
-    'lines: loop {
-        let ready = lines.has_line();
-        let Ok(()) = waiting.flush_before(ready, sink) else {
-            return Status::WriteFault;
-        };
-        match lines.next(source) {
-            Ok(Some(line)) => match form.answer(alloc, line.number, line.octets, &mut waiting) {
-                LineEnd::GoesOn => {}
-                LineEnd::Stops => return finish(&mut waiting, sink, Status::BadInput),
-                LineEnd::NoMemory => return finish(&mut waiting, sink, Status::OutOfMemory),
-                LineEnd::Full => return finish(&mut waiting, sink, Status::JournalFull),
-            },
-            Ok(None) => return stop_at_end(alloc, form, &mut waiting, sink),
-            Err(fault) => return stop_at(alloc, form, fault, &mut waiting, sink),
-        }
-    }
-}
-
 /// Answers the lines of the source from the form's start on: up to the end of the input, the first
 /// fault, or the first line from which the form does not go on. A reply is written at the latest
 /// before the source is read again. The form is left as it is after its last line.
@@ -109,9 +71,25 @@ pub fn serve_form<F: LineForm, S: Source, K: Sink>(
     ensures holds { (state : F.State) → F.is_at form.old state → F.holds LineEnd.GoesOn form.old
         → HoldsAt (λ end. F.holds end form.new) result }
 {
-    match Lines::new(alloc) {
-        Ok(mut lines) => answer_lines(alloc, form, &mut lines, source, sink),
-        Err(AllocError) => Status::OutOfMemory,
+    let Ok(mut lines) = Lines::new(alloc) else {
+        return Status::OutOfMemory;
+    };
+    let mut waiting = Waiting::new(alloc);
+    'lines: loop {
+        let ready = lines.has_line();
+        let Ok(()) = waiting.flush_before(ready, sink) else {
+            return Status::WriteFault;
+        };
+        match lines.next(source) {
+            Ok(Some(line)) => match form.answer(alloc, line.number, line.octets, &mut waiting) {
+                LineEnd::GoesOn => {}
+                LineEnd::Stops => return finish(&mut waiting, sink, Status::BadInput),
+                LineEnd::NoMemory => return finish(&mut waiting, sink, Status::OutOfMemory),
+                LineEnd::Full => return finish(&mut waiting, sink, Status::JournalFull),
+            },
+            Ok(None) => return stop_at_end(alloc, form, &mut waiting, sink),
+            Err(fault) => return stop_at(alloc, form, fault, &mut waiting, sink),
+        }
     }
 }
 

@@ -10,7 +10,7 @@ use Rattle.cell_model.specs.Cells.{Cell, empty_cell}
 use Rattle.cell_model.specs.Steps.{replay_from}
 use Rattle.cell_model.proofs.Runs.{replay-append}
 use Rattle.cell_script.specs.Words.{most_directory, number_of, number_to}
-use Rattle.script_replay.specs.Dialogues.{transcript_by}
+use Rattle.line_forms.specs.Dialogues.{transcript_by}
 use Rattle.mend_replay.specs.Quiet.{running_quietly}
 use Rattle.script_replay.specs.Replies.{Numbered, steps_of}
 use Rattle.line_forms.specs.Demand.{Demand, Sound, line_demand}

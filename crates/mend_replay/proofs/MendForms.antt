@@ -14,7 +14,7 @@ use Rattle.reply_buffer.specs.declared.replies.LineEnd.{LineEnd}
 use Rattle.reply_buffer.specs.declared.replies.LineEnd.TheVariants as line
 use Rattle.reply_buffer.specs.LineEnds.{Ends}
 use Rattle.reply_buffer.specs.Responses.{ResponseOf, GoesOn, Stops, Fills, in_state}
-use Rattle.script_replay.specs.Dialogues.{reply_of}
+use Rattle.line_forms.specs.Dialogues.{reply_of}
 use Rattle.mend_replay.specs.MendLines.{mend_text}
 use Rattle.mend_replay.specs.MendRules.{MendState, MendsAt, mend_rule, mend_state}
 use Rattle.mend_replay.specs.Quiet.{running_quietly}

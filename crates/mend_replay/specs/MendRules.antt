@@ -8,7 +8,7 @@ use Rattle.house_directory.specs.HouseMessages.{numbers_of}
 use Rattle.reply_buffer.specs.FaultTexts.{line_fault_text}
 use Rattle.reply_buffer.specs.Responses.{in_state}
 use Rattle.line_forms.specs.Demand.{LineRule}
-use Rattle.script_replay.specs.Dialogues.{reply_of}
+use Rattle.line_forms.specs.Dialogues.{reply_of}
 use Rattle.mend_replay.specs.MendLines.{mend_text}
 use Rattle.mend_replay.specs.Quiet.{running_quietly}
 use Rattle.mend_replay.specs.declared.mender.Mender.{Mender}

@@ -3,7 +3,7 @@ use Rattle.std.specs.Prelude.{[]}
 use Rattle.cell_model.specs.Cells.{Cell}
 use Rattle.cell_script.specs.CommandRows.{said_in}
 use Rattle.cell_script.specs.declared.command.ScriptLine.{ScriptLine}
-use Rattle.script_replay.specs.Dialogues.{Dialogue}
+use Rattle.line_forms.specs.Dialogues.{Dialogue}
 use Rattle.script_replay.specs.Replies.{cell_after}
 
 -- a cell replays what each line says, as `run` does, and no line is answered

@@ -25,7 +25,7 @@ impl Mender {
     ghost use Rattle.cell_script.specs.CommandRows.{said_in};
     ghost use Rattle.cds_cell.specs.ModelCells.{Stands};
     ghost use Rattle.house_directory.specs.HouseMessages.{numbers_of};
-    ghost use Rattle.script_replay.specs.Dialogues.{reply_of};
+    ghost use Rattle.line_forms.specs.Dialogues.{reply_of};
     ghost use Rattle.script_replay.specs.Replies.{cell_after};
     ghost use Rattle.mend_replay.specs.MendLines.{mend_text};
     ghost use Rattle.mend_replay.specs.Menders.{Mends, UnlessNoMemory};

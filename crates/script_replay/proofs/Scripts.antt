@@ -17,8 +17,8 @@ use Rattle.cds_base.specs.RunEnds.{Run}
 use Rattle.line_forms.specs.Runs.{Wrote, IsWhole}
 use Rattle.line_forms.proofs.Scanning.{scanned, demanded_scanned, clean_more, is_ten, no_ten}
 use Rattle.line_forms.proofs.Demands.{demand_line, demand_part}
-use Rattle.script_replay.specs.Dialogues.{Dialogue, NumberedOf, reply_of, transcript_by}
-use Rattle.script_replay.specs.LineRules.{dialogue_rule}
+use Rattle.line_forms.specs.Dialogues.{Dialogue, NumberedOf, reply_of, transcript_by}
+use Rattle.line_forms.specs.LineRules.{dialogue_rule}
 use Rattle.script_replay.specs.Replies.{run_dialogue}
 use Rattle.script_replay.specs.Scripts.{Says, IsScriptOf, IsReplay, IsReplayBy, state_after_lines}
 use Rattle.cell_model.proofs.Agreeing.{converges_lem}

@@ -1,15 +1,11 @@
--- How `run` replies to a line.
-use Rattle.std.specs.Prelude.{◌≡◌, ℕ, List, Some}
+-- What `run` replies to a line.
+use Rattle.std.specs.Prelude.{◌≡◌, Some}
 use Rattle.cell_model.specs.Cells as model
 use Rattle.cell_model.specs.Steps.{replay_from}
 use Rattle.cell_script.specs.declared.command.ScriptLine.{ScriptLine}
 use Rattle.script_answers.specs.declared.answer.Answer.{Answer}
 use Rattle.cds_cell.specs.declared.cell.Cell.{Cell}
 use Rattle.cds_cell.specs.ModelCells.{Stands}
-use Rattle.reply_buffer.specs.declared.replies.LineEnd.{LineEnd}
-use Rattle.reply_buffer.specs.Responses.{ResponseOf}
-use Rattle.reply_buffer.specs.LineEnds.{Ends}
-use Rattle.script_replay.specs.declared.replayer.Replayer.{Replayer}
 use Rattle.script_replay.specs.Replies.{Said, said_of}
 
 -- an answer and a cell are those of what is done to the model's
@@ -20,7 +16,3 @@ pub record IsDone (a : Answer) (c : Cell) (g : model.Cell) (said : Said) : Type 
 -- a reply and a cell are those of the model after a line
 abbrev pub IsReply : Answer → Cell → model.Cell → ScriptLine → Type 0
 IsReply a c g l = IsDone a c g (said_of g l)
-
--- the cell goes on as the model's after the line
-abbrev pub Replays : LineEnd → ResponseOf model.Cell → (waited waits : List ℕ) → Replayer → Type 0
-Replays end r waited waits replayer = Ends end r waited waits (Stands replayer.cell)

@@ -15,7 +15,7 @@ use Rattle.server_entries.specs.declared.client.Wanted.{Wanted}
 use Rattle.ns_import.specs.Imports.{IsImport}
 use Rattle.cds_cell.specs.Readings.{cell_reader}
 use Rattle.cds_cell.specs.Scripted.{step_of}
-use Rattle.script_replay.specs.Dialogues.{NumberedOf}
+use Rattle.line_forms.specs.Dialogues.{NumberedOf}
 use Rattle.script_replay.specs.Replies.{Numbered, reply_to, steps_of}
 
 -- the commands of the model that lines make from a cell on, of whichever form the lines are (own)

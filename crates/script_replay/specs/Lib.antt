@@ -1,4 +1,3 @@
-pub mod Dialogues
 pub mod Replies
 pub mod Answering
 pub mod Loading
@@ -9,6 +8,5 @@ pub mod QuestionReplies
 pub mod PrivateSaid
 pub mod PrivateRecords
 pub mod PrivateKinds
-pub mod LineRules
 pub mod Headline
 pub mod Scripts

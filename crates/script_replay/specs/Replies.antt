@@ -41,7 +41,7 @@ use Rattle.record_fields.specs.declared.fault.RecordFault.{RecordFault}
 use Rattle.cds_messages.specs.Messages.{tag_of}
 use Rattle.cds_records.specs.Records.{message}
 use Rattle.record_fields.specs.Decoding.{decode_by}
-use Rattle.script_replay.specs.Dialogues.{Dialogue, NumberedOf, transcript_by}
+use Rattle.line_forms.specs.Dialogues.{Dialogue, NumberedOf, transcript_by}
 
 -- the values of an attribute of the entry that is found (own)
 abbrev pub values_read : Reader → (attr : List ℕ) → Result Found Refusal → Answer

@@ -13,7 +13,7 @@ use Rattle.cell_script.specs.CommandRows.{said_in}
 use Rattle.script_replay.specs.Headline.{Finds, TellsCompleted, cell_after_script, commands_of}
 use Rattle.line_forms.specs.Leaving.{text_of}
 use Rattle.cds_base.specs.RunEnds.{Run}
-use Rattle.script_replay.specs.Dialogues.{Dialogue, NumberedOf, transcript_by}
+use Rattle.line_forms.specs.Dialogues.{Dialogue, NumberedOf, transcript_by}
 use Rattle.script_replay.specs.Replies.{Numbered, run_dialogue}
 
 -- what line number says is in front of what the lines after it say, if it says anything

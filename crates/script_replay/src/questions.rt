@@ -33,6 +33,7 @@ use script_answers::{Answer, ScriptRefusal, Values};
 use server_entries::Wanted;
 use std::alloc::{AllocError, Global};
 use tower_codec::Interface;
+use uuid::Uuid;
 
 /// What a cell says to a question.
 pub fn reply_to_question(
@@ -45,6 +46,7 @@ pub fn reply_to_question(
     ensures up { IfOk result (λ r. ActsAtUp r cell.now) }
 {
     cells_tell_the_model();
+    asked_houses_accept();
     match question {
         Question::Read(house, high, name, attr) => {
             told(read(alloc, cell, *house, *high, name, attr))
@@ -56,29 +58,21 @@ pub fn reply_to_question(
         Question::Unexport(name, interface, objects) => {
             reply_to_unexport(alloc, cell, name, interface.as_ref(), objects)
         }
-        Question::Groupadd(name, member) => reply_to_groupadd(alloc, cell, name, member),
-        Question::Groupdel(name, member) => reply_to_groupdel(alloc, cell, name, member),
+        Question::Groupadd(name, member) => {
+            asked(add_member(alloc, &reader_of_masters(cell), name, member))
+        }
+        Question::Groupdel(name, member) => {
+            asked(delete_member(alloc, &reader_of_masters(cell), name, member))
+        }
         Question::Profadd(name, interface, member, priority, note) => {
-            reply_to_profadd(
-                alloc,
-                cell,
-                name,
-                interface.as_ref(),
-                member,
-                *priority,
-                note,
-            )
+            let interface = interface.as_ref();
+            reply_to_profadd(alloc, cell, name, interface, member, *priority, note)
         }
         Question::Profdel(name, interface, member) => {
             reply_to_profdel(alloc, cell, name, interface.as_ref(), member)
         }
         Question::Import(house, high, name, interface, object, tcp, udp) => {
-            let wanted = Wanted {
-                interface: *interface,
-                object: *object,
-                tcp: *tcp,
-                udp: *udp,
-            };
+            let wanted = wanted_by(*interface, *object, *tcp, *udp);
             told(import_bindings(alloc, cell, *house, *high, name, wanted))
         }
         Question::Dump(house, dir) => told(dump(alloc, cell, *house, *dir)),
@@ -150,38 +144,6 @@ fn reply_to_unexport(
     ))
 }
 
-fn reply_to_groupadd(
-    alloc: Global,
-    cell: &Cell,
-    name: &FullName,
-    member: &FullName,
-) -> Result<Reply, AllocError>
-    ensures said { (g : model.Cell) → Stands cell.now g
-        → IfOk result
-        (λ r. IsSaid r g (does g (ask.add_member (trusted_reader g) name.now member.now))) }
-    ensures up { IfOk result (λ r. ActsAtUp r cell.now) }
-{
-    cells_tell_the_model();
-    asked_houses_accept();
-    asked(add_member(alloc, &reader_of_masters(cell), name, member))
-}
-
-fn reply_to_groupdel(
-    alloc: Global,
-    cell: &Cell,
-    name: &FullName,
-    member: &FullName,
-) -> Result<Reply, AllocError>
-    ensures said { (g : model.Cell) → Stands cell.now g
-        → IfOk result
-        (λ r. IsSaid r g (does g (ask.delete_member (trusted_reader g) name.now member.now))) }
-    ensures up { IfOk result (λ r. ActsAtUp r cell.now) }
-{
-    cells_tell_the_model();
-    asked_houses_accept();
-    asked(delete_member(alloc, &reader_of_masters(cell), name, member))
-}
-
 fn reply_to_profadd(
     alloc: Global,
     cell: &Cell,
@@ -224,6 +186,18 @@ fn reply_to_profdel(
     cells_tell_the_model();
     asked_houses_accept();
     asked(delete_element(alloc, &reader_of_masters(cell), name, interface, member))
+}
+
+// What a search for bindings wants.
+fn wanted_by(interface: Interface, object: Uuid, tcp: bool, udp: bool) -> Wanted
+    ensures { result ≡ record { interface = interface; object = object; tcp = tcp; udp = udp } }
+{
+    Wanted {
+        interface,
+        object,
+        tcp,
+        udp,
+    }
 }
 
 fn import_bindings(

@@ -6,10 +6,9 @@ use crate::questions::reply_to_question;
 use crate::said::{Reply, answer_to_updates};
 use cds_cell::laws::accepted_updates_are_commands;
 use cds_cell::{Cell, Mark};
-use cds_stamps::{AllocOr, HouseNo};
-use cell_script::{Command, Question, ScriptLine, parse_line};
+use cds_stamps::HouseNo;
+use cell_script::{Command, Question, ScriptLine};
 use ns_commands::Updates;
-use reply_buffer::{LineEnd, Waiting, reply_to_fault};
 use script_answers::Answer;
 use std::alloc::{AllocError, Global};
 
@@ -24,14 +23,12 @@ pub struct Replayer {
 }
 
 impl Replayer {
-    ghost use Rattle.std.specs.Prelude.{◌≡◌, ◌++◌, ◌∷◌, ◌+◌, ◌<◌, ◌≤◌, [], true, Some, Ok, IfOk, OnOk, OnErr};
+    ghost use Rattle.std.specs.Prelude.{◌≡◌, ◌∷◌, ◌+◌, ◌<◌, ◌≤◌, [], true, Ok, IfOk, OnOk};
     ghost use Rattle.std.specs.Option.{option_map};
     ghost use Rattle.cds_base.specs.declared.scan.TheConstants.{MOST_LINES};
     ghost use Rattle.cell_model.specs.Cells as model;
     ghost use Rattle.cell_model.specs.Commands as command;
     ghost use Rattle.cell_model.specs.Steps.{outcome, replay_from};
-    ghost use Rattle.cell_script.specs.Words.{words_of};
-    ghost use Rattle.cell_script.specs.CommandRows.{said_in};
     ghost use Rattle.cell_script.specs.declared.command.ScriptLine.TheVariants as line;
     ghost use Rattle.cds_cell.specs.CellHouses.{is_up_state};
     ghost use Rattle.cds_cell.specs.declared.cell.Cell as cell;
@@ -40,9 +37,8 @@ impl Replayer {
     ghost use Rattle.cds_cell.specs.Scripted.{step_of};
     ghost use Rattle.cds_cell.specs.ModelCells.{IsStep, Stands, house_of};
     ghost use Rattle.ns_commands.specs.Asks.{changes_in};
-    ghost use Rattle.script_replay.specs.Dialogues.{reply_of};
-    ghost use Rattle.script_replay.specs.Replies.{cell_after, does, reply_text, run_dialogue};
-    ghost use Rattle.script_replay.specs.Answering.{IsDone, IsReply, Replays};
+    ghost use Rattle.script_replay.specs.Replies.{does};
+    ghost use Rattle.script_replay.specs.Answering.{IsDone, IsReply};
 
     /// Over a cell without houses. Takes no memory.
     pub fn new(alloc: Global) -> Replayer
@@ -61,68 +57,6 @@ impl Replayer {
         ensures { result.now ≡ self.now.cell }
     {
         &self.cell
-    }
-
-    /// Replays a line: its reply waits after the others.
-    pub fn replay_line(
-        &mut self,
-        alloc: Global,
-        number: u32,
-        line: &[u8],
-        waiting: &mut Waiting,
-    ) -> LineEnd
-        requires fewer { self.old.steps < number }
-        requires most { number ≤ MOST_LINES }
-        ensures reply { (g : model.Cell) → Stands self.old.cell g
-            → Replays result
-            (reply_of run_dialogue number g
-            (said_in (words_of line.now))) waiting.old waiting.new self.new }
-        ensures steps { self.new.steps ≤ number }
-    {
-        match parse_line(alloc, line) {
-            Ok(Some(line)) => self.reply_to_line(alloc, number, line, waiting),
-            Ok(None) => LineEnd::GoesOn,
-            Err(AllocOr::Fault(fault)) => reply_to_fault(alloc, number, fault, waiting),
-            Err(AllocOr::OutOfMemory) => LineEnd::NoMemory,
-        }
-    }
-
-    fn reply_to_line(
-        &mut self,
-        alloc: Global,
-        number: u32,
-        line: ScriptLine,
-        waiting: &mut Waiting,
-    ) -> LineEnd
-        requires few { self.old.steps < MOST_LINES }
-        ensures reply { (g : model.Cell) → Stands self.old.cell g
-            → Replays result
-            (reply_of run_dialogue number g (Ok (Some line))) waiting.old waiting.new self.new }
-        ensures steps { self.new.steps ≤ self.old.steps + 1 }
-    {
-        match self.answer(alloc, number, line, waiting) {
-            Ok(()) => LineEnd::GoesOn,
-            Err(AllocError) => LineEnd::NoMemory,
-        }
-    }
-
-    // The reply to a line waits after the others.
-    fn answer(
-        &mut self,
-        alloc: Global,
-        number: u32,
-        line: ScriptLine,
-        waiting: &mut Waiting,
-    ) -> Result<(), AllocError>
-        requires few { self.old.steps < MOST_LINES }
-        ensures ok { (g : model.Cell) → Stands self.old.cell g
-            → OnOk result ((waiting.new ≡ waiting.old ++ reply_text number g line)
-            × Stands self.new.cell (cell_after g line)) }
-        ensures err { OnErr result (waiting.new ≡ waiting.old) }
-        ensures steps { self.new.steps ≤ self.old.steps + 1 }
-    {
-        let answer = self.reply(alloc, line)?;
-        waiting.add_answer(alloc, number, &answer)
     }
 
     /// What the cell replies to a line.

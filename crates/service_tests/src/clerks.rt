@@ -1,8 +1,9 @@
 // A clerk over an object `e` and two links in memory, `l` to `m` and `m` to `e`: what it keeps
 // where answers change, and where memory is wanting.
 ghost use Rattle.std.specs.Prelude.{◌≡◌, ◌∷◌, [], true, IfOk};
+ghost use Rattle.cell_names.specs.ChildPointers.{pointer_in};
 ghost use Rattle.resolver.specs.ListedReaderProofs.{listed_shows_only};
-ghost use Rattle.resolver.specs.ListedReaders.{objects_in};
+ghost use Rattle.resolver.specs.ListedReaders.{at_one, objects_in};
 ghost use Rattle.service_tests.specs.ShelfReaders.{entries, shelf};
 
 use attr_sets::Value;
@@ -16,6 +17,16 @@ use std::test::Fail;
 
 // The house that has the root directory and the links.
 const HOUSE: HouseNo = HouseNo(1);
+
+// The root directory, at its house.
+fn root(alloc: Global) -> Result<ChildPointer, AllocError>
+    ensures { IfOk result (λ at. pointer_in at ≡ at_one 1) }
+{
+    Ok(ChildPointer {
+        dir: DirId::ROOT,
+        houses: HouseList::alone(alloc, HOUSE)?,
+    })
+}
 
 // The house that shows the object, where the links lead, the value of each attribute, and how many
 // calls are answered before memory is wanting.
@@ -37,10 +48,7 @@ impl EntryReader for Shelf {
 
     fn root(&self, alloc: Global) -> Result<Option<ChildPointer>, AllocError> {
         self.ask()?;
-        Ok(Some(ChildPointer {
-            dir: DirId::ROOT,
-            houses: HouseList::alone(alloc, HOUSE)?,
-        }))
+        Ok(Some(root(alloc)?))
     }
 
     fn lookup(
@@ -117,10 +125,7 @@ fn seen(
     high: bool,
     name: &[u8],
 ) -> Result<Option<u8>, Fail> {
-    let at = ChildPointer {
-        dir: DirId::ROOT,
-        houses: HouseList::alone(alloc, HOUSE)?,
-    };
+    let at = root(alloc)?;
     let name = SimpleName::parse(alloc, name)?;
     match clerk.lookup(alloc, reader, high, 7, &at, &name) {
         Ok(Seen::Object(house) | Seen::Link(house, _)) => Ok(Some(house.0)),
@@ -137,10 +142,7 @@ fn value(
     high: bool,
     name: &[u8],
 ) -> Result<Option<u8>, Fail> {
-    let at = ChildPointer {
-        dir: DirId::ROOT,
-        houses: HouseList::alone(alloc, HOUSE)?,
-    };
+    let at = root(alloc)?;
     let (name, attr) = (
         SimpleName::parse(alloc, name)?,
         AttrName::parse(alloc, b"A")?,

@@ -1,6 +1,6 @@
 use Rattle.clerk_replay.specs.Clerking.{clerk_dialogue, start}
 use Rattle.line_forms.proofs.Turns.{unread_lines}
-use Rattle.script_replay.specs.LineRules.{dialogue_rule}
+use Rattle.line_forms.specs.LineRules.{dialogue_rule}
 use Rattle.cell_replay.proofs.replay.serve_by_clerk.Goals as goal
 
 pub returns-in-Ok : goal.returns-in-Ok

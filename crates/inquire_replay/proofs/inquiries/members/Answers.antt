@@ -5,6 +5,6 @@ use Rattle.inquire_replay.proofs.inquiries.members.Goals as goal
 
 pub returns-then-has_house : goal.returns-then-has_house
 returns-then-has_house c g stands =
-    listed_there c.args.cell.now g c.args.house.0 c.args.high (λ reader. members_listed reader c.args.name.now) c.list_members.result
-    (c.cells_tell_the_model.ensures c.args.cell.now g stands (Some c.args.house.0) c.args.high)
+    listed_there c.args.at.cell.now g c.args.at.house.0 c.args.at.high (λ reader. members_listed reader c.args.name.now) c.list_members.result
+    (c.cells_tell_the_model.ensures c.args.at.cell.now g stands (Some c.args.at.house.0) c.args.at.high)
     (sym (c.has_house.ensures.model g stands) ∙ c.if-has_house.true) c.list_members.ensures

@@ -26,7 +26,7 @@ returns-in-Ok-Some-clause-next c =
     let there = slice_get_read logs _ place log refl (omega arith) c.index-logs-place.is in
     let old = c.loop-at.self in
     let h = c.loop-at.invariant.explained in
-    next_at old c.take_entry.new.self logs place log c.loop-at.at c.reason_at.result there c.loop-at.invariant.at c.take_entry.ensures.done (search rules)
+    next_at old c.take_entry.new.self logs place log c.loop-at.at c.reason_at.result there c.loop-at.invariant.at c.take_entry.ensures.rest.0 (search rules)
     c.reason_at.ensures.house c.reason_at.ensures.entry
 
 pub returns-in-Err-clause-stopped : goal.returns-in-Err-clause-stopped
@@ -57,12 +57,12 @@ loop-at-preserved c =
     let at = c.loop-at.at in
     let entry = c.index.result.now in
     let goes = rw c.in-Ok-None.field-0-is at (c.in-Ok-None.ensures.taken h.cs h.has_done (h.clocks place log there)) in
-    let done = done_set old mid place (at + 1) c.take_entry.ensures.done in
-    let count = done_is old mid logs place (at + 1) h (omega arith) c.take_entry.ensures.done in
+    let done = done_set old mid place (at + 1) c.take_entry.ensures.rest.0 in
+    let count = done_is old mid logs place (at + 1) h (omega arith) c.take_entry.ensures.rest.0 in
     let is = ap (slice_get log.entries.items) c.loop-at.invariant.at ∙ slice_get_read log.entries.items _ at entry refl (search rules) c.index.ensures in
     record {
       explained =
-          explained_more old _ logs place log entry h there is goes c.take_entry.ensures.others done
+          explained_more old _ logs place log entry h there is goes c.take_entry.ensures.rest.1 done
           (count ∙ ap (λ (n : ℕ). n + 1) (sym c.loop-at.invariant.at));
       at = count;
       others = same_more place _ old.done.items _ c.loop-at.invariant.others done;

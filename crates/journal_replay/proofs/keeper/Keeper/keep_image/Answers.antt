@@ -1,12 +1,16 @@
 use Rattle.std.proofs.Common.{◌<◌, length, arith}
 use Rattle.std.specs.Prelude.{slice_set}
 use Rattle.journal_replay.proofs.OneHouse.{get_is, house_lacks, house_puts, set_here, set_other}
+use Rattle.journal_replay.proofs.StopHouse.{kept_then}
 use Rattle.journal_replay.proofs.Usable.{set_usable}
 use Rattle.journal_replay.proofs.keeper.Keeper.keep_image.Goals as goal
 
-pub returns-clause-usable : goal.returns-clause-usable
-returns-clause-usable c usable =
-    set_usable c.args.self.now.disks.items c.args.at c.keep-put.new.disk c.requires.place c.keep-put.ensures.never usable
+pub returns-clause-stay : goal.returns-clause-stay
+returns-clause-stay c = (
+  kept_then c.keep-put.result c.args.self.now.houses.items c.args.self.now.disks.items c.args.at c.keep-put.new.house c.keep-put.new.disk
+      c.requires.kept c.requires.place c.keep-put.ensures.kept,
+  λ usable. set_usable c.args.self.now.disks.items c.args.at c.keep-put.new.disk c.requires.place c.keep-put.ensures.never usable,
+)
 
 pub returns-clause-puts : goal.returns-clause-puts
 returns-clause-puts c g lists is made hold =

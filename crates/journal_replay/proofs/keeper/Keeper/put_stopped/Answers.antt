@@ -21,14 +21,12 @@ returns-in-Some-index_mut-clause-puts c lists hold other some =
     (get_is old at before within c.index_mut-in-Some-index_mut.ensures.value) (set_here old at after within) (λ i other. set_other old at after i other) lists hold
     kept.crash (stops_after c.args.call c.args.leave) c.stop_kept-stopped.new.kept c.stop_kept-stopped.result other kept.kept kept.word kept.images kept.room kept.full
 
-pub returns-in-Some-index_mut-clause-kept : goal.returns-in-Some-index_mut-clause-kept
-returns-in-Some-index_mut-clause-kept c =
-    kept_then c.stop_kept-stopped.result c.args.self.now.houses.items c.args.self.now.disks.items c.in-Some.at (Some c.stop_kept-stopped.new.kept) c.stop_kept-stopped.new.disk
-    c.requires.kept c.in-Some.ensures.some.1 c.stop_kept-stopped.ensures.kept
-
-pub returns-in-Some-index_mut-clause-usable : goal.returns-in-Some-index_mut-clause-usable
-returns-in-Some-index_mut-clause-usable c usable =
-    set_usable c.args.self.now.disks.items c.in-Some.at c.stop_kept-stopped.new.disk c.in-Some.ensures.some.1 c.stop_kept-stopped.ensures.never usable
+pub returns-in-Some-index_mut-clause-stay : goal.returns-in-Some-index_mut-clause-stay
+returns-in-Some-index_mut-clause-stay c = (
+  kept_then c.stop_kept-stopped.result c.args.self.now.houses.items c.args.self.now.disks.items c.in-Some.at (Some c.stop_kept-stopped.new.kept) c.stop_kept-stopped.new.disk
+      c.requires.kept c.in-Some.ensures.some.1 c.stop_kept-stopped.ensures.kept,
+  λ usable. set_usable c.args.self.now.disks.items c.in-Some.at c.stop_kept-stopped.new.disk c.in-Some.ensures.some.1 c.stop_kept-stopped.ensures.never usable,
+)
 
 pub returns-in-Some-index_mut-clause-lacking : goal.returns-in-Some-index_mut-clause-lacking
 returns-in-Some-index_mut-clause-lacking c lists hold other some none =

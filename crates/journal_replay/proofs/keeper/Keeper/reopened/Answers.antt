@@ -2,7 +2,7 @@ use Rattle.std.proofs.Common.{Some, None, arith, ap, refl, sym, ◌∙◌}
 use Rattle.std.specs.List.{last_or}
 use Rattle.disk_journals.specs.KeptJournals.{IsKept}
 use Rattle.journal_replay.proofs.Reopening.{given, new_there, none_there, open_can, open_there, opened_hold, opened_kept}
-use Rattle.journal_replay.proofs.FullTold.{tells_opened}
+use Rattle.journal_replay.proofs.FullTold.{off_ok, tells_opened}
 use Rattle.journal_replay.proofs.DiskUses.{used_there}
 use Rattle.journal_replay.proofs.Usable.{set_usable}
 use Rattle.journal_replay.proofs.keeper.Keeper.reopened.Goals as goal
@@ -42,17 +42,6 @@ returns-in_ok-journal-in-Some-index_mut-clause-given c s stands =
     given s c.args.house.0 c.in-Some.at c.args.self.now.disks.items c.index_mut-in-Some-index_mut.result.now _ place.0 c.requires.kept.all_disks place.1
     c.index_mut-in-Some-index_mut.ensures.value stands.disks stands.gives c.in_ok-journal-in-Some-index_mut.ensures.last
 
-pub returns-in_ok-journal-in-Some-index_mut-clause-kept : goal.returns-in_ok-journal-in-Some-index_mut-clause-kept
-returns-in_ok-journal-in-Some-index_mut-clause-kept c =
-    let was =
-    open_there c.args.self.now.houses.items c.args.self.now.disks.items c.in-Some.at c.index_mut.result.now c.in-Some-index_mut.kept
-    c.index_mut-in-Some-index_mut.result.now c.requires.kept c.in-Some.ensures.some.1 c.index_mut.ensures.value c.in-Some-index_mut.is
-    c.index_mut-in-Some-index_mut.ensures.value in
-    opened_kept c.args.self.now.houses.items c.args.self.now.disks.items c.in-Some.at
-    (Some (record { journal = c.in_ok-journal-in-Some-index_mut.journal; image = c.in-Some-index_mut.kept.image })) c.open.new.disk c.requires.kept
-    c.in-Some.ensures.some.1
-    (c.in_ok-journal-in-Some-index_mut.ensures.open, ap (last_or None) c.in_ok-journal-in-Some-index_mut.ensures.images ∙ was.1)
-
 pub returns-in-None-clause-given : goal.returns-in-None-clause-given
 returns-in-None-clause-given c s stands =
     let place = c.in-Some.ensures.some in
@@ -86,13 +75,26 @@ returns-in-None-clause-calls c s stands made at house =
 
 -- ---- the disks
 
-pub returns-in_err-journal-in-Some-index_mut-clause-usable : goal.returns-in_err-journal-in-Some-index_mut-clause-usable
-returns-in_err-journal-in-Some-index_mut-clause-usable c usable =
-    set_usable c.args.self.now.disks.items c.in-Some.at c.open.new.disk c.in-Some.ensures.some.1 c.in_err-journal-in-Some-index_mut.ensures.never usable
+pub returns-in_err-journal-in-Some-index_mut-clause-stay : goal.returns-in_err-journal-in-Some-index_mut-clause-stay
+returns-in_err-journal-in-Some-index_mut-clause-stay c = (
+  off_ok c.from_residual.result c.in_err-journal-in-Some-index_mut.field-0.0 _ c.from_residual.ensures.1,
+  λ usable.
+      set_usable c.args.self.now.disks.items c.in-Some.at c.open.new.disk c.in-Some.ensures.some.1 c.in_err-journal-in-Some-index_mut.ensures.never usable,
+)
 
-pub returns-in_ok-journal-in-Some-index_mut-clause-usable : goal.returns-in_ok-journal-in-Some-index_mut-clause-usable
-returns-in_ok-journal-in-Some-index_mut-clause-usable c usable =
-    set_usable c.args.self.now.disks.items c.in-Some.at c.open.new.disk c.in-Some.ensures.some.1 c.in_ok-journal-in-Some-index_mut.ensures.never usable
+pub returns-in_ok-journal-in-Some-index_mut-clause-stay : goal.returns-in_ok-journal-in-Some-index_mut-clause-stay
+returns-in_ok-journal-in-Some-index_mut-clause-stay c =
+    let was =
+    open_there c.args.self.now.houses.items c.args.self.now.disks.items c.in-Some.at c.index_mut.result.now c.in-Some-index_mut.kept
+    c.index_mut-in-Some-index_mut.result.now c.requires.kept c.in-Some.ensures.some.1 c.index_mut.ensures.value c.in-Some-index_mut.is
+    c.index_mut-in-Some-index_mut.ensures.value in (
+      opened_kept c.args.self.now.houses.items c.args.self.now.disks.items c.in-Some.at
+          (Some (record { journal = c.in_ok-journal-in-Some-index_mut.journal; image = c.in-Some-index_mut.kept.image })) c.open.new.disk c.requires.kept
+          c.in-Some.ensures.some.1
+          (c.in_ok-journal-in-Some-index_mut.ensures.open, ap (last_or None) c.in_ok-journal-in-Some-index_mut.ensures.images ∙ was.1),
+      λ usable.
+          set_usable c.args.self.now.disks.items c.in-Some.at c.open.new.disk c.in-Some.ensures.some.1 c.in_ok-journal-in-Some-index_mut.ensures.never usable,
+    )
 
 pub returns-in_err-journal-in-Some-index_mut-clause-full : goal.returns-in_err-journal-in-Some-index_mut-clause-full
 returns-in_err-journal-in-Some-index_mut-clause-full c =

@@ -1,7 +1,7 @@
 use Rattle.std.proofs.Common.{◌≡◌}
 use Rattle.cds_explain.proofs.AddingLemmas.{any_fault, was_fault}
 use Rattle.cds_explain.proofs.MakingLemmas.{made_other, makes_only}
-use Rattle.cds_explain.proofs.making.make_each.Goals as goal
+use Rattle.cds_explain.proofs.making.make_others.Goals as goal
 
 pub returns-in-Err-clause-stopped : goal.returns-in-Err-clause-stopped
 returns-in-Err-clause-stopped c = λ places made.

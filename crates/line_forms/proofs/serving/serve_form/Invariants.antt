@@ -5,7 +5,7 @@ use Rattle.cds_base.specs.declared.lines.Lines.{Lines}
 use Rattle.reply_buffer.specs.declared.replies.LineEnd.TheVariants as end
 use Rattle.line_forms.proofs.LinesLeft.{LinesSo}
 use Rattle.line_forms.proofs.Turns.{IsBetween}
-use Rattle.line_forms.proofs.serving.answer_lines.Given as goal
+use Rattle.line_forms.proofs.serving.serve_form.Given as goal
 
 -- the run is between two lines, whatever state it began in, and the form at the state after those
 -- lines; no fault was met, and no line that is to come was counted; and what held of the form at
