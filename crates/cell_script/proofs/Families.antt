@@ -11,14 +11,14 @@ use Rattle.cell_script.specs.declared.fault.ParseFault.{ParseFault}
 use Rattle.cell_script.specs.declared.fault.ParseFault.TheVariants.{UnknownCommand}
 use Rattle.cell_script.specs.WordForms.{◌>>=◌, Words, check_count, is_open, least_of, read_as}
 use Rattle.cell_script.specs.CommandRows.{Row, said_among, early_among, no_command, said_by, early_by, rows}
-use Rattle.cell_script.specs.PrivateRows.{Says, by_service_rows, by_question_rows, befallen, by_replica_rows, by_value_rows, by_entry_rows, by_all_rows}
+use Rattle.cell_script.specs.PrivateRows.{Says, by_service_rows, by_question_rows, befallen, by_replica_rows, by_update_rows, by_all_rows}
 
 pub made_said : (word : List ℕ) (s : Words) → (by_all_rows word s).said ≡ said_by word s
-unfolding said_by by_all_rows by_entry_rows by_value_rows by_replica_rows befallen by_question_rows by_service_rows
+unfolding said_by by_all_rows by_update_rows by_replica_rows befallen by_question_rows by_service_rows
 made_said word s = refl
 
 pub made_early : (word : List ℕ) (s : Words) → (by_all_rows word s).early ≡ early_by word s
-unfolding early_by by_all_rows by_entry_rows by_value_rows by_replica_rows befallen by_question_rows by_service_rows
+unfolding early_by by_all_rows by_update_rows by_replica_rows befallen by_question_rows by_service_rows
 made_early word s = refl
 
 -- a fault of the first step is that of the whole

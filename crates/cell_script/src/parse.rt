@@ -1,15 +1,16 @@
 // Lines to commands.
-ghost use Rattle.std.specs.Prelude.{◌≡◌, ◌∷◌, Ok, Err, None, IfSome};
+ghost use Rattle.std.specs.Prelude.{◌≡◌, Ok, Err, None, IfSome};
 ghost use Rattle.cds_stamps.specs.Outcomes.{Answers};
 ghost use Rattle.cds_stamps.specs.declared.alloc_or.AllocOr.TheVariants.{Fault};
 ghost use Rattle.cell_script.specs.Words.{words_of};
-ghost use Rattle.cell_script.specs.CommandRows.{said_by, early_by, said_in, early_fault};
-ghost use Rattle.cell_script.specs.PrivateRows.{Says, by_all_rows, by_entry_rows, by_value_rows, by_replica_rows, befallen, by_question_rows, by_service_rows};
+ghost use Rattle.cell_script.specs.CommandRows.{said_by, early_by, said_in, early_fault, update_row};
+ghost use Rattle.cell_script.specs.PrivateRows.{Says, by_all_rows, by_update_rows, by_replica_rows, befallen, by_question_rows, by_service_rows};
 
-use crate::command::ScriptLine;
+use crate::command::{Command, ScriptLine};
 use crate::fault::ParseFault;
+use crate::update_word::UpdateWord;
 use crate::words::{Parsed, Words};
-use crate::{commands, questions, replicas, service, updates};
+use crate::{commands, questions, replicas, service};
 use cds_stamps::AllocOr;
 use std::alloc::Global;
 
@@ -49,40 +50,27 @@ fn made(alloc: Global, word: &[u8], words: &mut Words<'_>) -> Parsed<ScriptLine>
 }
 
 // An update of an entry, or a command of a later kind.
-#[tactic(auto, unfolding(crate::specs::PrivateRows::by_entry_rows))]
+#[tactic(auto, using(crate::proofs::Updates::no_update))]
 fn updated(alloc: Global, word: &[u8], words: &mut Words<'_>) -> Parsed<ScriptLine>
-    ensures { Says result (by_entry_rows word.now words.old) }
+    ensures { Says result (by_update_rows word.now words.old) }
 {
-    if word == b"create".as_slice() {
-        return updates::create(alloc, words);
+    match UpdateWord::named(word) {
+        Some(kind) => update(alloc, kind, words),
+        None => replicated(alloc, word, words),
     }
-    if word == b"link".as_slice() {
-        return updates::link(alloc, words);
-    }
-    if word == b"delete".as_slice() {
-        return updates::delete(alloc, words);
-    }
-    changed(alloc, word, words)
 }
 
-// A change of an entry's values, or a command of a later kind.
-#[tactic(auto, unfolding(crate::specs::PrivateRows::by_value_rows))]
-fn changed(alloc: Global, word: &[u8], words: &mut Words<'_>) -> Parsed<ScriptLine>
-    ensures { Says result (by_value_rows word.now words.old) }
+// An update of an entry at a house.
+#[tactic(auto, using(crate::proofs::Updates::update_said, crate::proofs::Updates::update_early))]
+fn update(alloc: Global, kind: UpdateWord, words: &mut Words<'_>) -> Parsed<ScriptLine>
+    ensures { Says result (by_update_rows (update_row kind).word words.old) }
 {
-    if word == b"add".as_slice() {
-        return updates::add(alloc, words);
-    }
-    if word == b"remove".as_slice() {
-        return updates::remove(alloc, words);
-    }
-    if word == b"put".as_slice() {
-        return updates::put(alloc, words);
-    }
-    if word == b"clear".as_slice() {
-        return updates::clear(alloc, words);
-    }
-    replicated(alloc, word, words)
+    words.exactly(2 + kind.count())?;
+    Ok(ScriptLine::Cell(Command::Update(
+        words.house()?,
+        words.directory()?,
+        kind.read(alloc, words)?,
+    )))
 }
 
 // A command about all replicas of a directory, or one of a later kind.
@@ -175,29 +163,15 @@ fn served(alloc: Global, word: &[u8], words: &mut Words<'_>) -> Parsed<ScriptLin
 /// What a line says: a command, or nothing where it has no words or is a comment, which takes no
 /// memory. A fault tells the first word of no command; or else that there are too few or too many
 /// words; or else the first word that is not of its form.
+#[tactic(auto, using(crate::proofs::Reading::nothing_said, crate::proofs::Reading::nothing_early, crate::proofs::Reading::something_said, crate::proofs::Reading::something_early, crate::proofs::Reading::some_line_says))]
 pub fn parse_line(alloc: Global, line: &[u8]) -> Result<Option<ScriptLine>, AllocOr<ParseFault>>
     ensures answer { Answers result (said_in (words_of line.now)) }
     ensures passed_over { said_in (words_of line.now) ≡ Ok None → result ≡ Ok None }
     ensures early { IfSome (early_fault (words_of line.now)) (λ fault. result ≡ Err (Fault fault)) }
 {
     let mut words = Words::of(line);
-    match words.next() {
+    match words.first() {
         None => Ok(None),
-        Some(word) => said_behind(alloc, word, &mut words),
+        Some(word) => Ok(Some(line_behind(alloc, word, &mut words)?)),
     }
-}
-
-// What a line of this first word says.
-#[tactic(auto, using(crate::proofs::Reading::some_line_says))]
-fn said_behind(alloc: Global, word: &[u8], words: &mut Words<'_>) -> Parsed<Option<ScriptLine>>
-    requires { words.old.read ≡ 1 }
-    ensures answer { Answers result (said_in (word.now ∷ words.old.rest)) }
-    ensures passed_over { said_in (word.now ∷ words.old.rest) ≡ Ok None → result ≡ Ok None }
-    ensures early { IfSome (early_fault (word.now ∷ words.old.rest))
-        (λ fault. result ≡ Err (Fault fault)) }
-{
-    if word.starts_with(b"#") {
-        return Ok(None);
-    }
-    Ok(Some(line_behind(alloc, word, words)?))
 }

@@ -74,8 +74,8 @@ pub fn number_up_to(word: &[u8], most: u64) -> Option<u64>
     }
 }
 
-/// The number of a house.
-pub(crate) fn house(word: &[u8]) -> Option<HouseNo>
+/// The number of a house, 1 to 255.
+pub fn house_number(word: &[u8]) -> Option<HouseNo>
     ensures { result ≡ house_of word.now }
 {
     match number_up_to(word, MOST_HOUSE) {
@@ -100,7 +100,7 @@ pub(crate) fn listed(word: &[u8]) -> Option<Listed>
 fn listed_as(number: &[u8], secondary: bool) -> Option<Listed>
     ensures { result ≡ listed_as secondary number.now }
 {
-    let house = house(number)?;
+    let house = house_number(number)?;
     Some(Listed { house, secondary })
 }
 
@@ -135,7 +135,7 @@ pub(crate) fn message_asked(word: &[u8]) -> Option<Question>
 pub(crate) fn image_asked(word: &[u8]) -> Option<Question>
     ensures { result ≡ asked.image_asked word.now }
 {
-    match house(word) {
+    match house_number(word) {
         Some(house) => Some(Question::OctetsHouse(house)),
         None => None,
     }

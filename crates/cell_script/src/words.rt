@@ -10,6 +10,7 @@ ghost use Rattle.cds_stamps.specs.declared.alloc_or.AllocOr.TheVariants.{Fault, 
 ghost use Rattle.cell_script.specs.declared.fault.ParseFault.TheVariants.{WrongCount};
 ghost use Rattle.cell_script.specs.Words.{words_of, house_of, listed_of, directory_of, serial_of, number_of, node_of, simple_name_of, full_name_of};
 ghost use Rattle.cell_script.specs.Words.{attr_name_of, octets_value_of, octets_of, confidence_of};
+ghost use Rattle.cell_script.specs.CommandRows.{says_nothing};
 ghost use Rattle.cell_script.specs.PrivateCounts.{words_behind};
 ghost use Rattle.cell_script.specs.declared.words.TheConstants.{STRIDE};
 ghost use Rattle.cell_script.specs.WordForms.{One, Many, Encoded, Takes, take_words, check_count, said_at};
@@ -145,6 +146,20 @@ impl<'a> Words<'a> {
         Some(word)
     }
 
+    /// The first word of a line that says something. None, if the line says nothing.
+    pub fn first(&mut self) -> Option<&'a [u8]>
+        ensures some { IfSome result (λ w. self.old.rest ≡ w.now ∷ self.new.rest) }
+        ensures read { IfSome result (λ w. self.new.read ≡ self.old.read + 1) }
+        ensures says { IfSome result (λ w. says_nothing self.old.rest ≡ false) }
+        ensures none { IfNone result (says_nothing self.old.rest ≡ true) }
+    {
+        let word = self.next()?;
+        if word.starts_with(b"#") {
+            return None;
+        }
+        Some(word)
+    }
+
     // How many words there are.
     fn count(&self) -> usize
         ensures counted { result ≡ length self.now.rest }
@@ -221,7 +236,7 @@ impl<'a> Words<'a> {
         ensures { Takes result self.new (take_words (One house_of) self.old) }
     {
         let word = self.needed()?;
-        self.said(word::house(word))
+        self.said(word::house_number(word))
     }
 
     /// The number of a directory, 1 to 4,294,967,295.
@@ -329,7 +344,7 @@ impl<'a> Words<'a> {
     {
         let mut houses = HouseNos::new(alloc);
         while let Some(word) = self.next() {
-            houses.push(self.said(word::house(word))?)?;
+            houses.push(self.said(word::house_number(word))?)?;
         }
         Ok(houses)
     }

@@ -1,3 +1,4 @@
 pub mod LineFamilies
+pub mod LineUpdates
 pub mod ListingLemmas
 mod Examples

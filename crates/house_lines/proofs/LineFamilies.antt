@@ -12,14 +12,14 @@ use Rattle.cell_script.specs.WordForms.{◌>>=◌, Words, check_count, is_open, 
 use Rattle.cell_script.specs.CommandRows.{RowOf, said_among, early_among, no_command}
 use Rattle.house_lines.specs.declared.line.HouseLine.{HouseLine}
 use Rattle.house_lines.specs.LineRows.{said_by, early_by, rows, is_epoch, epoch_count, epoch_said}
-use Rattle.house_lines.specs.PrivateLineRows.{Saying, Says, by_question_rows, by_message_rows, by_value_rows, by_entry_rows, by_making_rows, by_epoch, saying_by}
+use Rattle.house_lines.specs.PrivateLineRows.{Saying, Says, by_question_rows, by_message_rows, by_update_rows, by_making_rows, by_epoch, saying_by}
 
 pub made_said : (word : List ℕ) (s : Words) → (by_making_rows word s).said ≡ said_among rows no_command word s
-unfolding by_making_rows by_entry_rows by_value_rows by_message_rows by_question_rows
+unfolding by_making_rows by_update_rows by_message_rows by_question_rows
 made_said word s = refl
 
 pub made_early : (word : List ℕ) (s : Words) → (by_making_rows word s).early ≡ early_among rows (Some (UnknownCommand 1)) word s
-unfolding by_making_rows by_entry_rows by_value_rows by_message_rows by_question_rows
+unfolding by_making_rows by_update_rows by_message_rows by_question_rows
 made_early word s = refl
 
 pub all_said : (word : List ℕ) (s : Words) → (saying_by word s).said ≡ said_by word s

@@ -1,26 +1,20 @@
 -- What a line of a house says: the table of its commands, which are those of scripts without the
 -- house that does them.
-use Rattle.std.specs.Prelude.{ℕ, Bool, true, if◌then◌else◌, List, [], ◌∷◌, ◌++◌, Some, Option, Ok, Result, codes}
+use Rattle.std.specs.Prelude.{ℕ, Bool, true, if◌then◌else◌, List, [], ◌∷◌, ◌++◌, map, Some, Option, Ok, Result, codes}
 use Rattle.std.specs.Str.{bytes_eq}
 use Rattle.std.specs.Result.{result_err}
-use Rattle.cds_stamps.specs.declared.numbers.DirId.{DirId}
-use Rattle.directory.specs.declared.update.Update.{Update}
-use Rattle.directory.specs.declared.update.Update.TheVariants as update
+use Rattle.cell_script.specs.declared.update_word.UpdateWord.{UpdateWord}
 use Rattle.cell_script.specs.declared.fault.ParseFault.{ParseFault}
 use Rattle.cell_script.specs.declared.fault.ParseFault.TheVariants.{UnknownCommand}
-use Rattle.cell_script.specs.Words.{attr_name_of, confidence_of, directory_of, full_name_of, house_of, listed_of, node_of, number_of, octets_of, octets_value_of, serial_of, simple_name_of}
-use Rattle.cell_script.specs.WordForms.{◌>>=◌, Form, One, Many}
-use Rattle.cell_script.specs.WordForms.{Builds, Words, check_count, take_words}
-use Rattle.cell_script.specs.CommandRows.{RowOf, said_among, early_among, no_command, line_in, fault_in}
+use Rattle.cell_script.specs.Words.{attr_name_of, confidence_of, directory_of, house_of, listed_of, node_of, number_of, octets_of, serial_of, simple_name_of}
+use Rattle.cell_script.specs.WordForms.{◌>>=◌, One, Many}
+use Rattle.cell_script.specs.WordForms.{Words, check_count, followed_by, take_words}
+use Rattle.cell_script.specs.CommandRows.{RowOf, row, update_row, update_words, said_among, early_among, no_command, line_in, fault_in}
 use Rattle.house_lines.specs.declared.line.HouseLine.{HouseLine}
 use Rattle.house_lines.specs.declared.line.HouseLine.TheVariants as line
 use Rattle.house_lines.specs.declared.line.HouseOrder.TheVariants as order
 use Rattle.house_lines.specs.declared.line.HouseQuestion.TheVariants as question
 use Rattle.house_lines.specs.Listings.{list_said}
-
--- a command: its first word, the forms of the words after it, and what they say
-abbrev pub row : List ℕ → (forms : List Form) → Builds forms HouseLine → RowOf HouseLine
-row word forms build = record { word = word; forms = forms; says = build }
 
 -- the commands that make the house and directories
 abbrev pub making_rows : List (RowOf HouseLine)
@@ -34,26 +28,14 @@ making_rows =
     (λ d s h hs. line.Order (order.Repoint d s h hs))
     ∷ []
 
--- a line that makes or changes an entry
-abbrev pub entry_line : DirId → Update → HouseLine
-entry_line d u = line.Order (order.Update d u)
+-- an update of an entry: the directory, then what the update is of
+abbrev pub updates : UpdateWord → RowOf HouseLine
+updates kind =
+    let r = update_row kind in row r.word (One directory_of ∷ r.forms) (λ d. followed_by (λ u. line.Order (order.Update d u)) r.forms r.says)
 
 -- the updates of an entry
-abbrev pub entry_rows : List (RowOf HouseLine)
-entry_rows =
-    row (codes "create") (One directory_of ∷ One simple_name_of ∷ []) (λ d s. entry_line d (update.Create s))
-    ∷ row (codes "link") (One directory_of ∷ One simple_name_of ∷ One full_name_of ∷ []) (λ d s n. entry_line d (update.MakeLink s n))
-    ∷ row (codes "delete") (One directory_of ∷ One simple_name_of ∷ []) (λ d s. entry_line d (update.Delete s))
-    ∷ []
-
--- the changes of an entry's values
-abbrev pub value_rows : List (RowOf HouseLine)
-value_rows =
-    row (codes "add") (One directory_of ∷ One simple_name_of ∷ One attr_name_of ∷ One octets_value_of ∷ []) (λ d s a v. entry_line d (update.Add s a v))
-    ∷ row (codes "remove") (One directory_of ∷ One simple_name_of ∷ One attr_name_of ∷ One octets_value_of ∷ []) (λ d s a v. entry_line d (update.Remove s a v))
-    ∷ row (codes "put") (One directory_of ∷ One simple_name_of ∷ One attr_name_of ∷ One octets_value_of ∷ []) (λ d s a v. entry_line d (update.Put s a v))
-    ∷ row (codes "clear") (One directory_of ∷ One simple_name_of ∷ One attr_name_of ∷ []) (λ d s a. entry_line d (update.Clear s a))
-    ∷ []
+abbrev pub update_rows : List (RowOf HouseLine)
+update_rows = map updates update_words
 
 -- a skulk, and the octets of messages
 abbrev pub message_rows : List (RowOf HouseLine)
@@ -76,7 +58,7 @@ question_rows =
 
 -- the commands but `epoch`
 abbrev pub rows : List (RowOf HouseLine)
-rows = making_rows ++ (entry_rows ++ (value_rows ++ (message_rows ++ question_rows)))
+rows = making_rows ++ (update_rows ++ (message_rows ++ question_rows))
 
 -- ---- epochs
 

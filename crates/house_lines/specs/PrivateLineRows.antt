@@ -9,7 +9,7 @@ use Rattle.cell_script.specs.declared.fault.ParseFault.TheVariants.{UnknownComma
 use Rattle.cell_script.specs.WordForms.{Words}
 use Rattle.cell_script.specs.CommandRows.{RowOf, said_among, early_among, no_command}
 use Rattle.house_lines.specs.declared.line.HouseLine.{HouseLine}
-use Rattle.house_lines.specs.LineRows.{making_rows, entry_rows, value_rows, message_rows, question_rows, epoch_count, epoch_said, is_epoch}
+use Rattle.house_lines.specs.LineRows.{making_rows, update_rows, message_rows, question_rows, epoch_count, epoch_said, is_epoch}
 
 -- what a line says, or its fault, and the fault of it that shows before a word after the first one
 -- is read
@@ -40,17 +40,13 @@ by_question_rows = saying_among question_rows unknown
 unfoldable pub by_message_rows : List ℕ → Words → Saying
 by_message_rows word s = saying_among message_rows (by_question_rows word s) word s
 
--- one of these, or a change of an entry's values
-unfoldable pub by_value_rows : List ℕ → Words → Saying
-by_value_rows word s = saying_among value_rows (by_message_rows word s) word s
-
 -- one of these, or an update of an entry
-unfoldable pub by_entry_rows : List ℕ → Words → Saying
-by_entry_rows word s = saying_among entry_rows (by_value_rows word s) word s
+unfoldable pub by_update_rows : List ℕ → Words → Saying
+by_update_rows word s = saying_among update_rows (by_message_rows word s) word s
 
 -- one of these, or what makes the house or directories
 unfoldable pub by_making_rows : List ℕ → Words → Saying
-by_making_rows word s = saying_among making_rows (by_entry_rows word s) word s
+by_making_rows word s = saying_among making_rows (by_update_rows word s) word s
 
 -- an epoch
 unfoldable pub by_epoch : Words → Saying

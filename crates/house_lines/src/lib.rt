@@ -7,7 +7,6 @@ mod listing;
 mod parse;
 mod questions;
 mod replicas;
-mod updates;
 
 pub use given::GivenMembers;
 pub use line::{EpochList, HouseLine, HouseOrder, HouseQuestion};

@@ -10,13 +10,10 @@ ghost use Rattle.house_lines.specs.Listings.{leaving_said, list_said, members_sa
 
 use crate::given::GivenMembers;
 use crate::line::EpochList;
-use cds_stamps::{EpochNo, HouseNo, Member, MemberKind};
-use cell_script::{HouseNos, Parsed, Words, number_up_to};
+use cds_stamps::{EpochNo, Member, MemberKind};
+use cell_script::{HouseNos, Parsed, Words, house_number, number_up_to};
 use std::alloc::Global;
 use tower_codec::split_at_mark;
-
-// The greatest number of a house.
-const MOST_HOUSE: u64 = 255;
 
 const MASTER: &[u8] = b"m";
 
@@ -26,16 +23,6 @@ const READ_ONLY: &[u8] = b"r";
 
 // The word between the members and the houses that leave.
 const DASH: &[u8] = b"-";
-
-// The number of a house.
-fn house(word: &[u8]) -> Option<HouseNo>
-    ensures { result ≡ house_of word.now }
-{
-    match number_up_to(word, MOST_HOUSE) {
-        Some(number) => Some(HouseNo(number as u8)),
-        None => None,
-    }
-}
 
 // The number of an epoch.
 fn epoch(word: &[u8]) -> Option<EpochNo>
@@ -71,7 +58,7 @@ fn member(word: &[u8]) -> Option<Member>
     let (number, rest) = split_at_mark(word, b':')?;
     let (since, letter) = split_at_mark(rest, b':')?;
     Some(Member {
-        house: house(number)?,
+        house: house_number(number)?,
         since: epoch(since)?,
         kind: kind(letter)?,
     })

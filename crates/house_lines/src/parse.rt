@@ -1,15 +1,16 @@
 // Lines to what they say.
-ghost use Rattle.std.specs.Prelude.{◌≡◌, ◌∷◌, Ok, Err, None, IfSome};
+ghost use Rattle.std.specs.Prelude.{◌≡◌, Ok, Err, None, IfSome};
 ghost use Rattle.cds_stamps.specs.Outcomes.{Answers};
 ghost use Rattle.cds_stamps.specs.declared.alloc_or.AllocOr.TheVariants.{Fault};
 ghost use Rattle.cell_script.specs.Words.{words_of};
+ghost use Rattle.cell_script.specs.CommandRows.{update_row};
 ghost use Rattle.house_lines.specs.LineRows.{early_by, early_fault, said_by, said_in};
-ghost use Rattle.house_lines.specs.PrivateLineRows.{Says, by_entry_rows, by_making_rows, by_message_rows, by_question_rows, by_value_rows, saying_by};
+ghost use Rattle.house_lines.specs.PrivateLineRows.{Says, by_making_rows, by_message_rows, by_question_rows, by_update_rows, saying_by};
 
-use crate::line::HouseLine;
-use crate::{questions, replicas, updates};
+use crate::line::{HouseLine, HouseOrder};
+use crate::{questions, replicas};
 use cds_stamps::AllocOr;
-use cell_script::{ParseFault, Parsed, Words};
+use cell_script::{ParseFault, Parsed, UpdateWord, Words};
 use std::alloc::Global;
 
 // What the words after the first one say: an epoch, or another line.
@@ -47,40 +48,23 @@ fn made(alloc: Global, word: &[u8], words: &mut Words<'_>) -> Parsed<HouseLine>
 }
 
 // An update of an entry, or a line of a later kind.
-#[tactic(auto, unfolding(crate::specs::PrivateLineRows::by_entry_rows))]
+#[tactic(auto, using(crate::proofs::LineUpdates::no_update))]
 fn updated(alloc: Global, word: &[u8], words: &mut Words<'_>) -> Parsed<HouseLine>
-    ensures { Says result (by_entry_rows word.now words.old) }
+    ensures { Says result (by_update_rows word.now words.old) }
 {
-    if word == b"create".as_slice() {
-        return updates::create(alloc, words);
+    match UpdateWord::named(word) {
+        Some(kind) => update(alloc, kind, words),
+        None => handed(alloc, word, words),
     }
-    if word == b"link".as_slice() {
-        return updates::link(alloc, words);
-    }
-    if word == b"delete".as_slice() {
-        return updates::delete(alloc, words);
-    }
-    changed(alloc, word, words)
 }
 
-// A change of an entry's values, or a line of a later kind.
-#[tactic(auto, unfolding(crate::specs::PrivateLineRows::by_value_rows))]
-fn changed(alloc: Global, word: &[u8], words: &mut Words<'_>) -> Parsed<HouseLine>
-    ensures { Says result (by_value_rows word.now words.old) }
+// An update of an entry.
+#[tactic(auto, using(crate::proofs::LineUpdates::update_said, crate::proofs::LineUpdates::update_early))]
+fn update(alloc: Global, kind: UpdateWord, words: &mut Words<'_>) -> Parsed<HouseLine>
+    ensures { Says result (by_update_rows (update_row kind).word words.old) }
 {
-    if word == b"add".as_slice() {
-        return updates::add(alloc, words);
-    }
-    if word == b"remove".as_slice() {
-        return updates::remove(alloc, words);
-    }
-    if word == b"put".as_slice() {
-        return updates::put(alloc, words);
-    }
-    if word == b"clear".as_slice() {
-        return updates::clear(alloc, words);
-    }
-    handed(alloc, word, words)
+    words.exactly(1 + kind.count())?;
+    Ok(HouseLine::Order(HouseOrder::Update(words.directory()?, kind.read(alloc, words)?)))
 }
 
 // A skulk, or octets of a message, or a line of a later kind.
@@ -129,6 +113,7 @@ fn asked(alloc: Global, word: &[u8], words: &mut Words<'_>) -> Parsed<HouseLine>
 /// What a line says; nothing, if it has no words or is a comment, which takes no memory. A fault
 /// says the first word of no command; or else that there are too few or too many words; or else the
 /// first word that is not of its form.
+#[tactic(auto, using(cell_script::proofs::Reading::nothing_said, cell_script::proofs::Reading::nothing_early, cell_script::proofs::Reading::something_said, cell_script::proofs::Reading::something_early, cell_script::proofs::Reading::some_line_says))]
 pub fn parse_house_line(
     alloc: Global,
     line: &[u8],
@@ -138,9 +123,9 @@ pub fn parse_house_line(
     ensures early { IfSome (early_fault (words_of line.now)) (λ fault. result ≡ Err (Fault fault)) }
 {
     let mut words = Words::of(line);
-    match words.next() {
+    match words.first() {
         None => Ok(None),
-        Some(word) => said_from(alloc, word, &mut words),
+        Some(word) => Ok(Some(line_after(alloc, word, &mut words)?)),
     }
 }
 
@@ -151,19 +136,4 @@ fn line_after(alloc: Global, word: &[u8], words: &mut Words<'_>) -> Parsed<House
     ensures early { IfSome (early_by word.now words.old) (λ fault. result ≡ Err (Fault fault)) }
 {
     said_after(alloc, word, words)
-}
-
-// What a line of this first word says.
-#[tactic(auto, using(cell_script::proofs::Reading::some_line_says))]
-fn said_from(alloc: Global, word: &[u8], words: &mut Words<'_>) -> Parsed<Option<HouseLine>>
-    requires { words.old.read ≡ 1 }
-    ensures answer { Answers result (said_in (word.now ∷ words.old.rest)) }
-    ensures passed_over { said_in (word.now ∷ words.old.rest) ≡ Ok None → result ≡ Ok None }
-    ensures early { IfSome (early_fault (word.now ∷ words.old.rest))
-        (λ fault. result ≡ Err (Fault fault)) }
-{
-    if word.starts_with(b"#") {
-        return Ok(None);
-    }
-    Ok(Some(line_after(alloc, word, words)?))
 }

@@ -14,7 +14,7 @@ use Rattle.cell_script.specs.WordForms.{Form, One, Many, Encoded}
 use Rattle.cell_script.specs.WordForms.{◌>>=◌, Builds, Words, all_words, build_words, check_count, each_word, is_open, least_of, next_word, read_as, said_at, take_words}
 use Rattle.cell_script.specs.CommandRows.{RowOf, no_command, said_among, some_line}
 use Rattle.house_lines.specs.Listings.{after_dash, before_dash, leaving_said, list_said, members_said}
-use Rattle.house_lines.specs.LineRows.{entry_rows, epoch_count, epoch_said, epoch_words, is_epoch, making_rows, message_rows, question_rows, rows, said_by, said_in, value_rows}
+use Rattle.house_lines.specs.LineRows.{epoch_count, epoch_said, epoch_words, is_epoch, making_rows, message_rows, question_rows, rows, said_by, said_in, update_rows}
 use Rattle.house_lines.specs.MemberWords.{is_dash, member_of}
 use Rattle.house_lines.specs.declared.line.EpochList.{EpochList}
 use Rattle.house_lines.specs.declared.line.HouseLine.{HouseLine}
@@ -192,28 +192,29 @@ making = (
   ),
 )
 
-entries : AreRows entry_rows
+entries : AreRows update_rows
 entries = (
   directory_name [] tt,
   begins (codes "create") refl (λ rest. refl),
   (
     (plain_directory, (plain_name, (plain_full_name, tt))),
     begins (codes "link") refl (λ rest. refl),
-    (directory_name [] tt, begins (codes "delete") refl (λ rest. refl), tt),
-  ),
-)
-
-values : AreRows value_rows
-values = (
-  directory_value,
-  begins (codes "add") refl (λ rest. refl),
-  (
-    directory_value,
-    begins (codes "remove") refl (λ rest. refl),
     (
-      directory_value,
-      begins (codes "put") refl (λ rest. refl),
-      (directory_attr, begins (codes "clear") refl (λ rest. refl), tt),
+      directory_name [] tt,
+      begins (codes "delete") refl (λ rest. refl),
+      (
+        directory_value,
+        begins (codes "add") refl (λ rest. refl),
+        (
+          directory_value,
+          begins (codes "remove") refl (λ rest. refl),
+          (
+            directory_value,
+            begins (codes "put") refl (λ rest. refl),
+            (directory_attr, begins (codes "clear") refl (λ rest. refl), tt),
+          ),
+        ),
+      ),
     ),
   ),
 )
@@ -254,9 +255,8 @@ questions = (
 
 all_rows : AreRows rows
 all_rows =
-    both_rows making_rows (entry_rows ++ (value_rows ++ (message_rows ++ question_rows))) making
-    (both_rows entry_rows (value_rows ++ (message_rows ++ question_rows)) entries
-    (both_rows value_rows (message_rows ++ question_rows) values (both_rows message_rows question_rows messages questions)))
+    both_rows making_rows (update_rows ++ (message_rows ++ question_rows)) making
+    (both_rows update_rows (message_rows ++ question_rows) entries (both_rows message_rows question_rows messages questions))
 
 -- ---- epochs
 

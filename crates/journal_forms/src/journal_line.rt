@@ -1,5 +1,5 @@
 // Lines of the form `journal`: those of `run`, and two more.
-ghost use Rattle.std.specs.Prelude.{◌≡◌, ◌∷◌, Ok, Err, None, IfOk, IfSome};
+ghost use Rattle.std.specs.Prelude.{◌≡◌, Ok, Err, None, IfOk, IfSome};
 ghost use Rattle.cds_stamps.specs.Outcomes.{Answers};
 ghost use Rattle.cds_stamps.specs.declared.alloc_or.AllocOr.TheVariants.{Fault};
 ghost use Rattle.cell_script.specs.Words.{words_of};
@@ -33,6 +33,7 @@ pub enum JournalLine {
 /// these two. A line of `stop` tells first that it has fewer than five words, then, where its fifth
 /// word is a command that can be stopped, that the words of that are too few or too many, and else
 /// the first word that is not of its form.
+#[tactic(auto, using(cell_script::proofs::Reading::nothing_said, cell_script::proofs::Reading::nothing_early, cell_script::proofs::Reading::something_said, cell_script::proofs::Reading::something_early, cell_script::proofs::Reading::some_line_says, crate::proofs::LineNumbers::said_numbers))]
 pub fn parse_journal_line(
     alloc: Global,
     line: &[u8],
@@ -43,26 +44,10 @@ pub fn parse_journal_line(
     ensures early { IfSome (early_fault (words_of line.now)) (λ fault. result ≡ Err (Fault fault)) }
 {
     let mut words = Words::of(line);
-    match words.next() {
+    match words.first() {
         None => Ok(None),
-        Some(word) => said_behind(alloc, word, &mut words),
+        Some(word) => Ok(Some(journal_line_behind(alloc, word, &mut words)?)),
     }
-}
-
-// What a line of this first word says.
-#[tactic(auto, using(cell_script::proofs::Reading::some_line_says))]
-fn said_behind(alloc: Global, word: &[u8], words: &mut Words<'_>) -> Parsed<Option<JournalLine>>
-    requires { words.old.read ≡ 1 }
-    ensures answer { Answers result (said_in (word.now ∷ words.old.rest)) }
-    ensures numbers { IfOk result (λ said. IfSome said HasNumbers) }
-    ensures passed_over { said_in (word.now ∷ words.old.rest) ≡ Ok None → result ≡ Ok None }
-    ensures early { IfSome (early_fault (word.now ∷ words.old.rest))
-        (λ fault. result ≡ Err (Fault fault)) }
-{
-    if word.starts_with(b"#") {
-        return Ok(None);
-    }
-    Ok(Some(journal_line_behind(alloc, word, words)?))
 }
 
 // What the words after the first one say.

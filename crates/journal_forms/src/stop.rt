@@ -2,7 +2,6 @@
 ghost use Rattle.std.specs.Prelude.{◌≡◌, ◌≢◌, false, IfSome, Err};
 ghost use Rattle.cds_stamps.specs.Outcomes.{Answers};
 ghost use Rattle.cds_stamps.specs.declared.alloc_or.AllocOr.TheVariants.{Fault, OutOfMemory};
-ghost use Rattle.cell_script.specs.Words.{house_of};
 ghost use Rattle.cell_script.specs.WordForms.{said_at};
 ghost use Rattle.journal_forms.specs.JournalLines.{call_of, command_in, command_miscounted, command_said, is_stoppable, leave_of};
 ghost use Rattle.journal_forms.specs.JournalLines.{stop_early, stop_said, stop_of_words};
@@ -11,25 +10,17 @@ ghost use Rattle.cell_script.specs.declared.fault.ParseFault.TheVariants.{BadWor
 
 use crate::journal_line::JournalLine;
 use cds_stamps::{AllocOr, HouseNo};
-use cell_script::{Command, ParseFault, Parsed, ScriptLine, Words, line_behind, number_up_to};
+use cell_script::{
+    Command, ParseFault, Parsed, ScriptLine, Words, house_number, line_behind, number_up_to,
+};
 use house_journal::Leave;
 use std::alloc::Global;
-
-// The greatest number of a house.
-const MOST_HOUSE: u64 = 255;
 
 // How many writing calls a put has.
 const MOST_CALL: u64 = 4;
 
 // The number of the word that names the command.
 const NAME: usize = 5;
-
-// The number of a house.
-fn house(word: &[u8]) -> Option<HouseNo>
-    ensures { result ≡ house_of word.now }
-{
-    Some(HouseNo(number_up_to(word, MOST_HOUSE)? as u8))
-}
 
 // The number of a writing call of a put.
 fn call(word: &[u8]) -> Option<u8>
@@ -124,7 +115,7 @@ fn stopping(house_word: &[u8], call_word: &[u8], leave_word: &[u8]) -> Parsed<(H
     ensures answer { Answers result (stop_of_words house_word.now call_word.now leave_word.now) }
     ensures memory { result ≢ Err OutOfMemory }
 {
-    let house = said_at(2, house(house_word))?;
+    let house = said_at(2, house_number(house_word))?;
     let call = said_at(3, call(call_word))?;
     let leave = said_at(4, leave(leave_word))?;
     Ok((house, call, leave))
