@@ -71,9 +71,16 @@ class Round:
             if line == "wait":
                 self.wait_for_replica(3, 1)
                 continue
-            told = self.ask(CONSOLE, line)
+            told = self.ask_until_reached(line)
             if not told[-1].startswith("ok"):
                 raise NotSettled(f"{line}: {told}")
+
+    def ask_until_reached(self, line: str) -> list[str]:
+        """Asks at the console, and again while no house is reached: one may still begin."""
+        until = time.monotonic() + LONGEST_START
+        while (told := self.ask(CONSOLE, line))[-1].startswith("refused Unreachable") and time.monotonic() < until:
+            time.sleep(0.5)
+        return told
 
     def wait_for_replica(self, machine: int, directory: int) -> None:
         until = time.monotonic() + LONGEST_START
