@@ -1,4 +1,6 @@
 // Inquiries and look-ups over what was heard.
+ghost use Rattle.std.specs.Prelude.{◌≤◌};
+
 use crate::reads::shown;
 use crate::searches::{GROUP, SERVER, names_of, rooted, says, wanted};
 use cds_clerk::{Heard, Listing, Root, Searched, inquire, lookup};
@@ -167,7 +169,9 @@ fn an_inquiry_asks_what_lacks(rt: HostRuntime) -> Result<(), Fail> {
 }
 
 // How many bindings each batch has of a look-up of /.:/g, at most so many.
-fn batches(alloc: Global, heard: &Heard, most: u16) -> Result<Vec<usize>, Fail> {
+fn batches(alloc: Global, heard: &Heard, most: u16) -> Result<Vec<usize>, Fail>
+    requires { 1 ≤ most }
+{
     let name = FullName::parse(alloc, b"/.:/g")?;
     match &lookup(alloc, heard, &name, wanted()?, most)? {
         Searched::Closed(InquireAnswer::Batches(list)) => {
