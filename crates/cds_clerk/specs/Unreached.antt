@@ -12,6 +12,7 @@ use Rattle.resolver.specs.Readers.{Reader}
 use Rattle.resolver.specs.WalkEnds.{walk_end}
 use Rattle.ns_import.specs.Imports.{names_of}
 use Rattle.cds_clerk.specs.declared.heard.Heard.{Heard}
+use Rattle.cds_clerk.specs.Agreements.{Agrees}
 use Rattle.cds_clerk.specs.Readings.{least_reader}
 use Rattle.cds_clerk.specs.Searches.{IsReached}
 
@@ -31,6 +32,10 @@ pub record AreUnreached (r : Reader) (wanted : Interface) (first : List (List �
     (dirs : List DirId) : Type 0 where
   pub ascending : IsStrictlySortedBy nat_cmp (map (λ d. d.0) dirs)
   pub exactly : (n : ℕ) → Contains (map (λ d. d.0) dirs) n ↔ IsUnreached r wanted first n
+
+-- each reader that agrees with what was heard says that a search did not reach these (own)
+abbrev pub AreMissed : Heard → Interface → (first : List (List ℕ)) → List DirId → Type 0
+AreMissed h wanted first dirs = (r : Reader) → Agrees r h → AreUnreached r wanted first dirs
 
 -- ---- words of private contracts
 

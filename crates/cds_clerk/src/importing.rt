@@ -9,9 +9,11 @@ ghost use Rattle.clerk_lines.specs.ShownEntries.{attr_values};
 ghost use Rattle.cds_clerk.specs.Agreements.{Agrees};
 ghost use Rattle.cds_clerk.specs.HeardProofs.{least_shows_only, told_objects};
 ghost use Rattle.cds_clerk.specs.Searches.{IsClosed, IsSearched};
+ghost use Rattle.cds_clerk.specs.Unreached.{AreMissed};
 ghost use Rattle.cds_clerk.specs.Readings.{least_reader};
 
 use crate::heard::{Heard, Looked, Root};
+use crate::reaching::{Reached, closed_unreached};
 use crate::searching::{Searched, search};
 use attr_sets::Value;
 use cds_stamps::{AttrName, SimpleName};
@@ -112,8 +114,9 @@ fn closed_import(
     ns_commands::import(alloc, &HeardReader { heard }, name, wanted)
 }
 
-/// The answer to an import by what was heard. Each reader that agrees with what was heard, and
-/// shows finitely many objects, has that answer, whatever else it tells. What lacks was not heard,
+/// The answer to an import by what was heard, and the directories that its search did not reach.
+/// Each reader that agrees with what was heard, and shows finitely many objects, has that answer
+/// and these directories, whatever else it tells. What lacks was not heard,
 /// and the search comes to a name of which the walk needs it; nothing else lacks that can be known
 /// so far.
 pub fn import(
@@ -121,15 +124,18 @@ pub fn import(
     heard: &Heard,
     name: &FullName,
     wanted: Wanted,
-) -> Result<Searched<Answer>, AllocError>
+) -> Result<Searched<Reached<Answer>>, AllocError>
     ensures { IfOk result (IsSearched heard.now wanted.interface name.now
-        (λ a. (r : Reader) (objects : List Found) → Agrees r heard.now → ShowsOnly r objects
-        → a ≡ import_answer r objects wanted name.now)) }
+        (λ x. ((r : Reader) (objects : List Found) → Agrees r heard.now → ShowsOnly r objects
+        → x.answer ≡ import_answer r objects wanted name.now)
+        × AreMissed heard.now wanted.interface name.now x.unreached.items)) }
 {
     let searched = search(alloc, heard, name, &wanted.interface)?;
     match searched {
-        Searched::Closed(_entries) => {
-            Ok(Searched::Closed(closed_import(alloc, heard, name, wanted)?))
+        Searched::Closed(entries) => {
+            let unreached = closed_unreached(alloc, heard, name, &wanted.interface, &entries)?;
+            let answer = closed_import(alloc, heard, name, wanted)?;
+            Ok(Searched::Closed(Reached { answer, unreached }))
         }
         Searched::LacksRoot => Ok(Searched::LacksRoot),
         Searched::Lacks(lacks) => Ok(Searched::Lacks(lacks)),

@@ -7,9 +7,11 @@ ghost use Rattle.cds_clerk.specs.Agreements.{Agrees};
 ghost use Rattle.cds_clerk.specs.Heards.{heard_root};
 ghost use Rattle.cds_clerk.specs.Inquirings.{IsAtName, IsEnded, inquiry_answer};
 ghost use Rattle.cds_clerk.specs.Searches.{AreAsked, IfClosed, IfLost, IfMisses, IsClosed, IsSearched};
+ghost use Rattle.cds_clerk.specs.Unreached.{AreMissed};
 
 use crate::heard::Heard;
 use crate::importing::HeardReader;
+use crate::reaching::{Reached, closed_unreached};
 use crate::searching::{Searched, search};
 use crate::walking::{Walked, walk};
 use cell_names::FullName;
@@ -107,26 +109,30 @@ fn look_up_closed(
     look_up(alloc, &HeardReader { heard }, name, wanted, most)
 }
 
-/// The bindings of an import in batches of at most so many, by what was heard. Each reader that
-/// agrees with what was heard, and shows finitely many objects, has that answer, whatever else it
-/// tells. What lacks was not heard, and the search comes to a name of which the walk needs it;
-/// nothing else lacks that can be known so far.
+/// The bindings of an import in batches of at most so many, by what was heard, and the directories
+/// that its search did not reach. Each reader that agrees with what was heard, and shows finitely
+/// many objects, has that answer and these directories, whatever else it tells. What lacks was not
+/// heard, and the search comes to a name of which the walk needs it; nothing else lacks that can be
+/// known so far.
 pub fn lookup(
     alloc: Global,
     heard: &Heard,
     name: &FullName,
     wanted: Wanted,
     most: u16,
-) -> Result<Searched<InquireAnswer>, AllocError>
+) -> Result<Searched<Reached<InquireAnswer>>, AllocError>
     requires { 1 ≤ most }
     ensures { IfOk result (IsSearched heard.now wanted.interface name.now
-        (λ a. (r : Reader) (objects : List Found) → Agrees r heard.now → ShowsOnly r objects
-        → inquired_answer a ≡ batches_listed r objects wanted most name.now)) }
+        (λ x. ((r : Reader) (objects : List Found) → Agrees r heard.now → ShowsOnly r objects
+        → inquired_answer x.answer ≡ batches_listed r objects wanted most name.now)
+        × AreMissed heard.now wanted.interface name.now x.unreached.items)) }
 {
     let searched = search(alloc, heard, name, &wanted.interface)?;
     match searched {
-        Searched::Closed(_entries) => {
-            Ok(Searched::Closed(look_up_closed(alloc, heard, name, wanted, most)?))
+        Searched::Closed(entries) => {
+            let unreached = closed_unreached(alloc, heard, name, &wanted.interface, &entries)?;
+            let answer = look_up_closed(alloc, heard, name, wanted, most)?;
+            Ok(Searched::Closed(Reached { answer, unreached }))
         }
         Searched::LacksRoot => Ok(Searched::LacksRoot),
         Searched::Lacks(lacks) => Ok(Searched::Lacks(lacks)),

@@ -18,7 +18,7 @@ pub use importing::import;
 pub use inquiring::{Listing, inquire, lookup};
 pub use linking::read_link;
 pub use planning::{NamedUpdate, Plan, Planned, plan_of, plan_update};
-pub use reaching::unreached;
+pub use reaching::Reached;
 pub use reading::{Outcome, read};
 pub use searching::Searched;
 pub use walking::{Walked, walk};

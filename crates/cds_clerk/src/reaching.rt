@@ -4,21 +4,28 @@ ghost use Rattle.std.specs.List.{Contains, filter_map, flat_map};
 ghost use Rattle.std.specs.List.Sorted.{IsStrictlySortedBy};
 ghost use Rattle.std.specs.Option.{option_to_list};
 ghost use Rattle.std.specs.Ordering.{nat_cmp};
-ghost use Rattle.resolver.specs.Readers.{Reader};
 ghost use Rattle.resolver.specs.declared.seen.Found.{Found};
-ghost use Rattle.cds_clerk.specs.Agreements.{Agrees};
 ghost use Rattle.cds_clerk.specs.Readings.{IsShown};
-ghost use Rattle.cds_clerk.specs.Searches.{AreReached, IsClosed, IsSearched};
-ghost use Rattle.cds_clerk.specs.Unreached.{AreUnreached, dir_refused, unreached_at, unreached_from};
+ghost use Rattle.cds_clerk.specs.Searches.{AreReached, IsClosed};
+ghost use Rattle.cds_clerk.specs.Unreached.{AreMissed, dir_refused, unreached_at, unreached_from};
 
 use crate::heard::Heard;
 use crate::importing::HeardReader;
-use crate::searching::{Searched, names_in, search};
+use crate::searching::names_in;
 use cds_stamps::{AllocOr, DirId};
 use cell_names::FullName;
 use resolver::{Found, Refusal, resolve};
 use std::alloc::{AllocError, Global};
 use tower_codec::Interface;
+
+/// What a search is answered, and the directories that it did not reach: those of which no listed
+/// house answered, in ascending order, each once. There are none if it does not begin: the answer
+/// says why.
+#[derive(Drop)]
+pub struct Reached<T> {
+    pub answer: T,
+    pub unreached: Vec<DirId>,
+}
 
 // The directory of which no listed house answers, if that is why a walk is refused.
 fn dir_refused(refusal: Refusal) -> Option<u32>
@@ -122,8 +129,8 @@ fn dirs_of(alloc: Global, numbers: &[u32]) -> Result<Vec<DirId>, AllocError>
     Ok(dirs)
 }
 
-// The directories that a closed search did not reach, by the entries to which it came.
-fn closed_unreached(
+/// The directories that a closed search did not reach, by the entries to which it came.
+pub(crate) fn closed_unreached(
     alloc: Global,
     heard: &Heard,
     first: &FullName,
@@ -132,34 +139,9 @@ fn closed_unreached(
 ) -> Result<Vec<DirId>, AllocError>
     requires closed { IsClosed heard.now interface.now first.now entries.now }
     requires reached { AreReached heard.now interface.now first.now entries.now }
-    ensures { IfOk result (λ dirs. (r : Reader) → Agrees r heard.now
-        → AreUnreached r interface.now first.now dirs.items) }
+    ensures { IfOk result (λ dirs. AreMissed heard.now interface.now first.now dirs.items) }
 {
     let all = all_unreached(alloc, heard, interface, entries)?;
     let numbers = in_order(all);
     dirs_of(alloc, &numbers)
-}
-
-/// The directories that a search from a name on did not reach, by what was heard: those of which no
-/// listed house answered, in ascending order, each once. Each reader that agrees with what was
-/// heard has them, whatever else it tells. If the first name leads to no object there are none: the
-/// search goes on at no name, and the import says why. What lacks is as for an import.
-pub fn unreached(
-    alloc: Global,
-    heard: &Heard,
-    first: &FullName,
-    interface: &Interface,
-) -> Result<Searched<Vec<DirId>>, AllocError>
-    ensures { IfOk result (IsSearched heard.now interface.now first.now (λ dirs. (r : Reader)
-        → Agrees r heard.now → AreUnreached r interface.now first.now dirs.items)) }
-{
-    let searched = search(alloc, heard, first, interface)?;
-    match searched {
-        Searched::Closed(entries) => {
-            let dirs = closed_unreached(alloc, heard, first, interface, &entries)?;
-            Ok(Searched::Closed(dirs))
-        }
-        Searched::LacksRoot => Ok(Searched::LacksRoot),
-        Searched::Lacks(lacks) => Ok(Searched::Lacks(lacks)),
-    }
 }

@@ -2,7 +2,7 @@
 ghost use Rattle.std.specs.Prelude.{◌≤◌};
 
 use crate::reads::shown;
-use crate::searches::{GROUP, SERVER, names_of, rooted, says, wanted};
+use crate::searches::{GROUP, SERVER, answer_in, names_of, rooted, says, wanted};
 use cds_clerk::{Heard, Listing, Root, Searched, inquire, lookup};
 use cell_names::FullName;
 use inquire_forms::InquireAnswer;
@@ -173,8 +173,8 @@ fn batches(alloc: Global, heard: &Heard, most: u16) -> Result<Vec<usize>, Fail>
     requires { 1 ≤ most }
 {
     let name = FullName::parse(alloc, b"/.:/g")?;
-    match &lookup(alloc, heard, &name, wanted()?, most)? {
-        Searched::Closed(InquireAnswer::Batches(list)) => {
+    match &answer_in(lookup(alloc, heard, &name, wanted()?, most)?)? {
+        InquireAnswer::Batches(list) => {
             let mut counts = Vec::new(alloc);
             for batch in list {
                 counts.push(batch.len())?;
@@ -215,11 +215,11 @@ fn a_look_up_that_does_not_begin_says_why(rt: HostRuntime) -> Result<(), Fail> {
     let alloc = rt.alloc();
     let heard = entry(alloc, &[b"child 2 1"])?;
     let name = FullName::parse(alloc, b"/.:/g")?;
-    let answer = lookup(alloc, &heard, &name, wanted()?, 1)?;
+    let answer = answer_in(lookup(alloc, &heard, &name, wanted()?, 1)?)?;
     assert!(rt;
         matches!(
             &answer,
-            Searched::Closed(InquireAnswer::Plain(Answer::Refused(ScriptRefusal::NotObject)))
+            InquireAnswer::Plain(Answer::Refused(ScriptRefusal::NotObject))
         )
     );
     Ok(())

@@ -1,7 +1,7 @@
 // The directories that a search did not reach, over what was heard.
 use crate::reads::shown;
 use crate::searches::{SERVER, rooted, says, wanted};
-use cds_clerk::{Answered, Heard, Root, Searched, import, unreached};
+use cds_clerk::{Answered, Heard, Reached, Root, Searched, import};
 use cds_stamps::{DirId, HouseNo, SimpleName};
 use cell_names::FullName;
 use clerk_lines::Told;
@@ -27,18 +27,18 @@ fn says_of(
     Ok(())
 }
 
-// What a search from /.:/g on says of directories.
-fn search(alloc: Global, heard: &Heard) -> Result<Searched<Vec<DirId>>, Fail> {
+// What an import from /.:/g on comes to.
+fn search(alloc: Global, heard: &Heard) -> Result<Searched<Reached<Answer>>, Fail> {
     let name = FullName::parse(alloc, b"/.:/g")?;
-    Ok(unreached(alloc, heard, &name, &wanted()?.interface)?)
+    Ok(import(alloc, heard, &name, wanted()?)?)
 }
 
 // The numbers of the directories that it did not reach, if all was heard.
 fn lost(alloc: Global, heard: &Heard) -> Result<Vec<u32>, Fail> {
     match &search(alloc, heard)? {
-        Searched::Closed(dirs) => {
+        Searched::Closed(found) => {
             let mut numbers = Vec::new(alloc);
-            for dir in dirs {
+            for dir in &found.unreached {
                 numbers.push(dir.0)?;
             }
             Ok(numbers)
@@ -119,14 +119,17 @@ fn a_search_that_does_not_begin_reaches_for_nothing(rt: HostRuntime) -> Result<(
     let alloc = rt.alloc();
     let mut heard = rooted(alloc)?;
     says(alloc, &mut heard, b"g", Told::Passed)?;
-    let name = FullName::parse(alloc, b"/.:/g")?;
-    let answer = import(alloc, &heard, &name, wanted()?)?;
-    assert!(rt;
-        matches!(
-            &answer,
-            Searched::Closed(Answer::Refused(ScriptRefusal::Unreachable(dir))) if dir.0 == 1
-        )
-    );
+    match &search(alloc, &heard)? {
+        Searched::Closed(found) => {
+            assert!(rt;
+                matches!(
+                    &found.answer,
+                    Answer::Refused(ScriptRefusal::Unreachable(dir)) if dir.0 == 1
+                )
+            );
+        }
+        _ => return Err("a closed search".into()),
+    }
     assert!(rt; lost(alloc, &heard)?.is_empty());
     heard.root = Root::Unheard;
     let asks = search(alloc, &heard)?;

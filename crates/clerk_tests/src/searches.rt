@@ -1,6 +1,6 @@
 // Imports over what was heard.
 use crate::reads::shown;
-use cds_clerk::{Answered, Answers, Heard, Lack, Root, Searched, import};
+use cds_clerk::{Answered, Answers, Heard, Lack, Reached, Root, Searched, import};
 use cds_stamps::{DirId, HouseNo, SimpleName};
 use cell_names::{ChildPointer, FullName, HouseList};
 use clerk_lines::Told;
@@ -48,8 +48,21 @@ pub(crate) fn wanted() -> Result<Wanted, Fail> {
     })
 }
 
-fn imported(alloc: Global, heard: &Heard) -> Result<Searched<Answer>, Fail> {
+fn imported(alloc: Global, heard: &Heard) -> Result<Searched<Reached<Answer>>, Fail> {
     Ok(import(alloc, heard, &FullName::parse(alloc, b"/.:/g")?, wanted()?)?)
+}
+
+/// The answer of a search of which all was heard.
+pub(crate) fn answer_in<T>(searched: Searched<Reached<T>>) -> Result<T, Fail> {
+    match searched {
+        Searched::Closed(
+            Reached {
+                answer,
+                unreached: _,
+            },
+        ) => Ok(answer),
+        _ => Err("a closed search".into()),
+    }
 }
 
 // The names of which an import asks, each after a space.
@@ -102,9 +115,8 @@ fn a_search_asks_for_all_that_lacks_at_once(rt: HostRuntime) -> Result<(), Fail>
     says(alloc, &mut heard, b"a", shown(alloc, &SERVER)?)?;
     assert_eq!(rt; asked(alloc, &heard)?.as_slice(), b" b".as_slice());
     says(alloc, &mut heard, b"b", shown(alloc, &SERVER)?)?;
-    let answer = imported(alloc, &heard)?;
-    match &answer {
-        Searched::Closed(Answer::Bindings(bindings)) => {
+    match &answer_in(imported(alloc, &heard)?)? {
+        Answer::Bindings(bindings) => {
             assert!(rt; matches!(bindings.list(), [a, b] if a.port == 135 && b.port == 135));
         }
         _ => return Err("bindings".into()),
@@ -118,13 +130,8 @@ fn a_search_begins_at_an_object(rt: HostRuntime) -> Result<(), Fail> {
     let mut heard = rooted(alloc)?;
     says(alloc, &mut heard, b"g", shown(alloc, &[b"link /.:/h"])?)?;
     says(alloc, &mut heard, b"h", Told::Absent)?;
-    let answer = imported(alloc, &heard)?;
-    assert!(rt;
-        matches!(
-            &answer,
-            Searched::Closed(Answer::Refused(ScriptRefusal::NoSuchName(0)))
-        )
-    );
+    let answer = answer_in(imported(alloc, &heard)?)?;
+    assert!(rt; matches!(&answer, Answer::Refused(ScriptRefusal::NoSuchName(0))));
     heard.root = Root::Unheard;
     assert!(rt; matches!(&imported(alloc, &heard)?, Searched::LacksRoot));
     Ok(())

@@ -1,5 +1,4 @@
 pub mod Texts
-pub mod Coming
 pub mod RootAsks
 pub mod Goings
 pub mod Places

@@ -22,7 +22,7 @@ use Rattle.cds_clerk.specs.Links.{IsTargetRead}
 use Rattle.cds_clerk.specs.Plans.{asks_of, name_of, update_at}
 use Rattle.cds_clerk.specs.Readings.{values_read}
 use Rattle.cds_clerk.specs.Searches.{AreAsked, IsSought}
-use Rattle.cds_clerk.specs.Unreached.{AreUnreached}
+use Rattle.cds_clerk.specs.Unreached.{AreMissed}
 use Rattle.clerk_turns.specs.declared.command.Command.{Command}
 use Rattle.clerk_turns.specs.declared.command.Command.TheVariants as command
 use Rattle.clerk_turns.specs.declared.outcomes.Comes.{Comes}
@@ -66,9 +66,9 @@ IsAnswer h (command.Update name u) said = IsPlain (λ a. (r : Reader) → Agrees
 -- search has none
 abbrev pub AreNotReached : Heard → Command → List DirId → Type 0
 AreNotReached h (command.Import high name wanted) dirs =
-    (r : Reader) → Agrees r h → AreUnreached r wanted.interface name dirs
+    AreMissed h wanted.interface name dirs
 AreNotReached h (command.Lookup high name wanted most) dirs =
-    (r : Reader) → Agrees r h → AreUnreached r wanted.interface name dirs
+    AreMissed h wanted.interface name dirs
 AreNotReached h other dirs = dirs ≡ []
 
 -- these are the updates that a command asks for by what was heard

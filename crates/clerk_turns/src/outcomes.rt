@@ -1,31 +1,26 @@
 // What a command comes to by what was heard.
-ghost use Rattle.std.specs.Prelude.{◌≡◌, [], List, None, IfOk};
-ghost use Rattle.cds_stamps.specs.declared.numbers.DirId.{DirId};
+ghost use Rattle.std.specs.Prelude.{◌≡◌, [], None, IfOk};
 ghost use Rattle.resolver.specs.Readers.{Reader};
 ghost use Rattle.inquire_forms.specs.Inquired.{Plain, inquired_answer};
 ghost use Rattle.cds_clerk.specs.Agreements.{Agrees};
 ghost use Rattle.cds_clerk.specs.Heards.{IsUnheard, heard_root};
 ghost use Rattle.cds_clerk.specs.Plans.{IfMisses as IfPlanLacks, IfPlanned, IfRootless};
 ghost use Rattle.cds_clerk.specs.Readings.{IfSaid, IfUnknown, IfUnrooted};
-ghost use Rattle.cds_clerk.specs.Searches.{AreAsked, IfClosed, IfLost, IfMisses, IsSought};
-ghost use Rattle.cds_clerk.specs.Unreached.{AreUnreached};
+ghost use Rattle.cds_clerk.specs.Searches.{IfClosed, IfLost, IfMisses};
 ghost use Rattle.cds_clerk.specs.declared.heard.Heard.{Heard};
-ghost use Rattle.cds_clerk.specs.declared.heard.Lack.{Lack};
 ghost use Rattle.clerk_turns.specs.declared.command.Command.{Command};
 ghost use Rattle.clerk_turns.specs.Answers.{AreNotReached, AreWanted, IsAnswer, IsComing, IsPlanOver, Wants};
 
 use crate::command::Command;
 use cds_clerk::{
-    Heard, Lack, Outcome, Planned, Searched, import, inquire, lookup, plan_of, plan_update, read,
-    read_link, unreached,
+    Heard, Lack, Outcome, Planned, Reached, Searched, import, inquire, lookup, plan_of,
+    plan_update, read, read_link,
 };
 use cds_stamps::DirId;
-use cell_names::FullName;
 use inquire_forms::InquireAnswer;
 use ns_commands::Updates;
 use script_answers::Answer;
 use std::alloc::{AllocError, Global};
-use tower_codec::Interface;
 
 /// What a command comes to by what was heard: its answer, with the directories that its search did
 /// not reach; or updates that its master is given; or all that was not heard yet.
@@ -73,57 +68,36 @@ fn of_inquired(alloc: Global, told: Searched<InquireAnswer>) -> Comes
     }
 }
 
-// What a search comes to of which this is the answer, and these directories were not reached.
-fn of_unreached(answer: InquireAnswer, dirs: Searched<Vec<DirId>>) -> Comes
-    ensures { (h : Heard) (c : Command) → IsAnswer h c (inquired_answer answer)
-        → IfClosed dirs (λ v. AreNotReached h c v.items) → IfMisses dirs (AreWanted h c)
-        → IfLost dirs (heard_root h.root ≡ None) → IsComing h c result }
+// What a search comes to.
+fn of_searched(told: Searched<Reached<InquireAnswer>>) -> Comes
+    ensures { (h : Heard) (c : Command) → IfClosed told (λ x. IsAnswer h c
+        (inquired_answer x.answer) × AreNotReached h c x.unreached.items)
+        → IfMisses told (AreWanted h c)
+        → IfLost told (heard_root h.root ≡ None) → IsComing h c result }
 {
-    match dirs {
-        Searched::Closed(dirs) => Comes::Said(answer, dirs),
+    match told {
+        Searched::Closed(Reached { answer, unreached }) => Comes::Said(answer, unreached),
         Searched::LacksRoot => Comes::LacksRoot,
         Searched::Lacks(lacks) => Comes::Lacks(lacks),
     }
 }
 
-// What a search comes to.
-fn of_searched(
-    alloc: Global,
-    heard: &Heard,
-    name: &FullName,
-    interface: &Interface,
-    told: Searched<InquireAnswer>,
-) -> Result<Comes, AllocError>
-    ensures { (c : Command)
-        → ((dirs : List DirId) → ((r : Reader) → Agrees r heard.now
-        → AreUnreached r interface.now name.now dirs) → AreNotReached heard.now c dirs)
-        → ((qs : List Lack) → AreAsked heard.now (IsSought heard.now interface.now name.now) qs
-        → AreWanted heard.now c qs)
-        → IfClosed told (λ a. IsAnswer heard.now c (inquired_answer a))
-        → IfMisses told (AreWanted heard.now c)
-        → IfLost told (heard_root heard.now.root ≡ None) → IfOk result (IsComing heard.now c) }
-{
-    match told {
-        Searched::Closed(answer) => {
-            let dirs = unreached(alloc, heard, name, interface)?;
-            Ok(of_unreached(answer, dirs))
-        }
-        Searched::LacksRoot => Ok(Comes::LacksRoot),
-        Searched::Lacks(lacks) => Ok(Comes::Lacks(lacks)),
-    }
-}
-
 // The answer to an import, as one to an inquiry.
-fn plainly(told: Searched<Answer>) -> Searched<InquireAnswer>
-    ensures done { (h : Heard) (c : Command) → IfClosed told (λ a. IsAnswer h c (Plain a))
-        → IfClosed result (λ a. IsAnswer h c (inquired_answer a)) }
+fn plainly(told: Searched<Reached<Answer>>) -> Searched<Reached<InquireAnswer>>
+    ensures done { (h : Heard) (c : Command) → IfClosed told (λ x. IsAnswer h c
+        (Plain x.answer) × AreNotReached h c x.unreached.items)
+        → IfClosed result (λ x. IsAnswer h c
+        (inquired_answer x.answer) × AreNotReached h c x.unreached.items) }
     ensures asks { (h : Heard) (c : Command) → IfMisses told (AreWanted h c)
         → IfMisses result (AreWanted h c) }
     ensures root { (h : Heard) → IfLost told (heard_root h.root ≡ None)
         → IfLost result (heard_root h.root ≡ None) }
 {
     match told {
-        Searched::Closed(answer) => Searched::Closed(InquireAnswer::Plain(answer)),
+        Searched::Closed(Reached { answer, unreached }) => Searched::Closed(Reached {
+            answer: InquireAnswer::Plain(answer),
+            unreached,
+        }),
         Searched::LacksRoot => Searched::LacksRoot,
         Searched::Lacks(lacks) => Searched::Lacks(lacks),
     }
@@ -162,7 +136,7 @@ pub fn outcome(alloc: Global, heard: &Heard, command: &Command) -> Result<Comes,
         }
         Command::Import(_high, name, wanted) => {
             let told = import(alloc, heard, name, *wanted)?;
-            of_searched(alloc, heard, name, &wanted.interface, plainly(told))
+            Ok(of_searched(plainly(told)))
         }
         Command::Inquire(_high, name, listing) => {
             let told = inquire(alloc, heard, name, listing)?;
@@ -170,7 +144,7 @@ pub fn outcome(alloc: Global, heard: &Heard, command: &Command) -> Result<Comes,
         }
         Command::Lookup(_high, name, wanted, most) => {
             let told = lookup(alloc, heard, name, *wanted, most.most())?;
-            of_searched(alloc, heard, name, &wanted.interface, told)
+            Ok(of_searched(told))
         }
         Command::Plan(plan) => {
             let told = plan_of(alloc, heard, plan)?;

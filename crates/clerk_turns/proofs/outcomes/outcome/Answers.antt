@@ -8,7 +8,7 @@ returns-in_ok-told-in-Import c =
     let cmd = command.Import c.in-Import._high c.in-Import.name c.in-Import.wanted in
     let told = c.in_ok-told-in-Import.ensures in
     rw c.in-Import.is
-    (c.of_searched.ensures cmd (λ dirs are. are) (λ qs are. are) (c.plainly.ensures.done h cmd told.done) (c.plainly.ensures.asks h cmd told.asks)
+    (c.of_searched.ensures h cmd (c.plainly.ensures.done h cmd told.done) (c.plainly.ensures.asks h cmd told.asks)
     (c.plainly.ensures.root h told.root))
 
 pub returns-in_ok-told-in-Inquire : goal.returns-in_ok-told-in-Inquire
@@ -22,7 +22,7 @@ returns-in_ok-told-in-Lookup c =
     let cmd = command.Lookup c.in-Lookup._high c.in-Lookup.name c.in-Lookup.wanted c.in-Lookup.most in
     let told = c.in_ok-told-in-Lookup.ensures in
     rw c.in-Lookup.is
-    (c.of_searched-in-Lookup.ensures cmd (λ dirs are. are) (λ qs are. are) (rw c.most.ensures.is at told.done) told.asks told.root)
+    (c.of_searched-in-Lookup.ensures c.args.heard.now cmd (rw c.most.ensures.is at told.done) told.asks told.root)
 
 pub returns-in_ok-told-in-Plan : goal.returns-in_ok-told-in-Plan
 returns-in_ok-told-in-Plan c =
